@@ -1,0 +1,18 @@
+//! The beats that travel on the five channels of an AXI port, and the responses they carry.
+//!
+//! AW and AR carry an [`Addr`], W a [`WBeat`], B a [`BBeat`] and R an [`RBeat`]. All are plain
+//! values: a contract sees each of them as the record of its fields, and [`Lanes`] as the list of
+//! its 128 bytes. (Arm IHI 0022, channel signals.)
+#![tactic(auto)]
+
+mod beat;
+mod lanes;
+mod memory;
+mod response;
+#[cfg(test)]
+mod tests;
+
+pub use beat::{Addr, BBeat, Burst, RBeat, Tag, WBeat};
+pub use lanes::Lanes;
+pub use memory::NoMemory;
+pub use response::{Resp, worst};
