@@ -1,0 +1,4 @@
+pub mod LinkView
+pub mod LinkInside
+pub mod Moves
+pub mod Table
