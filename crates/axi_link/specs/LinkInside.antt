@@ -1,5 +1,5 @@
 -- How a link keeps its five lists: each queue has room for as many beats as the link is deep.
-use Rattle.std.specs.Prelude.{◌≡◌, ◌≤◌, ◌<◌, ℕ}
+use Rattle.std.specs.Prelude.{◌≡◌}
 use Rattle.axi_link.specs.LinkView.{LinkView}
 use Rattle.axi_link.specs.declared.link.Link.TheInside.{Inside}
 

@@ -1,7 +1,6 @@
 -- The words of all decision tables: what a node sees of a link, and what it does on a channel.
 use Rattle.std.specs.Prelude.{ℕ, List, Bool, true, false, Option, Some, None, length, nat_lt, slice_get, slice_index_or}
 use Rattle.axi_link.specs.LinkView.{LinkView, empty_link}
-use Rattle.axi_link.specs.declared.out.Out.{Out}
 
 -- the link of a number; where there is none, one without beats and without room
 abbrev pub link_of : List LinkView → ℕ → LinkView

@@ -5,13 +5,11 @@ ghost use Rattle.std.specs.Option.{option_copied};
 ghost use Rattle.axi_link.specs.LinkView.{LinkView, empty_link};
 ghost use Rattle.axi_link.specs.Moves.{CanMove, link_after, left_of, appended, CanAdvance};
 
-use std::alloc::Global;
-use std::marker::{Model, Send, Sync};
-
+use crate::out::Out;
 use axi_beats::{Addr, BBeat, NoMemory, RBeat, WBeat};
 use circular_buffer::HeapCircularBuffer;
-
-use crate::out::Out;
+use std::alloc::Global;
+use std::marker::{Model, Send, Sync};
 
 /// Five queues of at most `depth` beats each. All their memory is taken when the link is made.
 #[derive(Drop)]

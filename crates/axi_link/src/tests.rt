@@ -5,7 +5,10 @@ use axi_beats::{Addr, BBeat};
 use std::test::Fail;
 
 fn address(id: u32) -> Addr {
-    Addr { id, ..Addr::default() }
+    Addr {
+        id,
+        ..Addr::default()
+    }
 }
 
 #[test]
@@ -25,6 +28,7 @@ fn beats_come_in_the_order_in_which_they_went(rt: HostRuntime) -> Result<(), Fai
     }
     let mut lower = Out::default();
     set_take(&mut lower.aw_take, 3, true);
+    assert!(rt; link.head_aw().is_some());
     link.commit(3, &quiet, &lower);
     assert_eq!(rt; link.head_aw().map(|beat| beat.id), Some(8));
     Ok(())
