@@ -1,4 +1,6 @@
-pub mod LinkView
+pub mod Acted
+pub mod Fits
 pub mod LinkInside
+pub mod LinkView
 pub mod Moves
 pub mod Table
