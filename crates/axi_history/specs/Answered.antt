@@ -1,0 +1,55 @@
+-- Answers: once, with the defined response and the bytes that were read, after what they answer,
+-- and in order for each manager, ID and direction. (Arm IHI 0022, transaction ordering, response
+-- structure.)
+use Rattle.std.specs.Prelude.{◌≡◌, ◌≢◌, ◌==◌, ◌<◌, ◌++◌, ◌∷◌, [], ℕ, List, All, Any, filter, map, take, if◌then◌else◌}
+use Rattle.axi_history.specs.Records.{Byte, Transaction, Event, Issue, Answer, events_of}
+
+-- the bytes of an answer: the values that were read, in order, and 0 for a byte that can't be read
+abbrev pub answered_bytes : List Byte → List ℕ → List ℕ
+answered_bytes [] values = []
+answered_bytes (b ∷ more) [] = 0 ∷ answered_bytes more []
+answered_bytes (b ∷ more) (v ∷ values) = if b.allowed then v ∷ answered_bytes more values else 0 ∷ answered_bytes more (v ∷ values)
+
+abbrev pub values_of : ℕ → List Event → List ℕ
+values_of number events = map (λ (e : Event). e.value) (events_of number events)
+
+-- the transaction was issued before this round
+abbrev pub IsIssuedBefore : List Issue → ℕ → ℕ → Type 0
+IsIssuedBefore issues number round = Any (λ (i : Issue). (i.number ≡ number) × (i.round < round)) issues
+
+-- the transaction was answered before this round
+abbrev pub IsAnsweredBefore : List Answer → ℕ → ℕ → Type 0
+IsAnsweredBefore answers number round = Any (λ (a : Answer). (a.number ≡ number) × (a.round < round)) answers
+
+-- two transactions whose order counts, the earlier first: of one manager, one ID and one direction
+pub record AreInOrder (earlier later : Transaction) : Type 0 where
+  pub manager : earlier.manager ≡ later.manager
+  pub id : earlier.id ≡ later.id
+  pub direction : earlier.write ≡ later.write
+  pub number : earlier.number < later.number
+
+-- the transactions of one manager, in order of number
+abbrev pub of_manager : ℕ → List Transaction → List Transaction
+of_manager manager transactions = filter (λ (t : Transaction). t.manager == manager) transactions
+
+pub record Answered (transactions : List Transaction) (issues : List Issue) (events : List Event) (answers : List Answer) : Type 0 where
+  -- no transaction has two answers
+  pub once : (front middle back : List Answer) (a b : Answer) → answers ≡ front ++ a ∷ (middle ++ b ∷ back) → a.number ≢ b.number
+  -- an answer carries its transaction's response and, for a read, the bytes of its accesses
+  pub response : All (λ (a : Answer). Any (λ (t : Transaction). (t.number ≡ a.number) × (a.responses ≡ t.response)) transactions) answers
+  pub bytes :
+      All (λ (t : Transaction). All (λ (a : Answer). a.number ≡ t.number → a.bytes ≡ (if t.write then [] else answered_bytes t.bytes (values_of t.number events))) answers) transactions
+  -- issue, accesses, answer: strictly one after the other
+  pub issue_before_event : All (λ (e : Event). IsIssuedBefore issues e.number e.round) events
+  pub event_before_answer : All (λ (a : Answer). All (λ (e : Event). e.number ≡ a.number → e.round < a.round) events) answers
+  pub issue_before_answer : All (λ (a : Answer). IsIssuedBefore issues a.number a.round) answers
+  -- of one manager, ID and direction: issues, answers and accesses in order of number
+  pub issues_in_order :
+      All (λ (t : Transaction). All (λ (u : Transaction). AreInOrder t u → All (λ (i : Issue). i.number ≡ u.number → IsIssuedBefore issues t.number i.round) issues) transactions) transactions
+  pub answers_in_order :
+      All (λ (t : Transaction). All (λ (u : Transaction). AreInOrder t u → All (λ (a : Answer). a.number ≡ u.number → IsAnsweredBefore answers t.number a.round) answers) transactions) transactions
+  pub events_in_order :
+      All (λ (t : Transaction). All (λ (u : Transaction). AreInOrder t u → (earlier later : List Event) (e : Event) → events ≡ earlier ++ e ∷ later → e.number ≡ u.number → All (λ (x : Event). x.number ≢ t.number) later) transactions) transactions
+  -- a transaction is issued after those were answered that it waits for
+  pub waits :
+      All (λ (t : Transaction). All (λ (i : Issue). i.number ≡ t.number → All (λ (u : Transaction). IsAnsweredBefore answers u.number i.round) (take t.after (of_manager t.manager transactions))) issues) transactions

@@ -1,0 +1,44 @@
+-- Delivery: each byte that may be accessed is accessed once, in burst order, at the subordinate that
+-- the address names, and a read sees the latest write. (Arm IHI 0022, transaction ordering.)
+use Rattle.std.specs.Prelude.{◌≡◌, ◌==◌, ◌&&◌, ◌++◌, ◌∷◌, [], ℕ, List, Bool, false, Option, Some, None, All, Any, map, if◌then◌else◌}
+use Rattle.axi_history.specs.Records.{Byte, Transaction, Event, Answer, due, events_of}
+
+module _ {X : Type 0} where
+  -- the list begins with these
+  abbrev pub IsBeginningOf : List X → List X → Type 0
+  IsBeginningOf front whole = (rest : List X) × (whole ≡ front ++ rest)
+
+-- the transaction has its answer
+abbrev pub IsAnswered : Transaction → List Answer → Type 0
+IsAnswered t answers = Any (λ (a : Answer). a.number ≡ t.number) answers
+
+-- an access, as the byte that it does: its address, and what it writes
+abbrev pub shown : Event → ℕ × Option ℕ
+shown e = (e.address, (if e.write then Some e.value else None))
+
+abbrev pub wanted : Byte → ℕ × Option ℕ
+wanted b = (b.address, b.value)
+
+-- an access writes this place
+abbrev pub is_write_at : ℕ → ℕ → Event → Bool
+is_write_at node address e = e.write && (e.node == node) && (e.address == address)
+
+-- what a place holds after these accesses: what the last write there wrote, else what it held before
+abbrev pub held_after : ℕ → ℕ → ℕ → List Event → ℕ
+held_after node address before [] = before
+held_after node address before (e ∷ more) = held_after node address (if is_write_at node address e then e.value else before) more
+
+-- an access belongs to a transaction of its number and direction, at that one's target
+abbrev pub IsOf : List Transaction → Event → Type 0
+IsOf transactions e = Any (λ (t : Transaction). (t.number ≡ e.number) × (t.write ≡ e.write) × (t.target ≡ e.node)) transactions
+
+pub record Delivered (transactions : List Transaction) (events : List Event) (answers : List Answer) : Type 0 where
+  -- no access is of nobody, of the wrong direction or at the wrong place
+  pub belongs : All (IsOf transactions) events
+  -- the accesses of a transaction are its due bytes from the first on, each once, in burst order
+  pub in_burst_order : All (λ (t : Transaction). IsBeginningOf (map shown (events_of t.number events)) (map wanted (due t))) transactions
+  -- and all of them once it is answered
+  pub whole : All (λ (t : Transaction). IsAnswered t answers → map shown (events_of t.number events) ≡ map wanted (due t)) transactions
+  -- a read sees what the latest write before it wrote there, and else the subordinate's fill byte
+  pub reads_latest :
+      All (λ (t : Transaction). (earlier later : List Event) (e : Event) → events ≡ earlier ++ e ∷ later → e.number ≡ t.number → e.write ≡ false → e.value ≡ held_after e.node e.address t.fill earlier) transactions
