@@ -1,11 +1,11 @@
 -- Facts on the entries of a key, and on their places.
-use Rattle.std.proofs.Common.{◌≡◌, ◌≢◌, ℕ, ◌+◌, ◌<◌, ◌≤◌, ◌==◌, suc, zero, Bool, true, false, cond, List, [], ◌∷◌, ◌++◌, Option, Some, None, length, map, take, drop, get_or, refl, sym, ◌∙◌, ap, subst, arith, eq-eqb}
-use Rattle.std.specs.Prelude.{remove, filter, slice_get, slice_set}
-use Rattle.std.proofs.lemmas.Bool.{eqb-true, ne_eqb, eqb-false}
+use Rattle.std.proofs.Common.{◌≡◌, ◌≢◌, ℕ, ◌<◌, ◌==◌, suc, zero, Bool, true, false, cond, List, [], ◌∷◌, Option, Some, None, length, map, take, drop, get_or, refl, sym, ◌∙◌, ap, subst, arith, eq-eqb}
+use Rattle.std.specs.Prelude.{remove, slice_get, slice_set}
+use Rattle.std.proofs.lemmas.Bool.{eqb-true, ne_eqb}
 use Rattle.std.proofs.lemmas.Grind.{common_steps}
 use Rattle.std.specs.List.{refill}
 use Rattle.std.specs.Option.{option_map}
-use Rattle.flight.specs.Entries.{place_of, of_key, count_of, without_oldest}
+use Rattle.flight.specs.Entries.{place_of, of_key, without_oldest}
 
 none-shift : (o : Option ℕ) → option_map suc o ≡ None → o ≡ None
 none-shift None e = refl
@@ -32,6 +32,18 @@ place_of-none_more key_of key (x ∷ xs) (suc i) d lt none other =
     let go : (b : Bool) → cond b (Some 0) (option_map suc (place_of key (map key_of (take i xs)))) ≡ None → cond b (Some 0) (option_map suc (place_of key (map key_of (take (suc i) xs)))) ≡ None =
     elim [ true ↦ λ e. e | false ↦ λ e. shift-none (place_of key (map key_of (take (suc i) xs))) (place_of-none_more key_of key xs i d (omega arith) (none-shift (place_of key (map key_of (take i xs))) e) other) ]
     in go (key_of x == key) none
+
+found-step : (b : Bool) (k key : ℕ) (keys : List ℕ) (o : Option ℕ) (place : ℕ) → (k == key) ≡ b → ((q : ℕ) → o ≡ Some q → slice_get keys q ≡ Some key) → cond b (Some 0) (option_map suc o) ≡ Some place → slice_get (k ∷ keys) place ≡ Some key
+found-step true k key keys o zero t ih e = ap (λ n. Some n) (eqb-true k key t)
+found-step true k key keys o (suc place) t ih e = absurd (cc)
+found-step false k key keys None place t ih e = absurd (cc)
+found-step false k key keys (Some q) zero t ih e = absurd (cc)
+found-step false k key keys (Some q) (suc place) t ih e = ih place (cc)
+
+-- the key stands at its first place
+pub place_of-found : (key : ℕ) (keys : List ℕ) (place : ℕ) → place_of key keys ≡ Some place → slice_get keys place ≡ Some key
+place_of-found key [] place e = absurd (cc)
+place_of-found key (k ∷ keys) place e = found-step (k == key) k key keys (place_of key keys) place refl (place_of-found key keys) e
 
 remove-step : {X : Type 0} (b : Bool) (x : X) (xs ys : List X) (o : Option ℕ) (place : ℕ) → ((q : ℕ) → o ≡ Some q → remove xs q ≡ ys) → cond b (Some 0) (option_map suc o) ≡ Some place → remove (x ∷ xs) place ≡ cond b xs (x ∷ ys)
 remove-step true x xs ys o zero ih e = refl

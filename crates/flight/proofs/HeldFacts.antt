@@ -1,8 +1,7 @@
 -- Facts on the requests that are held, for lists of requests that follow others.
 use Rattle.std.proofs.Common.{◌≡◌, ◌≢◌, ℕ, inl, inr, subst, ◌+◌, ◌-◌, ◌<◌, ◌≤◌, ◌==◌, suc, zero, Bool, true, false, cond, List, [], ◌∷◌, ◌++◌, length, drop, refl, sym, ◌∙◌, ap, arith, eq-eqb, nat_lt, length-append, append_assoc}
-use Rattle.std.proofs.lemmas.Bool.{eqb-true, ne_eqb, eqb-false, lt-ltb, le-ltb, ltb-true, ltb-false, cases_lt, cases_eq}
+use Rattle.std.proofs.lemmas.Bool.{ne_eqb, lt-ltb, le-ltb, cases_lt, cases_eq}
 use Rattle.std.proofs.lemmas.List.{append-nil}
-use Rattle.std.proofs.lemmas.List.Elements.{filter-append}
 use Rattle.flight.specs.Entries.{of_key, count_of, without_oldest, left_after, Request, held_after, held}
 
 abbrev pub request_at : ℕ → ℕ → Request

@@ -1,6 +1,6 @@
 -- What holds of lists of entries under keys, whatever a node does with them.
 use Rattle.std.specs.Prelude.{◌≡◌, ◌≢◌, ℕ, ◌≤◌, List, [], ◌∷◌, ◌++◌, Some, None, length, map, drop, remove}
-use Rattle.flight.specs.Entries.{place_of, of_key, count_of, without_oldest, left_after, Request, held}
+use Rattle.flight.specs.Entries.{place_of, of_key, count_of, without_oldest, left_after, held}
 
 -- a new request is held as the last one, where its key has no more answers than requests
 abbrev pub RequestIsHeld : Type 0

@@ -1,5 +1,5 @@
 //! `Flight`, seen in clauses as the list of its entries in order of issue.
-ghost use Rattle.std.specs.Prelude.{ℕ, ◌≡◌, ◌<◌, ◌≤◌, ◌==◌, [], ◌∷◌, ◌++◌, length, map, remove, slice_get, slice_set, IfSome};
+ghost use Rattle.std.specs.Prelude.{ℕ, ◌≡◌, ◌<◌, ◌≤◌, ◌==◌, [], ◌∷◌, ◌++◌, length, map, remove, slice_get, slice_set, IfSome, Some};
 ghost use Rattle.flight.specs.Entries.{place_of};
 
 use arrayvec::ArrayVec;
@@ -93,6 +93,7 @@ impl<T: Filed> Flight<T> {
     pub fn oldest(&self, key: u32) -> Option<usize>
         ensures oldest { result ≡ place_of key (map T.key_of self.now) }
         ensures within { IfSome result (λ place. place < length self.now) }
+        ensures found { IfSome result (λ place. slice_get (map T.key_of self.now) place ≡ Some key) }
     {
         for (place, entry) in self.entries.as_slice().iter().enumerate() {
             if entry.key() == key {

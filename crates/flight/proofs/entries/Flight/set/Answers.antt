@@ -1,4 +1,4 @@
-use Rattle.std.proofs.Common.{◌≡◌, map, ap, ◌∙◌, slice_set}
+use Rattle.std.proofs.Common.{map, ap, ◌∙◌, slice_set}
 use Rattle.flight.proofs.EntryFacts.{map-set_same, refill-set}
 use Rattle.flight.proofs.entries.Flight.set.Goals as goal
 
