@@ -1,0 +1,6 @@
+pub mod Parts
+pub mod LineLaws
+pub mod WordLaws
+pub mod NumberLaws
+pub mod CutSteps
+pub mod CutLaws

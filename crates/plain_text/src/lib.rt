@@ -1,0 +1,10 @@
+//! The byte tools that every reader and writer of the project shares: the lines of a text and the
+//! line that parts it in two, the words of a line, the numbers that words spell, and a buffer in
+//! which a line is written. Each reading call answers exactly what one definition of `specs/`
+//! computes, takes no memory and runs in time linear in what it reads.
+#![tactic(auto)]
+
+pub mod lines;
+pub mod numbers;
+pub mod separator;
+pub mod words;

@@ -1,0 +1,66 @@
+//! The numbers that words spell.
+
+ghost use Rattle.std.specs.Prelude.{◌≡◌, ◌<◌, ◌≤◌, IfSome};
+ghost use Rattle.plain_text.specs.Numbers.{number_in, read_byte_pair, read_decimal, read_hexadecimal};
+
+/// The number that the digits spell in the base, where each byte is a digit of the base in either
+/// case and the number is below the limit. No digit spells no number.
+pub fn number_in(digits: &[u8], base: u32, limit: u64) -> Option<u64>
+    requires low { 2 ≤ base }
+    requires high { base ≤ 36 }
+    ensures number { result ≡ number_in digits.now base limit }
+    ensures below { IfSome result (λ n. n < limit) }
+{
+    if digits.is_empty() {
+        return None;
+    }
+    let mut value: u64 = 0;
+    for byte in digits {
+        let digit = (*byte as char).to_digit(base)?;
+        let next = value as u128 * base as u128 + digit as u128;
+        if next >= limit as u128 {
+            return None;
+        }
+        value = next as u64;
+    }
+    Some(value)
+}
+
+/// The number below the limit that 1 to 10 decimal digits spell. Zeros may stand at the front.
+#[tactic(auto, unfolding(crate::specs::Numbers::read_decimal))]
+pub fn read_decimal(word: &[u8], limit: u64) -> Option<u64>
+    ensures number { result ≡ read_decimal word.now limit }
+    ensures below { IfSome result (λ n. n < limit) }
+{
+    if word.len() <= 10 {
+        number_in(word, 10, limit)
+    } else {
+        None
+    }
+}
+
+/// The number below the limit that `0x` and 1 to 16 hexadecimal digits in either case spell.
+#[tactic(auto, unfolding(crate::specs::Numbers::read_hexadecimal))]
+pub fn read_hexadecimal(word: &[u8], limit: u64) -> Option<u64>
+    ensures number { result ≡ read_hexadecimal word.now limit }
+    ensures below { IfSome result (λ n. n < limit) }
+{
+    if word.len() <= 18 && word.starts_with(b"0x") {
+        number_in(&word[2..], 16, limit)
+    } else {
+        None
+    }
+}
+
+/// The byte that exactly two hexadecimal digits in either case spell.
+#[tactic(auto, unfolding(crate::specs::Numbers::read_byte_pair))]
+pub fn read_byte_pair(pair: &[u8]) -> Option<u8>
+    ensures { result ≡ read_byte_pair pair.now }
+{
+    if pair.len() == 2 {
+        let value = number_in(pair, 16, 256)?;
+        Some(value as u8)
+    } else {
+        None
+    }
+}
