@@ -1,0 +1,6 @@
+pub mod Beats
+pub mod Events
+pub mod MemoryState
+pub mod MemoryTable
+pub mod Status
+pub mod Store

@@ -1,0 +1,63 @@
+-- A memory as contracts see it between rounds.
+use Rattle.std.specs.Prelude.{◌≡◌, ◌≤◌, ◌%◌, ◌+◌, ◌/◌, ◌^◌, ℕ, List, [], Option, Some, None, IsTrue, All, Contains, if◌then◌else◌}
+use Rattle.axi_beats.specs.declared.beat.Addr.{Addr}
+use Rattle.axi_beats.specs.Word.{IsBusWidth, IsWholeWord}
+use Rattle.memory_end.specs.declared.config.MemoryConfig.{MemoryConfig}
+use Rattle.memory_end.specs.declared.entry.WriteEntry.{WriteEntry}
+use Rattle.memory_end.specs.declared.entry.ReadEntry.{ReadEntry}
+use Rattle.memory_end.specs.Status.{is_inside}
+use Rattle.memory_end.specs.Beats.{beats_of, word_address}
+use Rattle.memory_end.specs.Store.{Store, IsStore, new_store, byte_at, line_of}
+
+-- its arguments, the number of its link, its open writes and reads in the order in which they came, and its bytes
+pub record MemoryState : Type 0 where
+  pub config : MemoryConfig
+  pub upper : ℕ
+  pub write_entries : List WriteEntry
+  pub read_entries : List ReadEntry
+  pub store : Store
+
+-- a memory that nothing has asked yet, whose bytes all have the fill value
+abbrev pub new_memory : MemoryConfig → ℕ → List ℕ → MemoryState
+new_memory config upper touched = record {
+  config = config;
+  upper = upper;
+  write_entries = [];
+  read_entries = [];
+  store = new_store touched config.fill;
+}
+
+-- the byte of an address; None outside the memory
+abbrev pub memory_byte : MemoryState → ℕ → Option ℕ
+memory_byte state address = if is_inside state.config address then Some (byte_at state.store address) else None
+
+-- the range of a memory: whole pages of 4096 bytes, below 2 ^ 63
+pub record IsMemoryConfig (config : MemoryConfig) : Type 0 where
+  pub bus : IsBusWidth config.bus
+  pub base : config.base % 4096 ≡ 0
+  pub size : config.size % 4096 ≡ 0
+  pub end : config.base + config.size ≤ 2 ^ 63
+
+-- each line of a request's beats that lies in the memory is one of these lines
+abbrev pub AreLinesAmong : MemoryConfig → List ℕ → Addr → Type 0
+AreLinesAmong config lines request =
+    (beat : ℕ) → beat ≤ request.len → IsTrue (is_inside config (word_address request beat config.bus)) →
+    Contains lines (line_of (word_address request beat config.bus))
+
+-- a write that the memory can do: words of its bus, on lines that it keeps
+pub record IsWriteEntry (config : MemoryConfig) (lines : List ℕ) (entry : WriteEntry) : Type 0 where
+  pub word : IsWholeWord config.bus entry.request
+  pub lines_kept : AreLinesAmong config lines entry.request
+  pub taken : entry.taken ≤ beats_of entry.request
+
+-- a read that the memory can do, with at least one beat to put
+pub record IsReadEntry (config : MemoryConfig) (entry : ReadEntry) : Type 0 where
+  pub word : IsWholeWord config.bus entry.request
+  pub put : entry.put ≤ entry.request.len
+
+pub record IsMemory (state : MemoryState) : Type 0 where
+  pub config : IsMemoryConfig state.config
+  pub store : IsStore state.store
+  pub fill : state.store.fill ≡ state.config.fill
+  pub writes : All (IsWriteEntry state.config state.store.lines) state.write_entries
+  pub reads : All (IsReadEntry state.config) state.read_entries

@@ -1,0 +1,163 @@
+-- What a memory does in a round (Arm IHI 0022, relationships between the channels): a function of its state and its
+-- link as they stand at the round's start.
+use Rattle.std.specs.Prelude.{◌==◌, ◌<◌, ◌+◌, ◌^◌, ◌++◌, ◌∷◌, [], ℕ, List, Bool, true, false, Option, Some, None, length, drop, nat_lt, nat_le, is_some, IfSome, if◌then◌else◌, option_map, option_and_then, find}
+use Rattle.axi_beats.specs.declared.beat.Addr.{Addr}
+use Rattle.axi_beats.specs.declared.beat.WBeat.{WBeat}
+use Rattle.axi_beats.specs.declared.beat.BBeat.{BBeat}
+use Rattle.axi_beats.specs.declared.beat.RBeat.{RBeat}
+use Rattle.axi_beats.specs.declared.response.Resp.TheVariants.{Okay}
+use Rattle.axi_beats.specs.Response.{worst_of}
+use Rattle.axi_beats.specs.Word.{IsWholeWord}
+use Rattle.axi_link.specs.LinkView.{LinkView}
+use Rattle.axi_link.specs.Acted.{Acted}
+use Rattle.axi_link.specs.Table.{link_of, head_of, has_room, passing, take_of, put_of}
+use Rattle.axi_link.specs.declared.out.Out.{Out}
+use Rattle.memory_end.specs.declared.config.MemoryConfig.{MemoryConfig}
+use Rattle.memory_end.specs.declared.entry.WriteEntry.{WriteEntry}
+use Rattle.memory_end.specs.declared.entry.ReadEntry.{ReadEntry}
+use Rattle.memory_end.specs.Beats.{beats_of, strobed_status, written_bytes, all_written, valid_status, answered_lanes}
+use Rattle.memory_end.specs.MemoryState.{MemoryState, AreLinesAmong}
+use Rattle.memory_end.specs.Store.{Store}
+
+-- the memory's link
+abbrev pub memory_link : List LinkView → MemoryState → LinkView
+memory_link links state = link_of links state.upper
+
+-- fewer than 16 requests wait
+abbrev pub fits : {X : Type 0} → List X → Bool
+fits entries = nat_lt (length entries) 16
+
+-- a data beat of the write isn't taken yet
+abbrev pub lacks_data : WriteEntry → Bool
+lacks_data entry = nat_lt entry.taken (beats_of entry.request)
+
+-- the oldest write that lacks data: the next data beat is its
+abbrev pub oldest_lacking : List WriteEntry → Option WriteEntry
+oldest_lacking entries = find lacks_data entries
+
+-- the response to a write
+abbrev pub answer_to : WriteEntry → BBeat
+answer_to entry = record { id = entry.request.id; resp = entry.worst; tag = entry.request.tag }
+
+-- the next beat of the answer to a read
+abbrev pub next_beat : MemoryState → ReadEntry → RBeat
+next_beat state entry = record {
+  id = entry.request.id;
+  lanes = answered_lanes state.config state.store entry.request entry.put;
+  resp = valid_status state.config entry.request entry.put;
+  last = entry.put == entry.request.len;
+  tag = entry.request.tag;
+}
+
+-- AW: the head is taken where one more write fits
+abbrev pub memory_aw : List LinkView → MemoryState → Option Addr
+memory_aw links state = passing (fits state.write_entries) (head_of (memory_link links state).aw)
+
+-- W: the head is taken where a write lacks data
+abbrev pub memory_w : List LinkView → MemoryState → Option WBeat
+memory_w links state = passing (is_some (oldest_lacking state.write_entries)) (head_of (memory_link links state).w)
+
+-- B: the oldest write is answered where it has all its data and there is room
+abbrev pub memory_b : List LinkView → MemoryState → Option BBeat
+memory_b links state =
+    passing (has_room (memory_link links state).depth (memory_link links state).b)
+    (option_and_then (λ entry. if lacks_data entry then None else Some (answer_to entry)) (head_of state.write_entries))
+
+-- AR: the head is taken where one more read fits
+abbrev pub memory_ar : List LinkView → MemoryState → Option Addr
+memory_ar links state = passing (fits state.read_entries) (head_of (memory_link links state).ar)
+
+-- R: the next beat of the oldest read is put where there is room
+abbrev pub memory_r : List LinkView → MemoryState → Option RBeat
+memory_r links state =
+    passing (has_room (memory_link links state).depth (memory_link links state).r)
+    (option_map (next_beat state) (head_of state.read_entries))
+
+-- B: the oldest write leaves
+abbrev pub after_b : Option BBeat → List WriteEntry → List WriteEntry
+after_b None entries = entries
+after_b (Some beat) entries = drop 1 entries
+
+-- a write with one more data beat
+abbrev pub with_beat : MemoryConfig → WBeat → WriteEntry → WriteEntry
+with_beat config w entry = record {
+  request = entry.request;
+  taken = entry.taken + 1;
+  worst = worst_of entry.worst (strobed_status config entry.request entry.taken w);
+}
+
+-- the oldest write that lacks data has one more data beat
+abbrev pub with_data : MemoryConfig → WBeat → List WriteEntry → List WriteEntry
+with_data config w [] = []
+with_data config w (entry ∷ entries) =
+    if lacks_data entry then with_beat config w entry ∷ entries else entry ∷ with_data config w entries
+
+-- W: the beat goes to the oldest write that lacks data
+abbrev pub after_w : MemoryConfig → Option WBeat → List WriteEntry → List WriteEntry
+after_w config None entries = entries
+after_w config (Some w) entries = with_data config w entries
+
+-- AW: the write waits, with no data yet
+abbrev pub after_aw : Option Addr → List WriteEntry → List WriteEntry
+after_aw None entries = entries
+after_aw (Some request) entries = entries ++ record { request = request; taken = 0; worst = Okay } ∷ []
+
+-- R: the oldest read has one beat more, or leaves with its last one
+abbrev pub after_r : Option RBeat → List ReadEntry → List ReadEntry
+after_r None entries = entries
+after_r (Some beat) [] = []
+after_r (Some beat) (entry ∷ entries) =
+    if beat.last then entries else record { request = entry.request; put = entry.put + 1 } ∷ entries
+
+-- AR: the read waits, with no beat yet
+abbrev pub after_ar : Option Addr → List ReadEntry → List ReadEntry
+after_ar None entries = entries
+after_ar (Some request) entries = entries ++ record { request = request; put = 0 } ∷ []
+
+-- the beat of a write is in the store
+abbrev pub store_with : MemoryConfig → Option WriteEntry → WBeat → Store → Store
+store_with config None w store = store
+store_with config (Some entry) w store = all_written store (written_bytes config entry.request entry.taken w)
+
+-- W: the beat's bytes are written for the oldest write that lacks data
+abbrev pub store_after : MemoryState → Option WBeat → Store
+store_after state None = state.store
+store_after state (Some w) = store_with state.config (oldest_lacking state.write_entries) w state.store
+
+-- the state after the round: the changes of B, R, W, AW and AR in this order
+abbrev pub memory_next : List LinkView → MemoryState → MemoryState
+memory_next links state = record {
+  config = state.config;
+  upper = state.upper;
+  write_entries = after_aw (memory_aw links state) (after_w state.config (memory_w links state) (after_b (memory_b links state) state.write_entries));
+  read_entries = after_ar (memory_ar links state) (after_r (memory_r links state) state.read_entries);
+  store = store_after state (memory_w links state);
+}
+
+-- the takes and puts of the round
+abbrev pub memory_out : List LinkView → MemoryState → Out
+memory_out links state = record {
+  aw_take = take_of state.upper (is_some (memory_aw links state));
+  aw_put = None;
+  w_take = take_of state.upper (is_some (memory_w links state));
+  w_put = None;
+  b_take = None;
+  b_put = put_of state.upper (memory_b links state);
+  ar_take = take_of state.upper (is_some (memory_ar links state));
+  ar_put = None;
+  r_take = None;
+  r_put = put_of state.upper (memory_r links state);
+}
+
+abbrev pub memory_table : List LinkView → MemoryState → Acted MemoryState
+memory_table links state = record { state = memory_next links state; out = memory_out links state }
+
+-- what may come to a memory in a round, of which there is a first one: requests for words of its bus, writes on lines
+-- that it keeps, and strobes on lanes of its bus
+pub record CanMemory (round : ℕ) (links : List LinkView) (state : MemoryState) : Type 0 where
+  pub started : 0 < round
+  pub upper : state.upper < length links
+  pub aw : IfSome (head_of (memory_link links state).aw) (IsWholeWord state.config.bus)
+  pub aw_lines : IfSome (head_of (memory_link links state).aw) (AreLinesAmong state.config state.store.lines)
+  pub ar : IfSome (head_of (memory_link links state).ar) (IsWholeWord state.config.bus)
+  pub strobe : IfSome (head_of (memory_link links state).w) (λ w. w.strobe < 2 ^ state.config.bus)

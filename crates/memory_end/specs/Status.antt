@@ -1,0 +1,29 @@
+-- The status of a byte, and the response that several bytes make together (Arm IHI 0022, read and write response
+-- structure).
+use Rattle.std.specs.Prelude.{◌+◌, ◌&&◌, ◌∷◌, [], ℕ, Bool, true, false, List, nat_le, nat_lt, if◌then◌else◌}
+use Rattle.axi_beats.specs.Response.{worst_of}
+use Rattle.axi_beats.specs.declared.response.Resp.{Resp}
+use Rattle.axi_beats.specs.declared.response.Resp.TheVariants.{Okay, SlvErr, DecErr}
+use Rattle.memory_end.specs.declared.config.MemoryConfig.{MemoryConfig}
+
+-- an address of the memory
+abbrev pub is_inside : MemoryConfig → ℕ → Bool
+is_inside config address = nat_le config.base address && nat_lt address (config.base + config.size)
+
+-- a byte that is written: outside the memory there is none
+abbrev pub write_status : MemoryConfig → ℕ → Resp
+write_status config address = if is_inside config address then Okay else DecErr
+
+-- a byte that is read
+abbrev pub read_status : MemoryConfig → ℕ → Resp
+read_status config address = if is_inside config address then Okay else DecErr
+
+-- the worst of several responses, OKAY where there is none
+abbrev pub worst_among : List Resp → Resp
+worst_among [] = Okay
+worst_among (r ∷ rs) = worst_of r (worst_among rs)
+
+abbrev pub is_okay : Resp → Bool
+is_okay Okay = true
+is_okay SlvErr = false
+is_okay DecErr = false

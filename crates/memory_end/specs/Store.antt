@@ -1,0 +1,50 @@
+-- The bytes of a memory. Lines of 128 bytes that a run may write are kept; every other byte has one fill value.
+use Rattle.std.specs.Prelude.{◌≡◌, ◌≢◌, ◌<◌, ◌+◌, ◌*◌, ◌/◌, ◌%◌, ℕ, List, Option, Some, None, length, replicate, slice_get, slice_set, unwrap_or, option_map, option_and_then, AllPairs, Contains}
+use Rattle.flight.specs.Entries.{place_of}
+
+-- the numbers of the kept lines, ascending; their bytes, 128 for each line in this order; the value of all others
+pub record Store : Type 0 where
+  pub lines : List ℕ
+  pub bytes : List ℕ
+  pub fill : ℕ
+
+pub record IsStore (store : Store) : Type 0 where
+  pub ascending : AllPairs (λ a b. a < b) store.lines
+  pub whole : length store.bytes ≡ 128 * length store.lines
+
+-- no byte of these lines is written yet
+abbrev pub new_store : List ℕ → ℕ → Store
+new_store lines fill = record { lines = lines; bytes = replicate (128 * length lines) fill; fill = fill }
+
+-- the line of an address
+abbrev pub line_of : ℕ → ℕ
+line_of address = address / 128
+
+-- where the byte of an address is kept, if its line is
+abbrev pub byte_place : Store → ℕ → Option ℕ
+byte_place store address = option_map (λ place. 128 * place + address % 128) (place_of (line_of address) store.lines)
+
+-- the byte of an address
+abbrev pub byte_at : Store → ℕ → ℕ
+byte_at store address = unwrap_or (option_and_then (slice_get store.bytes) (byte_place store address)) store.fill
+
+-- the store with a byte written at a place
+abbrev pub written_at : Store → Option ℕ → ℕ → Store
+written_at store None value = store
+written_at store (Some place) value = record { lines = store.lines; bytes = slice_set store.bytes place value; fill = store.fill }
+
+-- the store with the byte of an address written, where its line is kept
+abbrev pub written : Store → ℕ → ℕ → Store
+written store address value = written_at store (byte_place store address) value
+
+-- what is written at an address whose line is kept is read there
+abbrev pub ReadsWritten : Type 0
+ReadsWritten =
+    (store : Store) (address value : ℕ) → IsStore store → Contains store.lines (line_of address) →
+    byte_at (written store address value) address ≡ value
+
+-- what is written at an address changes no other one
+abbrev pub ReadsOthers : Type 0
+ReadsOthers =
+    (store : Store) (address other value : ℕ) → IsStore store → other ≢ address →
+    byte_at (written store address value) other ≡ byte_at store other

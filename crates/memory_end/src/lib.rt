@@ -1,0 +1,12 @@
+//! A memory at the end of a link: it takes the writes and reads that come, and answers them in the
+//! order in which they came.
+//!
+//! A memory keeps the bytes of the lines that a run may write; all other bytes have its fill value.
+//! A contract sees it as the record of its arguments, its open requests and its bytes, and as what
+//! it does in the round. (Arm IHI 0022, transfer behavior and transaction ordering: a subordinate.)
+#![tactic(auto)]
+
+mod config;
+mod entry;
+
+pub use config::{MemoryConfig, Range};
