@@ -1,0 +1,2 @@
+pub mod StreamFacts
+pub mod TrailFacts

@@ -1,0 +1,11 @@
+//! What the two ends of a link have passed, and what a network's nodes may rely on at a link.
+//!
+//! A *trail* is the list of beats that one end of a link has passed on each channel. Two contracts
+//! speak of one trail each: what is *asked* on a link by the node above it, and what the node below
+//! it *answers*. Every node keeps both, which is why every network does. There is no code here: each
+//! function has an empty body, and its contract is a law of these words.
+#![tactic(auto)]
+
+mod trails;
+
+pub use trails::laws_of_trails;
