@@ -4,3 +4,5 @@ pub mod WordLaws
 pub mod NumberLaws
 pub mod CutSteps
 pub mod CutLaws
+pub mod HexadecimalSteps
+pub mod KnownValues

@@ -4,6 +4,7 @@
 //! computes, takes no memory and runs in time linear in what it reads.
 #![tactic(auto)]
 
+pub mod line_buffer;
 pub mod lines;
 pub mod numbers;
 pub mod separator;
