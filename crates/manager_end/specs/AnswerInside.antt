@@ -1,0 +1,18 @@
+-- How an answer is kept.
+use Rattle.std.specs.Prelude.{◌≤◌, length, take}
+use Rattle.manager_end.specs.Answer.{AnswerView}
+use Rattle.manager_end.specs.declared.answer.Answer.TheInside.{Inside}
+
+abbrev pub answer_view : Inside → AnswerView
+answer_view a = record {
+  issued = a.issued;
+  answered = a.answered;
+  resps = take a.came a.responses.items;
+  bytes = take a.read a.data.items;
+  due_resps = length a.responses.items;
+  due_bytes = length a.data.items;
+}
+
+pub record IsAnswer (a : Inside) : Type 0 where
+  pub came : a.came ≤ length a.responses.items
+  pub read : a.read ≤ length a.data.items

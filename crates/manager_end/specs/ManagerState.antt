@@ -1,0 +1,112 @@
+-- What a manager keeps.
+use Rattle.std.specs.Prelude.{◌≡◌, ◌≢◌, ◌==◌, ◌<◌, ◌≤◌, ◌++◌, ◌∷◌, [], ℕ, List, Bool, Option, Some, None, All, length, map, drop, filter, count_by, not, nat_lt, slice_get, slice_index_or, if◌then◌else◌}
+use Rattle.std.specs.List.{enumerate_from}
+use Rattle.axi_beats.specs.Word.{IsWholeWord, IsBusWidth}
+use Rattle.axi_link.specs.LinkView.{LinkView}
+use Rattle.manager_end.specs.Answer.{AnswerView, unanswered}
+use Rattle.manager_end.specs.Script.{ScriptItem, IsScript, sent_bytes}
+use Rattle.manager_end.specs.declared.entry.Entry.{Entry}
+
+-- The script, the link below and the width of the bus; how many of the script's writes and reads are issued, and
+-- of how many writes the data is sent; the transactions that wait for their answers; how many are answered, and
+-- what is noted of each.
+pub record ManagerState : Type 0 where
+  pub script : List ScriptItem
+  pub lower : ℕ
+  pub bus : ℕ
+  pub issued_writes : ℕ
+  pub issued_reads : ℕ
+  pub sent_writes : ℕ
+  pub write_entries : List Entry
+  pub read_entries : List Entry
+  pub answered : ℕ
+  pub answers : List AnswerView
+
+-- the writes of a script in their order, each with its place
+abbrev pub writes_of : List ScriptItem → List (ℕ × ScriptItem)
+writes_of script = filter (λ (p : ℕ × ScriptItem). p.1.txn.write) (enumerate_from 0 script)
+
+-- the reads of a script in their order, each with its place
+abbrev pub reads_of : List ScriptItem → List (ℕ × ScriptItem)
+reads_of script = filter (λ (p : ℕ × ScriptItem). not p.1.txn.write) (enumerate_from 0 script)
+
+-- the bytes that a transaction reads
+abbrev pub due_bytes : ℕ → ScriptItem → ℕ
+due_bytes bus item = if item.txn.write then 0 else bus
+
+-- nothing is issued
+abbrev pub new_manager : List ScriptItem → ℕ → ℕ → ManagerState
+new_manager script lower bus = record {
+  script = script;
+  lower = lower;
+  bus = bus;
+  issued_writes = 0;
+  issued_reads = 0;
+  sent_writes = 0;
+  write_entries = [];
+  read_entries = [];
+  answered = 0;
+  answers = map (λ item. unanswered (due_bytes bus item)) script;
+}
+
+-- the answer has come
+abbrev pub is_answered : AnswerView → Bool
+is_answered a = nat_lt 0 a.answered
+
+-- the answer to the transaction at a place of the script, where it has come
+abbrev pub answered_one : Option AnswerView → Option AnswerView
+answered_one None = None
+answered_one (Some a) = if is_answered a then Some a else None
+
+abbrev pub answer_of : ManagerState → ℕ → Option AnswerView
+answer_of s place = answered_one (slice_get s.answers place)
+
+-- all transactions are answered
+abbrev pub is_done : ManagerState → Bool
+is_done s = s.answered == length s.script
+
+-- rounds count from 1, and there is a link below
+pub record CanManager (round : ℕ) (links : List LinkView) (s : ManagerState) : Type 0 where
+  pub counted : 0 < round
+  pub linked : s.lower < length links
+
+-- nothing came yet for a transaction: there is room for one response and for so many bytes
+pub record IsUnanswered (bytes : ℕ) (a : AnswerView) : Type 0 where
+  pub answered : a.answered ≡ 0
+  pub resps : a.resps ≡ []
+  pub no_bytes : a.bytes ≡ []
+  pub due_resps : a.due_resps ≡ 1
+  pub due_bytes : a.due_bytes ≡ bytes
+
+-- the places of the transactions of one direction that wait for their answers, and then of those that wait for
+-- their issue
+abbrev pub waiting : List Entry → ℕ → List (ℕ × ScriptItem) → List ℕ
+waiting entries issued transactions = map (λ (entry : Entry). entry.place) entries ++ map (λ (p : ℕ × ScriptItem). p.0) (drop issued transactions)
+
+-- each of these places is another one
+abbrev pub AreDistinct : List ℕ → Type 0
+AreDistinct [] = Unit {0}
+AreDistinct (place ∷ places) = All (λ other. other ≢ place) places × AreDistinct places
+
+-- the transactions at these places wait, and so many bytes are due of each
+pub record AreWaiting (bytes : ℕ) (answers : List AnswerView) (places : List ℕ) : Type 0 where
+  pub within : All (λ place. place < length answers) places
+  pub nothing_came : All (λ place. IsUnanswered bytes (slice_index_or answers place (unanswered 0))) places
+  pub distinct : AreDistinct places
+
+-- What holds of a manager in every round: it has a script of whole words of its bus; it issued no more than that,
+-- and sent no more data than it issued writes; at most 16 of a direction wait for their answers; nothing came for
+-- those that wait; and it counted the answers.
+pub record IsManager (s : ManagerState) : Type 0 where
+  pub is_script : IsScript s.script
+  pub bus_width : IsBusWidth s.bus
+  pub words : All (λ (item : ScriptItem). IsWholeWord s.bus item.txn.request) s.script
+  pub writes_issued : s.issued_writes ≤ length (writes_of s.script)
+  pub reads_issued : s.issued_reads ≤ length (reads_of s.script)
+  pub writes_sent : s.sent_writes ≤ s.issued_writes
+  pub writes_fit : length s.write_entries ≤ 16
+  pub reads_fit : length s.read_entries ≤ 16
+  pub one_each : length s.answers ≡ length s.script
+  pub writes_waiting : AreWaiting 0 s.answers (waiting s.write_entries s.issued_writes (writes_of s.script))
+  pub reads_waiting : AreWaiting s.bus s.answers (waiting s.read_entries s.issued_reads (reads_of s.script))
+  pub counted : s.answered ≡ count_by is_answered s.answers

@@ -1,0 +1,124 @@
+-- The manager's decision table. All rows read the links and the state as they stand at the round's start.
+-- (Arm IHI 0022, dependencies between channel handshake signals; transaction ordering.)
+use Rattle.std.specs.Prelude.{◌==◌, ◌<◌, ◌+◌, ◌&&◌, ◌++◌, ◌∷◌, [], ℕ, List, Bool, true, false, Option, Some, None, length, take, find, is_some, nat_lt, nat_le, slice_get}
+use Rattle.std.specs.Option.{option_map}
+use Rattle.axi_beats.specs.declared.beat.BBeat.{BBeat}
+use Rattle.axi_beats.specs.declared.beat.RBeat.{RBeat}
+use Rattle.axi_link.specs.Acted.{Acted}
+use Rattle.axi_link.specs.LinkView.{LinkView}
+use Rattle.axi_link.specs.Table.{link_of, head_of, has_room, passing, put_of, take_of}
+use Rattle.axi_link.specs.declared.out.Out.{Out}
+use Rattle.flight.specs.Entries.{without_oldest}
+use Rattle.manager_end.specs.Answer.{AnswerView, issued_in, answered_in, noted}
+use Rattle.manager_end.specs.Beats.{request_of, data_of}
+use Rattle.manager_end.specs.ManagerState.{ManagerState, writes_of, reads_of}
+use Rattle.manager_end.specs.Script.{ScriptItem}
+use Rattle.manager_end.specs.declared.entry.Entry.{Entry}
+
+-- the link below as it stands
+abbrev pub below : List LinkView → ManagerState → LinkView
+below links s = link_of links s.lower
+
+-- the next transaction where as many are answered as it waits for
+abbrev pub ready : ℕ → Option (ℕ × ScriptItem) → Option (ℕ × ScriptItem)
+ready answered None = None
+ready answered (Some next) = passing (nat_le next.1.txn.after answered) (Some next)
+
+-- another transaction can wait for its answer
+abbrev pub fits : List Entry → Bool
+fits entries = nat_lt (length entries) 16
+
+module _ {X : Type 0} where
+  -- an answer that a link offers, with the oldest entry of its ID; none where no entry has its ID
+  abbrev pub answering : (X → ℕ) → List Entry → Option X → Option (Entry × X)
+  answering id_of entries None = None
+  answering id_of entries (Some head) = option_map (λ entry. (entry, head)) (find (λ entry. entry.id == id_of head) entries)
+
+-- AW: the next write is issued where it is ready, entries fit, and there is room below
+abbrev pub manager_aw : List LinkView → ManagerState → Option (ℕ × ScriptItem)
+manager_aw links s =
+    passing (fits s.write_entries && has_room (below links s).depth (below links s).aw) (ready s.answered (slice_get (writes_of s.script) s.issued_writes))
+
+-- W: the data of the oldest write that is issued and whose data isn't sent goes where there is room below
+abbrev pub manager_w : List LinkView → ManagerState → Option (ℕ × ScriptItem)
+manager_w links s =
+    passing (nat_lt s.sent_writes s.issued_writes && has_room (below links s).depth (below links s).w) (slice_get (writes_of s.script) s.sent_writes)
+
+-- AR: the next read is issued where it is ready, entries fit, and there is room below
+abbrev pub manager_ar : List LinkView → ManagerState → Option (ℕ × ScriptItem)
+manager_ar links s =
+    passing (fits s.read_entries && has_room (below links s).depth (below links s).ar) (ready s.answered (slice_get (reads_of s.script) s.issued_reads))
+
+-- B: a response is taken that answers a write, the oldest one of its ID
+abbrev pub manager_b : List LinkView → ManagerState → Option (Entry × BBeat)
+manager_b links s = answering (λ beat. beat.id) s.write_entries (head_of (below links s).b)
+
+-- R: a data beat is taken that answers a read, the oldest one of its ID
+abbrev pub manager_r : List LinkView → ManagerState → Option (Entry × RBeat)
+manager_r links s = answering (λ beat. beat.id) s.read_entries (head_of (below links s).r)
+
+-- one more where something moves
+abbrev pub more : Bool → ℕ
+more true = 1
+more false = 0
+
+-- the entries without the one that is answered
+module _ {X : Type 0} where
+  abbrev pub left_waiting : Option (Entry × X) → List Entry → List Entry
+  left_waiting None entries = entries
+  left_waiting (Some answer) entries = without_oldest (λ entry. entry.id) answer.0.id entries
+
+-- the entries with the one that is issued
+abbrev pub with_issued : Option (ℕ × ScriptItem) → List Entry → List Entry
+with_issued None entries = entries
+with_issued (Some next) entries = entries ++ record { place = next.0; id = next.1.txn.request.id } ∷ []
+
+-- the round and the response of a write are noted
+abbrev pub note_write : ℕ → Option (Entry × BBeat) → List AnswerView → List AnswerView
+note_write round None answers = answers
+note_write round (Some answer) answers = noted answer.0.place (answered_in round answer.1.resp []) answers
+
+-- the round, the response and the bytes of a read are noted: those of the lanes of the bus
+abbrev pub note_read : ℕ → ℕ → Option (Entry × RBeat) → List AnswerView → List AnswerView
+note_read round bus None answers = answers
+note_read round bus (Some answer) answers = noted answer.0.place (answered_in round answer.1.resp (take bus answer.1.lanes)) answers
+
+-- the round of an issue is noted
+abbrev pub note_issue : ℕ → Option (ℕ × ScriptItem) → List AnswerView → List AnswerView
+note_issue round None answers = answers
+note_issue round (Some next) answers = noted next.0 (issued_in round) answers
+
+-- the state after the round: the changes of B, R, W, AW and AR, in this order
+abbrev pub manager_next : ℕ → List LinkView → ManagerState → ManagerState
+manager_next round links s = record {
+  script = s.script;
+  lower = s.lower;
+  bus = s.bus;
+  issued_writes = s.issued_writes + more (is_some (manager_aw links s));
+  issued_reads = s.issued_reads + more (is_some (manager_ar links s));
+  sent_writes = s.sent_writes + more (is_some (manager_w links s));
+  write_entries = with_issued (manager_aw links s) (left_waiting (manager_b links s) s.write_entries);
+  read_entries = with_issued (manager_ar links s) (left_waiting (manager_r links s) s.read_entries);
+  answered = s.answered + more (is_some (manager_b links s)) + more (is_some (manager_r links s));
+  answers =
+      note_issue round (manager_ar links s) (note_issue round (manager_aw links s) (note_read round s.bus (manager_r links s) (note_write round (manager_b links s) s.answers)));
+}
+
+-- the takes and puts of the round, all on the link below
+abbrev pub manager_out : List LinkView → ManagerState → Out
+manager_out links s = record {
+  aw_take = None;
+  aw_put = put_of s.lower (option_map (λ next. request_of next.1) (manager_aw links s));
+  w_take = None;
+  w_put = put_of s.lower (option_map (λ next. data_of next.1) (manager_w links s));
+  b_take = take_of s.lower (is_some (manager_b links s));
+  b_put = None;
+  ar_take = None;
+  ar_put = put_of s.lower (option_map (λ next. request_of next.1) (manager_ar links s));
+  r_take = take_of s.lower (is_some (manager_r links s));
+  r_put = None;
+}
+
+-- what the manager does in a round
+abbrev pub manager_table : ℕ → List LinkView → ManagerState → Acted ManagerState
+manager_table round links s = record { state = manager_next round links s; out = manager_out links s }

@@ -1,0 +1,11 @@
+-- How a script is kept.
+use Rattle.std.specs.Prelude.{List, map}
+use Rattle.manager_end.specs.Script.{ScriptItem}
+use Rattle.manager_end.specs.declared.script.Item.{Item}
+use Rattle.manager_end.specs.declared.script.Script.TheInside.{Inside}
+
+abbrev pub item_view : Item → ScriptItem
+item_view item = record { txn = item.txn; bytes = item.bytes.items }
+
+abbrev pub script_view : Inside → List ScriptItem
+script_view s = map item_view s.items.items

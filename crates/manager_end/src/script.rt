@@ -1,0 +1,107 @@
+//! `Script`, seen in clauses as the list of its transactions, each with its bytes.
+
+ghost use Rattle.std.specs.Prelude.{◌≡◌, ◌<◌, ◌++◌, ◌∷◌, [], length, slice_get, OnOk, OnErr, Some};
+ghost use Rattle.std.specs.Option.{option_map};
+ghost use Rattle.manager_end.specs.Script.{CanPush, IsScript};
+
+use axi_beats::{Addr, NoMemory};
+use std::alloc::Global;
+use std::marker::Model;
+
+/// A byte that a write names: its value, and whether it is written.
+#[derive(Clone, Copy, Debug, PartialEq, Eq, Default)]
+pub struct WriteByte {
+    pub value: u8,
+    /// Whether the byte's strobe is set; a byte without one stays as it is in the memory.
+    pub strobed: bool,
+}
+
+/// A transaction of a manager.
+#[derive(Clone, Copy, Debug, PartialEq, Eq, Default)]
+pub struct Txn {
+    /// The number that its beats carry in their tags.
+    pub number: u32,
+    /// Whether it is a write; else it is a read.
+    pub write: bool,
+    /// The request, whose tag is not used.
+    pub request: Addr,
+    /// How many of the script's first transactions are answered before this one is issued.
+    pub after: u32,
+}
+
+/// A transaction and its bytes.
+#[derive(Drop)]
+struct Item {
+    txn: Txn,
+    bytes: Vec<WriteByte>,
+}
+
+/// The transactions of one manager, in the order in which it issues those of a direction.
+#[derive(Drop)]
+pub struct Script {
+    items: Vec<Item>,
+    alloc: Global,
+}
+
+impl Model for Script {
+    ghost use Rattle.std.specs.Prelude.{List};
+    ghost use Rattle.manager_end.specs.Script.{ScriptItem, IsScript};
+
+    ghost Value = { List ScriptItem };
+
+    ghost use Rattle.manager_end.specs.ScriptInside.{script_view};
+
+    ghost view = { script_view };
+
+    ghost invariant = { λ s. IsScript (script_view s) };
+}
+
+impl Script {
+    /// A script without transactions.
+    pub fn new(alloc: Global) -> Script
+        ensures { result ≡ [] }
+    {
+        Script {
+            items: Vec::new(alloc),
+            alloc,
+        }
+    }
+
+    /// Adds a transaction with its bytes: those that a write names, lowest lane first, and none for a
+    /// read. The script is unchanged where there is no memory.
+    pub fn push(&mut self, txn: Txn, bytes: &[WriteByte]) -> Result<(), NoMemory>
+        requires { CanPush self.old txn bytes.now }
+        ensures ok { OnOk result (self.new ≡ self.old ++ record { txn = txn; bytes = bytes.now } ∷ []) }
+        ensures err { OnErr result (self.new ≡ self.old) }
+    {
+        let bytes = Vec::from_slice(self.alloc, bytes)?;
+        match self.items.push(Item { txn, bytes }) {
+            Ok(()) => Ok(()),
+            Err(_) => Err(NoMemory),
+        }
+    }
+
+    /// The number of transactions.
+    pub fn len(&self) -> u32
+        ensures value { result ≡ length self.now }
+        ensures script { IsScript self.now }
+    {
+        self.items.len() as u32
+    }
+
+    /// The transaction at place `n`, counted from 0, which is below the length.
+    pub fn txn(&self, n: u32) -> &Txn
+        requires { n < length self.now }
+        ensures { option_map (λ item. item.txn) (slice_get self.now n) ≡ Some result.now }
+    {
+        &self.items[n as usize].txn
+    }
+
+    /// The bytes that were pushed with the transaction at place `n`, which is below the length.
+    pub fn bytes(&self, n: u32) -> &[WriteByte]
+        requires { n < length self.now }
+        ensures { option_map (λ item. item.bytes) (slice_get self.now n) ≡ Some result.now }
+    {
+        self.items[n as usize].bytes.as_slice()
+    }
+}
