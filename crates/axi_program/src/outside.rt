@@ -1,0 +1,13 @@
+//! What the top call sees of the world: where bytes come from, where they go, and the gate of the workers.
+
+pub mod gate;
+pub mod memory_sink;
+pub mod memory_source;
+mod planned_faults;
+pub mod read_all;
+pub mod sink;
+pub mod source;
+pub mod standard;
+#[cfg(test)]
+mod tests;
+pub mod write_all;

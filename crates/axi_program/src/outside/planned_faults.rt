@@ -1,0 +1,55 @@
+//! Which calls of an object in memory fail, and the counts of its calls and of its faults.
+
+ghost use Rattle.std.specs.Prelude.{◌≡◌, ◌≤◌};
+ghost use Rattle.axi_program.specs.Memory.{new_plan, is_due, after_call};
+
+use std::marker::Model;
+
+/// A clause sees it as the numbers of the calls that are to fail, the calls that were made and those that failed.
+#[derive(Drop)]
+pub struct PlannedFaults {
+    failing: Vec<u64>,
+    calls: u64,
+    faults: u64,
+}
+
+impl Model for PlannedFaults {
+    ghost use Rattle.axi_program.specs.Memory.{Plan};
+
+    ghost Value = { Plan };
+
+    ghost view = { λ p. record { failing = p.failing.items; calls = p.calls; faults = p.faults } };
+}
+
+impl PlannedFaults {
+    pub fn new(failing: Vec<u64>) -> PlannedFaults
+        ensures { result ≡ new_plan failing.items }
+    {
+        PlannedFaults {
+            failing,
+            calls: 0,
+            faults: 0,
+        }
+    }
+
+    /// Whether the next call is one that is to fail.
+    pub fn is_due(&self) -> bool
+        ensures { result ≡ is_due self.now }
+    {
+        match self.calls.checked_add(1) {
+            Some(number) => self.failing.contains(&number),
+            None => false,
+        }
+    }
+
+    /// Counts one more call.
+    pub fn count(&mut self, fails: bool)
+        ensures after { self.new ≡ after_call self.old fails }
+        ensures later { self.old.faults ≤ self.new.faults }
+    {
+        self.calls = self.calls.saturating_add(1);
+        if fails {
+            self.faults = self.faults.saturating_add(1);
+        }
+    }
+}

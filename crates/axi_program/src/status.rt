@@ -1,0 +1,51 @@
+//! What the top call answers.
+
+ghost use Rattle.std.specs.Prelude.{◌≡◌};
+ghost use Rattle.axi_program.specs.Status.{exit_code};
+
+/// Why an input is refused.
+#[derive(Debug, Clone, Copy, PartialEq, Eq)]
+pub struct Refusal {
+    /// The number of the cause, from 1.
+    pub code: u8,
+    /// The number of the node or of the line that it is found at, or 0 where none is named.
+    pub place: u32,
+    /// The broken rule of the traffic line, or 0 where the cause has no rules.
+    pub rule: u8,
+}
+
+/// How a command ended.
+#[derive(Debug, Clone, Copy, PartialEq, Eq)]
+pub enum Status {
+    /// The whole text was written.
+    Done,
+    /// The words of the command line are none that the program takes.
+    Usage,
+    /// The input is refused. One line was written.
+    Refused(Refusal),
+    /// The source failed. Nothing was written.
+    ReadFault,
+    /// The sink failed. What was written is the front of the text.
+    WriteFault,
+    /// Memory was wanting. Nothing was written.
+    NoMemory,
+    /// The rounds of the bound have passed and a transaction is unanswered.
+    Unfinished,
+}
+
+impl Status {
+    /// The exit code of the program.
+    pub fn code(&self) -> u8
+        ensures { result ≡ exit_code self.now }
+    {
+        match self {
+            Status::Done => 0,
+            Status::Usage => 2,
+            Status::Refused(_) => 3,
+            Status::ReadFault => 5,
+            Status::WriteFault => 6,
+            Status::NoMemory => 7,
+            Status::Unfinished => 8,
+        }
+    }
+}
