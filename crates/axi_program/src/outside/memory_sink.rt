@@ -8,7 +8,8 @@ ghost use Rattle.axi_program.specs.Memory.{new_plan, write_fails, write_count, a
 use super::planned_faults::PlannedFaults;
 use super::sink::Sink;
 use super::source::Failed;
-use std::alloc::{AllocError, Global};
+use axi_beats::NoMemory;
+use std::alloc::Global;
 use std::marker::Model;
 
 /// Room for so many bytes in memory, written a few at a time, with failures at the calls that it was told.
@@ -42,7 +43,7 @@ impl MemorySink {
         capacity: usize,
         fail: Vec<u64>,
         most: usize,
-    ) -> Result<MemorySink, AllocError>
+    ) -> Result<MemorySink, NoMemory>
         requires { 0 < most }
         ensures { IfOk result (λ sink. sink ≡ record { written = []; capacity = capacity; most = most; plan = new_plan fail.items }) }
     {
