@@ -1,0 +1,4 @@
+pub mod Formulas
+pub mod Legal
+pub mod Bytes
+pub mod Laws

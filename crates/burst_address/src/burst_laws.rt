@@ -1,0 +1,22 @@
+//! What holds of every legal burst.
+ghost use Rattle.burst_address.specs.Laws.{LegalOnWider, OnePage, BelowLimit, OneLine, ValidCount, LanesFollow, IncrAscends, WrapVisitsOnce, FixedRepeats, StrobesBelow};
+
+/// The laws of legal bursts and their bytes.
+pub fn laws()
+    ensures wider { LegalOnWider }
+
+    // Where the bytes lie.
+    ensures page { OnePage }
+    ensures limit { BelowLimit }
+    ensures line { OneLine }
+
+    // The valid bytes and lanes of a beat.
+    ensures count { ValidCount }
+    ensures follow { LanesFollow }
+    ensures strobes { StrobesBelow }
+
+    // The bytes of the three kinds.
+    ensures incr { IncrAscends }
+    ensures wrap { WrapVisitsOnce }
+    ensures fixed { FixedRepeats }
+{}
