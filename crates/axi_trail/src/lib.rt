@@ -6,6 +6,8 @@
 //! function has an empty body, and its contract is a law of these words.
 #![tactic(auto)]
 
-mod trails;
+mod contract_laws;
+mod trail_laws;
 
-pub use trails::laws_of_trails;
+pub use contract_laws::laws_of_contracts;
+pub use trail_laws::laws_of_trails;

@@ -1,5 +1,5 @@
 use Rattle.axi_trail.proofs.TrailFacts.{trails_grow, links_are_queues, taken_was_put_before, heads_are_behind, behind_is_transitive}
-use Rattle.axi_trail.proofs.trails.laws_of_trails.Goals as goal
+use Rattle.axi_trail.proofs.trail_laws.laws_of_trails.Goals as goal
 
 pub returns : goal.returns
 returns c = record {

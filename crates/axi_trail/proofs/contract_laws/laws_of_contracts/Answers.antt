@@ -1,0 +1,11 @@
+use Rattle.axi_trail.proofs.OrderFacts.{own_requests_in_order, held_have_one_id}
+use Rattle.axi_trail.proofs.SlackFacts.{asking_goes_down, answering_goes_up}
+use Rattle.axi_trail.proofs.contract_laws.laws_of_contracts.Goals as goal
+
+pub returns : goal.returns
+returns c = record {
+  down = asking_goes_down;
+  up = answering_goes_up;
+  own = own_requests_in_order;
+  chain = held_have_one_id;
+}

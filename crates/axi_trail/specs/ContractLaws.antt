@@ -1,0 +1,34 @@
+-- What holds of every link that keeps the two contracts.
+use Rattle.std.specs.Prelude.{◌≡◌, ◌≤◌, ◌↔◌, ◌++◌, ◌∷◌, [], ℕ, List, length}
+use Rattle.flight.specs.Entries.{of_key}
+use Rattle.axi_trail.specs.LinkContracts.{Asks, Answers, OneIdAtATime}
+use Rattle.axi_trail.specs.Schedule.{Share, Schedule, Progress, Grows, SameChain}
+use Rattle.axi_trail.specs.Trail.{Beats, IsBehind}
+use Rattle.axi_trail.specs.Words.{Asked, Reply, IsAnswered, InOrderOfId, beats_of, number_of_asked, number_of_reply}
+
+-- what is asked at the upper end is asked at the lower end, which has taken less and answered more
+abbrev pub AskingGoesDown : Type 0
+AskingGoesDown =
+    (plan : Schedule) (early late : Progress) (lower upper : Beats) → Grows early late → IsBehind lower upper →
+    Asks plan early upper → Asks plan late lower
+
+-- what is answered at the lower end is answered at the upper end, which has put more and taken fewer answers
+abbrev pub AnsweringGoesUp : Type 0
+AnsweringGoesUp =
+    (plan : Schedule) (early late : Progress) (lower upper : Beats) → Grows early late → IsBehind lower upper →
+    Answers plan early lower → Answers plan late upper
+
+-- the requests of a transaction are answered in their order: a request is answered exactly where the answers to
+-- its transaction are as many as the transaction's requests, up to this one, ask for
+abbrev pub OwnRequestsInOrder : Type 0
+OwnRequestsInOrder =
+    (shares : ℕ → Share) (asked : List Asked) (replies : List Reply) → OneIdAtATime shares asked replies → InOrderOfId asked replies →
+    (before : List Asked) (a : Asked) (after : List Asked) → asked ≡ before ++ a ∷ after →
+    IsAnswered before a replies ↔ (beats_of (of_key number_of_asked a.number (before ++ a ∷ [])) ≤ length (of_key number_of_reply a.number replies))
+
+-- where a request isn't answered, the later ones of its chain have its ID
+abbrev pub HeldHaveOneId : Type 0
+HeldHaveOneId =
+    (shares : ℕ → Share) (asked : List Asked) (replies : List Reply) → OneIdAtATime shares asked replies →
+    (before : List Asked) (a : Asked) (between : List Asked) (next : Asked) (after : List Asked) → asked ≡ (before ++ a ∷ between) ++ next ∷ after →
+    SameChain shares a.number next.number → ¬ IsAnswered before a replies → a.id ≡ next.id

@@ -1,0 +1,11 @@
+//! What holds of every link that keeps the two contracts.
+
+ghost use Rattle.axi_trail.specs.ContractLaws.{AskingGoesDown, AnsweringGoesUp, OwnRequestsInOrder, HeldHaveOneId};
+
+/// The laws of asking and answering on one link.
+pub fn laws_of_contracts()
+    ensures down { AskingGoesDown }
+    ensures up { AnsweringGoesUp }
+    ensures own { OwnRequestsInOrder }
+    ensures chain { HeldHaveOneId }
+{}
