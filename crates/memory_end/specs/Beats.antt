@@ -40,9 +40,13 @@ abbrev pub is_valid : Addr → ℕ → ℕ → ℕ → Bool
 is_valid request beat bus lane =
     nat_le (first_lane request beat bus) lane && nat_lt lane (first_lane request beat bus + lane_count request beat bus)
 
+-- a W beat strobes this lane
+abbrev pub is_strobed : WBeat → ℕ → Bool
+is_strobed w lane = bit_at w.strobe lane == 1
+
 -- the lanes of the bus that a W beat strobes, upwards
 abbrev pub strobed_lanes : ℕ → WBeat → List ℕ
-strobed_lanes bus w = filter (λ lane. bit_at w.strobe lane == 1) (range_with_len 0 bus)
+strobed_lanes bus w = filter (is_strobed w) (range_with_len 0 bus)
 
 -- a byte at its address
 pub record Byte : Type 0 where
@@ -54,10 +58,14 @@ abbrev pub strobed_status : MemoryConfig → Addr → ℕ → WBeat → Resp
 strobed_status config request beat w =
     worst_among (map (λ lane. write_status config (lane_address request beat config.bus lane)) (strobed_lanes config.bus w))
 
+-- the bytes of a W beat on these lanes, where lane 0 is the byte at this address
+abbrev pub bytes_on : ℕ → WBeat → List ℕ → List Byte
+bytes_on word w lanes = map (λ lane. record { address = word + lane; value = slice_index w.lanes lane }) lanes
+
 -- the bytes that a W beat writes, lanes upwards: those that are strobed and have the status OKAY
 abbrev pub written_bytes : MemoryConfig → Addr → ℕ → WBeat → List Byte
 written_bytes config request beat w =
-    map (λ lane. record { address = lane_address request beat config.bus lane; value = slice_index w.lanes lane })
+    bytes_on (word_address request beat config.bus) w
     (filter (λ lane. is_okay (write_status config (lane_address request beat config.bus lane))) (strobed_lanes config.bus w))
 
 -- the store after bytes are written, one after the other

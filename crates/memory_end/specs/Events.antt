@@ -1,5 +1,5 @@
 -- The accesses to bytes that a memory makes in a round.
-use Rattle.std.specs.Prelude.{◌++◌, [], ◌∷◌, ℕ, List, Bool, true, false, Option, Some, None, map}
+use Rattle.std.specs.Prelude.{◌++◌, [], ℕ, List, Bool, true, false, Option, Some, None, map}
 use Rattle.axi_beats.specs.declared.beat.WBeat.{WBeat}
 use Rattle.axi_beats.specs.declared.beat.RBeat.{RBeat}
 use Rattle.axi_link.specs.LinkView.{LinkView}

@@ -4,3 +4,4 @@ pub mod MemoryState
 pub mod MemoryTable
 pub mod Status
 pub mod Store
+pub mod StoreInside

@@ -1,5 +1,5 @@
 -- A memory as contracts see it between rounds.
-use Rattle.std.specs.Prelude.{◌≡◌, ◌≤◌, ◌%◌, ◌+◌, ◌/◌, ◌^◌, ℕ, List, [], Option, Some, None, IsTrue, All, Contains, if◌then◌else◌}
+use Rattle.std.specs.Prelude.{◌≡◌, ◌≤◌, ◌%◌, ◌+◌, ◌^◌, ℕ, List, [], Option, Some, None, IsTrue, All, Contains, if◌then◌else◌}
 use Rattle.axi_beats.specs.declared.beat.Addr.{Addr}
 use Rattle.axi_beats.specs.Word.{IsBusWidth, IsWholeWord}
 use Rattle.memory_end.specs.declared.config.MemoryConfig.{MemoryConfig}

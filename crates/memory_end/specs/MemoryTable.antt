@@ -1,6 +1,6 @@
 -- What a memory does in a round (Arm IHI 0022, relationships between the channels): a function of its state and its
 -- link as they stand at the round's start.
-use Rattle.std.specs.Prelude.{◌==◌, ◌<◌, ◌+◌, ◌^◌, ◌++◌, ◌∷◌, [], ℕ, List, Bool, true, false, Option, Some, None, length, drop, nat_lt, nat_le, is_some, IfSome, if◌then◌else◌, option_map, option_and_then, find}
+use Rattle.std.specs.Prelude.{◌==◌, ◌<◌, ◌+◌, ◌^◌, ◌++◌, ◌∷◌, [], ℕ, List, Bool, Option, Some, None, length, drop, nat_lt, is_some, IfSome, if◌then◌else◌, option_map, option_and_then, find}
 use Rattle.axi_beats.specs.declared.beat.Addr.{Addr}
 use Rattle.axi_beats.specs.declared.beat.WBeat.{WBeat}
 use Rattle.axi_beats.specs.declared.beat.BBeat.{BBeat}
@@ -39,12 +39,12 @@ oldest_lacking entries = find lacks_data entries
 abbrev pub answer_to : WriteEntry → BBeat
 answer_to entry = record { id = entry.request.id; resp = entry.worst; tag = entry.request.tag }
 
--- the next beat of the answer to a read
-abbrev pub next_beat : MemoryState → ReadEntry → RBeat
-next_beat state entry = record {
+-- the next beat of the answer to a read, from these bytes
+abbrev pub next_beat : MemoryConfig → Store → ReadEntry → RBeat
+next_beat config store entry = record {
   id = entry.request.id;
-  lanes = answered_lanes state.config state.store entry.request entry.put;
-  resp = valid_status state.config entry.request entry.put;
+  lanes = answered_lanes config store entry.request entry.put;
+  resp = valid_status config entry.request entry.put;
   last = entry.put == entry.request.len;
   tag = entry.request.tag;
 }
@@ -71,7 +71,7 @@ memory_ar links state = passing (fits state.read_entries) (head_of (memory_link 
 abbrev pub memory_r : List LinkView → MemoryState → Option RBeat
 memory_r links state =
     passing (has_room (memory_link links state).depth (memory_link links state).r)
-    (option_map (next_beat state) (head_of state.read_entries))
+    (option_map (next_beat state.config state.store) (head_of state.read_entries))
 
 -- B: the oldest write leaves
 abbrev pub after_b : Option BBeat → List WriteEntry → List WriteEntry

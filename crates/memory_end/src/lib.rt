@@ -8,5 +8,6 @@
 
 mod config;
 mod entry;
+mod store;
 
 pub use config::{MemoryConfig, Range};

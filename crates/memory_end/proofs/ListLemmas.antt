@@ -1,0 +1,88 @@
+-- Facts on ranges, on folds over a part of them, and on padded lists.
+use Rattle.std.proofs.Common.{◌≡◌, ℕ, ◌+◌, ◌<◌, ◌≤◌, suc, zero, Bool, true, false, cond, List, [], ◌∷◌, ◌++◌, length, map, replicate, refl, sym, ◌∙◌, ap, arith, add-one}
+use Rattle.std.specs.Prelude.{filter, fold, slice_set, nat_lt}
+use Rattle.std.specs.List.{range_with_len, AllByRecursion}
+use Rattle.std.proofs.lemmas.Bool.{lt-ltb, le-ltb}
+use Rattle.std.proofs.lemmas.List.{map-append}
+use Rattle.std.proofs.lemmas.List.Elements.{filter-append}
+use Rattle.std.proofs.lemmas.List.Sums.{fold-append}
+
+-- one number more
+pub range-more : (a n : ℕ) → range_with_len a (n + 1) ≡ range_with_len a n ++ (a + n) ∷ []
+range-more a zero = ap (range_with_len a) (let e : 0 + 1 ≡ 1 = refl in e) ∙ ap (λ k. k ∷ []) (let e : a ≡ a + 0 = omega arith in e)
+range-more a (suc n) =
+    let shift : (a + 1) + n ≡ a + suc n = omega arith in
+    ap (range_with_len a) (add-one (suc n)) ∙ ap (λ t. a ∷ t) (ap (range_with_len (a + 1)) (sym (add-one n)) ∙ range-more (a + 1) n ∙ ap (λ k. range_with_len (a + 1) n ++ k ∷ []) shift)
+
+filter-one : (p : ℕ → Bool) (n : ℕ) → filter p (n ∷ []) ≡ cond (p n) (n ∷ []) []
+filter-one p n = refl
+
+pub filter-range-more : (p : ℕ → Bool) (n : ℕ) → filter p (range_with_len 0 (n + 1)) ≡ filter p (range_with_len 0 n) ++ cond (p n) (n ∷ []) []
+filter-range-more p n =
+    ap (filter p) (range-more 0 n)
+    ∙ filter-append p (range_with_len 0 n) ((0 + n) ∷ [])
+    ∙ ap (λ k. filter p (range_with_len 0 n) ++ filter p (k ∷ [])) (let e : 0 + n ≡ n = omega arith in e)
+
+-- a fold over the numbers that pass, with one number more that passes or doesn't
+pub fold-range-more_passing : {B : Type 0} (f : B → ℕ → B) (b : B) (p : ℕ → Bool) (n : ℕ) → p n ≡ true → fold f b (filter p (range_with_len 0 (n + 1))) ≡ f (fold f b (filter p (range_with_len 0 n))) n
+fold-range-more_passing f b p n e =
+    ap (fold f b) (filter-range-more p n ∙ ap (λ c. filter p (range_with_len 0 n) ++ cond c (n ∷ []) []) e)
+    ∙ fold-append f b (filter p (range_with_len 0 n)) (n ∷ [])
+
+append-nil : {X : Type 0} (xs : List X) → xs ++ [] ≡ xs
+append-nil [] = refl
+append-nil (x ∷ xs) = ap (λ t. x ∷ t) (append-nil xs)
+
+pub fold-range-more_failing : {B : Type 0} (f : B → ℕ → B) (b : B) (p : ℕ → Bool) (n : ℕ) → p n ≡ false → fold f b (filter p (range_with_len 0 (n + 1))) ≡ fold f b (filter p (range_with_len 0 n))
+fold-range-more_failing f b p n e =
+    ap (fold f b) (filter-range-more p n ∙ ap (λ c. filter p (range_with_len 0 n) ++ cond c (n ∷ []) []) e ∙ append-nil (filter p (range_with_len 0 n)))
+
+-- the numbers of a range that pass are below its end
+pub filter-range-below : (p : ℕ → Bool) (a n end : ℕ) → a + n ≤ end → AllByRecursion (λ k. k < end) (filter p (range_with_len a n))
+filter-range-below p a zero end le = tt
+filter-range-below p a (suc n) end le =
+    let rest : AllByRecursion (λ k. k < end) (filter p (range_with_len (a + 1) n)) = filter-range-below p (a + 1) n end (omega arith) in
+    elim (p a) as (λ c. AllByRecursion (λ k. k < end) (cond c (a ∷ filter p (range_with_len (a + 1) n)) (filter p (range_with_len (a + 1) n)))) [
+      | true ↦ (omega arith, rest)
+      | false ↦ rest
+    ]
+
+-- a list that is padded with 0, with one byte more
+pub padded-set : (xs : List ℕ) (i r b : ℕ) → length xs ≡ i → slice_set (xs ++ replicate (suc r) 0) i b ≡ (xs ++ b ∷ []) ++ replicate r 0
+padded-set [] i r b e = ap (λ k. slice_set (replicate (suc r) 0) k b) (sym e)
+padded-set (x ∷ xs) zero r b e = absurd (omega arith)
+padded-set (x ∷ xs) (suc i) r b e = ap (λ t. x ∷ t) (padded-set xs i r b (omega arith))
+
+-- functions that agree on a range
+pub map-range-agree : (f g : ℕ → ℕ) (a n : ℕ) → ((k : ℕ) → a ≤ k → k < a + n → f k ≡ g k) → map f (range_with_len a n) ≡ map g (range_with_len a n)
+map-range-agree f g a zero agree = refl
+map-range-agree f g a (suc n) agree =
+    ap (λ y. y ∷ map f (range_with_len (a + 1) n)) (agree a (omega arith) (omega arith))
+    ∙ ap (λ t. g a ∷ t) (map-range-agree f g (a + 1) n (λ k le lt. agree k (omega arith) (omega arith)))
+
+-- a range in two parts
+pub range-split : (a m r : ℕ) → range_with_len a (m + r) ≡ range_with_len a m ++ range_with_len (a + m) r
+range-split a zero r =
+    let none : 0 + r ≡ r = omega arith in
+    let same : a ≡ a + 0 = omega arith in
+    ap (range_with_len a) none ∙ ap (λ b. range_with_len b r) same
+range-split a (suc m) r =
+    let more : suc m + r ≡ suc (m + r) = omega arith in
+    let shift : a + 1 + m ≡ a + suc m = omega arith in
+    ap (range_with_len a) more
+    ∙ ap (λ t. a ∷ t) (range-split (a + 1) m r ∙ ap (λ b. range_with_len (a + 1) m ++ range_with_len b r) shift)
+
+map-range-constant : (a n b : ℕ) → map (λ k. b) (range_with_len a n) ≡ replicate n b
+map-range-constant a zero b = refl
+map-range-constant a (suc n) b = ap (λ t. b ∷ t) (map-range-constant (a + 1) n b)
+
+-- a function below an end, and 0 from there on
+pub map-range-padded : (f : ℕ → ℕ) (end r : ℕ) → map (λ k. cond (nat_lt k end) (f k) 0) (range_with_len 0 (end + r)) ≡ map f (range_with_len 0 end) ++ replicate r 0
+map-range-padded f end r =
+    let padded : ℕ → ℕ = λ k. cond (nat_lt k end) (f k) 0 in
+    ap (map padded) (range-split 0 end r)
+    ∙ map-append padded (range_with_len 0 end) (range_with_len (0 + end) r)
+    ∙ ap (λ t. t ++ map padded (range_with_len (0 + end) r)) (map-range-agree padded f 0 end (λ k le lt. ap (λ c. cond c (f k) 0) (lt-ltb k end (omega arith))))
+    ∙ ap (λ t. map f (range_with_len 0 end) ++ t)
+    (map-range-agree padded (λ k. 0) (0 + end) r (λ k le lt. ap (λ c. cond c (f k) 0) (le-ltb k end (omega arith)))
+    ∙ map-range-constant (0 + end) r 0)

@@ -1,0 +1,123 @@
+//! `ByteStore`, seen in clauses as the kept lines, their bytes and the fill value.
+
+ghost use Rattle.std.specs.Prelude.{◌≡◌, ◌<◌, ◌≤◌, ◌+◌, ◌%◌, ◌^◌, length, map, fold, slice_index, slice_set, nat_lt, if◌then◌else◌, AllPairs, IfOk, IfSome};
+ghost use Rattle.std.specs.List.{range_with_len};
+ghost use Rattle.flight.specs.Entries.{place_of};
+ghost use Rattle.memory_end.specs.Beats.{is_strobed, strobed_lanes, bytes_on, all_written};
+ghost use Rattle.memory_end.specs.Store.{new_store, byte_at, line_of};
+
+use axi_beats::{Lanes, NoMemory, WBeat};
+use std::alloc::Global;
+use std::marker::Model;
+
+/// The bytes of the lines that a run may write, and the value of all others.
+#[derive(Drop)]
+pub struct ByteStore {
+    lines: Vec<u64>,
+    bytes: Vec<u8>,
+    fill: u8,
+}
+
+impl Model for ByteStore {
+    ghost use Rattle.memory_end.specs.Store.{Store};
+
+    ghost Value = { Store };
+
+    ghost use Rattle.memory_end.specs.StoreInside.{store_view, IsByteStore};
+
+    ghost view = { store_view };
+
+    ghost invariant = { IsByteStore };
+}
+
+impl ByteStore {
+    /// A store that keeps these lines of 128 bytes, whose numbers ascend, and has written none.
+    pub fn new(alloc: Global, touched: &[u64], fill: u8) -> Result<ByteStore, NoMemory>
+        requires { AllPairs (λ a b. a < b) touched.now }
+        ensures { IfOk result (λ store. store ≡ new_store touched.now fill) }
+    {
+        // More bytes than can be counted are more than there is memory for.
+        let size = touched.len().checked_mul(128).ok_or(NoMemory)?;
+        Ok(ByteStore {
+            lines: Vec::from_slice(alloc, touched)?,
+            bytes: Vec::from_elem(alloc, fill, size)?,
+            fill,
+        })
+    }
+
+    /// The byte at an address.
+    pub fn byte_at(&self, address: u64) -> u8
+        ensures { result ≡ byte_at self.now address }
+    {
+        self.byte_in(line_place(&self.lines, address / 128), address)
+    }
+
+    /// The bytes of the word at an address, which lies in one line: the one at `word + n` on lane n,
+    /// and 0 on the lanes beyond the bus.
+    pub fn read_word(&self, word: u64, bus: u8) -> Lanes
+        requires line { word % 128 + bus ≤ 128 }
+        requires end { word + bus < 2 ^ 64 }
+        ensures { result ≡ map (λ lane. if nat_lt lane bus then byte_at self.now (word + lane) else 0) (range_with_len 0 128) }
+    {
+        let place = line_place(&self.lines, word / 128);
+        let mut lanes = Lanes::zero();
+        for lane in 0..bus {
+            lanes.set(lane, self.byte_in(place, word + u64::from(lane)));
+        }
+        lanes
+    }
+
+    /// Writes the strobed bytes of a W beat to the word at an address, which lies in one line: lane
+    /// n to `word + n`. Where the line isn't kept, nothing is written.
+    pub fn write_word(&mut self, word: u64, bus: u8, beat: &WBeat)
+        requires { word % 128 + bus ≤ 128 }
+        ensures { self.new ≡ all_written self.old (bytes_on word beat.now (strobed_lanes bus beat.now)) }
+    {
+        if let Some(place) = line_place(&self.lines, word / 128) {
+            let first = 128 * place + (word % 128) as usize;
+            write_lanes(&mut self.bytes, first, bus, beat);
+        }
+    }
+
+    /// The byte at an address whose line has this place.
+    fn byte_in(&self, place: Option<usize>, address: u64) -> u8
+        requires place { place ≡ place_of (line_of address) self.now.lines }
+        requires within { IfSome place (λ place. place < length self.now.lines) }
+        ensures { result ≡ byte_at self.now address }
+    {
+        match place {
+            Some(place) => self.bytes[128 * place + (address % 128) as usize],
+            None => self.fill,
+        }
+    }
+}
+
+/// The place of a line among lines whose numbers ascend; None where it isn't among them.
+fn line_place(lines: &[u64], line: u64) -> Option<usize>
+    requires { AllPairs (λ a b. a < b) lines.now }
+    ensures place { result ≡ place_of line lines.now }
+    ensures within { IfSome result (λ place. place < length lines.now) }
+{
+    lines.binary_search(&line).ok()
+}
+
+/// Whether a W beat strobes a lane.
+pub fn is_strobed(beat: &WBeat, lane: u8) -> bool
+    requires { lane < 128 }
+    ensures { result ≡ is_strobed beat.now lane }
+{
+    beat.strobe >> lane & 1 == 1
+}
+
+/// Writes the strobed bytes of a W beat: the one on lane n to the place `first + n`.
+fn write_lanes(bytes: &mut [u8], first: usize, bus: u8, beat: &WBeat)
+    requires lanes { bus ≤ 128 }
+    requires bytes { first + bus ≤ length bytes.old }
+    ensures { bytes.new ≡ fold (λ written lane. slice_set written (first + lane) (slice_index beat.now.lanes lane)) bytes.old (strobed_lanes bus beat.now) }
+{
+    for lane in 0..bus {
+        if is_strobed(beat, lane) {
+            bytes[first + usize::from(lane)] = beat.lanes.get(lane);
+        }
+    }
+}
