@@ -91,13 +91,13 @@ pub length-burst_marks : (number len : ℕ) → length (burst_marks number len) 
 length-burst_marks number zero = refl
 length-burst_marks number (suc len) = ap suc (length-burst_marks number len)
 
-burst-all : (number t len : ℕ) → number ≡ t → of_key number_of_mark t (burst_marks number len) ≡ burst_marks number len
+pub burst-all : (number t len : ℕ) → number ≡ t → of_key number_of_mark t (burst_marks number len) ≡ burst_marks number len
 burst-all number t zero e = of_key-cons number_of_mark t (record { number = number; last = true }) [] e
 burst-all number t (suc len) e =
     of_key-cons number_of_mark t (record { number = number; last = false }) (burst_marks number len) e
     ∙ ap (λ rest. record { number = number; last = false } ∷ rest) (burst-all number t len e)
 
-burst-none : (number t len : ℕ) → number ≢ t → of_key number_of_mark t (burst_marks number len) ≡ []
+pub burst-none : (number t len : ℕ) → number ≢ t → of_key number_of_mark t (burst_marks number len) ≡ []
 burst-none number t zero ne = of_key-skip number_of_mark t (record { number = number; last = true }) [] ne
 burst-none number t (suc len) ne =
     of_key-skip number_of_mark t (record { number = number; last = false }) (burst_marks number len) ne ∙ burst-none number t len ne

@@ -1,6 +1,9 @@
 pub mod FilterFacts
+pub mod HeldFacts
+pub mod MarkFacts
 pub mod OrderFacts
 pub mod PrefixFacts
 pub mod SlackFacts
 pub mod StreamFacts
 pub mod TrailFacts
+pub mod WaitingFacts

@@ -5,4 +5,5 @@ pub mod Streams
 pub mod Trail
 pub mod TrailLaws
 pub mod Waiting
+pub mod WordLaws
 pub mod Words

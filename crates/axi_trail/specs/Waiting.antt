@@ -1,5 +1,5 @@
 -- Requests that wait: for their write data, or for their answers.
-use Rattle.std.specs.Prelude.{ℕ, suc, ◌-◌, ◌==◌, nat_lt, ◌∷◌, [], List, map, if◌then◌else◌}
+use Rattle.std.specs.Prelude.{ℕ, suc, ◌+◌, ◌-◌, ◌==◌, nat_lt, ◌∷◌, [], List, map, if◌then◌else◌}
 
 -- a request that isn't finished, and how many of its beats have passed
 pub record Waiting (X : Type 0) : Type 0 where
@@ -15,6 +15,11 @@ request_of w = w.request
 
 -- Requests in order of issue; `len_of` tells how many beats of a request come after its first one.
 module _ {X : Type 0} (len_of : X → ℕ) where
+  -- how many beats these requests have
+  abbrev pub beats_by : List X → ℕ
+  beats_by [] = 0
+  beats_by (x ∷ xs) = suc (len_of x) + beats_by xs
+
   -- the requests whose beats aren't all among the first `count`, where beats come in order of the requests
   abbrev pub pending : ℕ → List X → List (Waiting X)
   pending count [] = []

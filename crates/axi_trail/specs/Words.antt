@@ -1,5 +1,5 @@
 -- What addresses, write data and answers show to the rules of order (Arm IHI 0022, ordering model).
-use Rattle.std.specs.Prelude.{ℕ, zero, suc, ◌+◌, ◌≤◌, ◌++◌, ◌∷◌, [], List, Bool, true, false, length, map, take, filter, flat_map}
+use Rattle.std.specs.Prelude.{◌≡◌, ℕ, ◌-◌, zero, suc, ◌≤◌, ◌++◌, ◌∷◌, [], List, Bool, true, false, length, map, take, filter, flat_map}
 use Rattle.axi_beats.specs.declared.beat.Addr.{Addr}
 use Rattle.axi_beats.specs.declared.beat.WBeat.{WBeat}
 use Rattle.axi_beats.specs.declared.beat.BBeat.{BBeat}
@@ -7,6 +7,7 @@ use Rattle.axi_beats.specs.declared.beat.RBeat.{RBeat}
 use Rattle.flight.specs.Entries.{of_key}
 use Rattle.axi_trail.specs.Streams.{IsPrefix}
 use Rattle.axi_trail.specs.Trail.{Beats}
+use Rattle.axi_trail.specs.Waiting.{Waiting, beats_by}
 
 -- the mark of a beat of a burst: the number of its transaction, and whether it is the last beat of its burst
 pub record Mark : Type 0 where
@@ -93,8 +94,16 @@ marks asked = flat_map marks_of asked
 
 -- how many beats these requests ask for
 abbrev pub beats_of : List Asked → ℕ
-beats_of [] = 0
-beats_of (a ∷ asked) = suc a.len + beats_of asked
+beats_of asked = beats_by len_of_asked asked
+
+-- a burst: its last beat has `last`, and no other one
+abbrev pub EndsAtLast : List Mark → Type 0
+EndsAtLast [] = ⊥
+EndsAtLast (m ∷ rest) = (m.last ≡ true → rest ≡ []) × (m.last ≡ false → EndsAtLast rest)
+
+-- the marks of the beats that a request still lacks
+abbrev pub owed_marks : Waiting Asked → List Mark
+owed_marks w = burst_marks w.request.number (w.request.len - w.done)
 
 -- the first requests, one for each beat with `last`
 module _ {X : Type 0} where

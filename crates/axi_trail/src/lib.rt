@@ -8,6 +8,8 @@
 
 mod contract_laws;
 mod trail_laws;
+mod word_laws;
 
 pub use contract_laws::laws_of_contracts;
 pub use trail_laws::laws_of_trails;
+pub use word_laws::{laws_of_beats, laws_of_held, laws_of_pending};

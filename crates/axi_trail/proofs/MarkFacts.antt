@@ -1,0 +1,180 @@
+-- Facts on the marks of bursts, and on those that pending requests lack.
+use Rattle.std.proofs.Common.{◌≡◌, ◌≢◌, ℕ, ◌+◌, ◌-◌, ◌<◌, ◌≤◌, suc, zero, true, false, cond, List, [], ◌∷◌, ◌++◌, length, take, drop, get_or, refl, sym, ◌∙◌, ap, inl, inr, arith, length-append}
+use Rattle.std.specs.Prelude.{filter, flat_map}
+use Rattle.std.proofs.lemmas.Bool.{cases_eq, cases_lt}
+use Rattle.std.proofs.lemmas.List.{get_or_append_left}
+use Rattle.flight.specs.Entries.{of_key}
+use Rattle.axi_trail.specs.Streams.{IsPrefix, Agree}
+use Rattle.axi_trail.specs.Waiting.{Waiting, pending, complete}
+use Rattle.axi_trail.specs.Words.{Mark, Asked, EndsAtLast, owed_marks, burst_marks, marks_of, marks, completed, number_of_mark, number_of_asked, len_of_asked}
+use Rattle.axi_trail.proofs.FilterFacts.{of_key-append, of_key-cons, of_key-skip, length-burst_marks, burst-all, burst-none}
+use Rattle.axi_trail.proofs.StreamFacts.{prefix_nil}
+use Rattle.axi_trail.proofs.WaitingFacts.{pending-past, pending-within, complete-past, complete-within}
+
+module _ {X : Type 0} where
+  agree_tail : (x y : X) (xs ys : List X) → Agree (x ∷ xs) (y ∷ ys) → Agree xs ys
+  agree_tail x y xs ys agree = record { same = λ place past in_xs in_ys. agree.same (suc place) past (omega arith) (omega arith) }
+
+  -- of two lists that agree, the shorter is the beginning of the longer
+  pub agree_prefix : (xs ys : List X) → Agree xs ys → length xs ≤ length ys → IsPrefix xs ys
+  agree_prefix [] ys agree le = prefix_nil ys
+  agree_prefix (x ∷ xs) [] agree le = absurd (omega arith)
+  agree_prefix (x ∷ xs) (y ∷ ys) agree le =
+      let tail : IsPrefix xs ys = agree_prefix xs ys (agree_tail x y xs ys agree) (omega arith) in
+      let head : x ≡ y = agree.same 0 x (omega arith) (omega arith) in
+      record { rest = tail.rest; whole = ap (λ t. y ∷ t) tail.whole ∙ ap (λ h. h ∷ (xs ++ tail.rest)) (sym head) }
+
+  pub prefix_agree : {xs ys : List X} → IsPrefix xs ys → Agree xs ys
+  prefix_agree {xs} p = record {
+    same = λ place past in_xs in_ys. sym (ap (λ t. get_or t place past) p.whole ∙ get_or_append_left xs p.rest past place in_xs);
+  }
+
+-- bursts end at their last beat
+pub burst_ends : (number len : ℕ) → EndsAtLast (burst_marks number len)
+burst_ends number zero = ((λ e. refl), (λ e. absurd (cc)))
+burst_ends number (suc len) = ((λ e. absurd (cc)), (λ e. burst_ends number len))
+
+-- what a burst lacks after some beats
+drop_burst : (number count len : ℕ) (rest : List Mark) → count ≤ len → drop count (burst_marks number len ++ rest) ≡ burst_marks number (len - count) ++ rest
+drop_burst number zero len rest le = ap (λ n. burst_marks number n ++ rest) (omega arith)
+drop_burst number (suc count) zero rest le = absurd (omega arith)
+drop_burst number (suc count) (suc len) rest le = drop_burst number count len rest (omega arith) ∙ ap (λ n. burst_marks number n ++ rest) (omega arith)
+
+drop_past : (count : ℕ) (xs ys : List Mark) → length xs ≤ count → drop count (xs ++ ys) ≡ drop (count - length xs) ys
+drop_past count [] ys le = ap (λ n. drop n ys) (omega arith)
+drop_past zero (x ∷ xs) ys le = absurd (omega arith)
+drop_past (suc count) (x ∷ xs) ys le = drop_past count xs ys (omega arith) ∙ ap (λ n. drop n ys) (omega arith)
+
+drop_none : (count : ℕ) → drop {A = Mark} count [] ≡ []
+drop_none zero = refl
+drop_none (suc count) = refl
+
+pub pending_owe_the_rest : (count : ℕ) (asked : List Asked) → drop count (marks asked) ≡ flat_map owed_marks (pending len_of_asked count asked)
+pending_owe_the_rest count [] = drop_none count
+pending_owe_the_rest count (a ∷ asked) = elim (cases_lt a.len count) [
+  | inl lt ↦
+      drop_past count (marks_of a) (marks asked) (omega (arith, length-burst_marks a.number a.len))
+      ∙ ap (λ n. drop n (marks asked)) (ap (λ n. count - n) (length-burst_marks a.number a.len))
+      ∙ pending_owe_the_rest (count - suc a.len) asked
+      ∙ ap (flat_map owed_marks) (sym (pending-past len_of_asked count a asked lt))
+  | inr ge ↦
+      drop_burst a.number count a.len (marks asked) ge
+      ∙ ap (λ rest. burst_marks a.number (a.len - count) ++ rest) (pending_owe_the_rest 0 asked)
+      ∙ ap (flat_map owed_marks) (sym (pending-within len_of_asked count a asked ge))
+]
+
+-- the beats of a transaction among the first ones
+take_past : (count : ℕ) (xs ys : List Mark) → length xs ≤ count → take count (xs ++ ys) ≡ xs ++ take (count - length xs) ys
+take_past count [] ys le = ap (λ n. take n ys) (omega arith)
+take_past zero (x ∷ xs) ys le = absurd (omega arith)
+take_past (suc count) (x ∷ xs) ys le = ap (λ t. x ∷ t) (take_past count xs ys (omega arith) ∙ ap (λ n. xs ++ take n ys) (omega arith))
+
+length_own : (number t count len : ℕ) (rest : List Mark) → number ≡ t → count ≤ len → length (of_key number_of_mark t (take count (burst_marks number len ++ rest))) ≡ count
+length_own number t zero len rest e le = refl
+length_own number t (suc count) zero rest e le = absurd (omega arith)
+length_own number t (suc count) (suc len) rest e le =
+    ap length (of_key-cons number_of_mark t (record { number = number; last = false }) (take count (burst_marks number len ++ rest)) e)
+    ∙ ap suc (length_own number t count len rest e (omega arith))
+
+length_other : (number t count len : ℕ) (rest : List Mark) → number ≢ t → count ≤ len → length (of_key number_of_mark t (take count (burst_marks number len ++ rest))) ≡ 0
+length_other number t zero len rest ne le = refl
+length_other number t (suc count) zero rest ne le = absurd (omega arith)
+length_other number t (suc count) (suc len) rest ne le =
+    ap length (of_key-skip number_of_mark t (record { number = number; last = false }) (take count (burst_marks number len ++ rest)) ne)
+    ∙ length_other number t count len rest ne (omega arith)
+
+number_waiting : Waiting Asked → ℕ
+number_waiting w = w.request.number
+
+pub pending_of_number : (t count : ℕ) (asked : List Asked) →
+    of_key (λ (w : Waiting Asked). w.request.number) t (pending len_of_asked count asked)
+    ≡ pending len_of_asked (length (of_key number_of_mark t (take count (marks asked)))) (of_key number_of_asked t asked)
+pending_of_number t count [] = refl
+pending_of_number t count (a ∷ asked) = elim (cases_lt a.len count) [
+  | inl lt ↦
+      let front : take count (marks_of a ++ marks asked) ≡ marks_of a ++ take (count - suc a.len) (marks asked) =
+      take_past count (marks_of a) (marks asked) (omega (arith, length-burst_marks a.number a.len)) ∙ ap (λ n. marks_of a ++ take (count - n) (marks asked)) (length-burst_marks a.number a.len) in
+      let own : of_key number_of_mark t (take count (marks_of a ++ marks asked)) ≡ of_key number_of_mark t (marks_of a) ++ of_key number_of_mark t (take (count - suc a.len) (marks asked)) =
+      ap (of_key number_of_mark t) front ∙ of_key-append number_of_mark t (marks_of a) (take (count - suc a.len) (marks asked)) in
+      ap (of_key (λ (w : Waiting Asked). w.request.number) t) (pending-past len_of_asked count a asked lt)
+      ∙ pending_of_number t (count - suc a.len) asked
+      ∙ elim (cases_eq a.number t) [
+        | inl e ↦
+            let all : length (of_key number_of_mark t (take count (marks_of a ++ marks asked))) ≡ suc a.len + length (of_key number_of_mark t (take (count - suc a.len) (marks asked))) =
+            ap length own ∙ length-append (of_key number_of_mark t (marks_of a)) (of_key number_of_mark t (take (count - suc a.len) (marks asked)))
+            ∙ ap (λ n. n + length (of_key number_of_mark t (take (count - suc a.len) (marks asked)))) (ap length (burst-all a.number t a.len e) ∙ length-burst_marks a.number a.len) in
+            ap (λ n. pending len_of_asked n (of_key number_of_asked t asked)) (omega arith)
+            ∙ sym (pending-past len_of_asked (length (of_key number_of_mark t (take count (marks_of a ++ marks asked)))) a (of_key number_of_asked t asked) (omega arith))
+            ∙ ap (pending len_of_asked (length (of_key number_of_mark t (take count (marks_of a ++ marks asked))))) (sym (of_key-cons number_of_asked t a asked e))
+        | inr ne ↦
+            let none : length (of_key number_of_mark t (take count (marks_of a ++ marks asked))) ≡ length (of_key number_of_mark t (take (count - suc a.len) (marks asked))) =
+            ap length (own ∙ ap (λ t'. t' ++ of_key number_of_mark t (take (count - suc a.len) (marks asked))) (burst-none a.number t a.len ne)) in
+            ap (λ n. pending len_of_asked n (of_key number_of_asked t asked)) (sym none)
+            ∙ ap (pending len_of_asked (length (of_key number_of_mark t (take count (marks_of a ++ marks asked))))) (sym (of_key-skip number_of_asked t a asked ne))
+      ]
+  | inr ge ↦
+      ap (of_key (λ (w : Waiting Asked). w.request.number) t) (pending-within len_of_asked count a asked ge)
+      ∙ elim (cases_eq a.number t) [
+        | inl e ↦
+            of_key-cons (λ (w : Waiting Asked). w.request.number) t (record { request = a; done = count }) (pending len_of_asked 0 asked) e
+            ∙ ap (λ rest. record { request = a; done = count } ∷ rest) (pending_of_number t 0 asked)
+            ∙ sym (pending-within len_of_asked count a (of_key number_of_asked t asked) ge)
+            ∙ ap (λ n. pending len_of_asked n (a ∷ of_key number_of_asked t asked)) (sym (length_own a.number t count a.len (marks asked) e ge))
+            ∙ ap (pending len_of_asked (length (of_key number_of_mark t (take count (marks_of a ++ marks asked))))) (sym (of_key-cons number_of_asked t a asked e))
+        | inr ne ↦
+            of_key-skip (λ (w : Waiting Asked). w.request.number) t (record { request = a; done = count }) (pending len_of_asked 0 asked) ne
+            ∙ pending_of_number t 0 asked
+            ∙ ap (λ n. pending len_of_asked n (of_key number_of_asked t asked)) (sym (length_other a.number t count a.len (marks asked) ne ge))
+            ∙ ap (pending len_of_asked (length (of_key number_of_mark t (take count (marks_of a ++ marks asked))))) (sym (of_key-skip number_of_asked t a asked ne))
+      ]
+]
+
+-- how many beats have `last`
+lasts : List Mark → ℕ
+lasts passed = length (filter (λ (m : Mark). m.last) passed)
+
+-- marks of a beginning that don't reach the end of the first burst have no `last`
+none_last : (number len : ℕ) (passed rest more : List Mark) → passed ++ rest ≡ burst_marks number len ++ more → length passed ≤ len → length (filter (λ (m : Mark). m.last) passed) ≡ 0
+none_last number len [] rest more e le = refl
+none_last number zero (m ∷ passed) rest more e le = absurd (omega arith)
+none_last number (suc len) (m ∷ passed) rest more e le =
+    let head : m ≡ record { number = number; last = false } = cc in
+    let tail : passed ++ rest ≡ burst_marks number len ++ more = cc in
+    ap (λ (h : Mark). length (cond h.last (m ∷ filter (λ (m : Mark). m.last) passed) (filter (λ (m : Mark). m.last) passed))) head ∙ none_last number len passed rest more tail (omega arith)
+
+-- marks of a beginning that reach it begin with the burst
+whole_burst : (number len : ℕ) (passed rest more : List Mark) → passed ++ rest ≡ burst_marks number len ++ more → len < length passed →
+    (others : List Mark) × (others ++ rest ≡ more) × (length passed ≡ suc len + length others) × (length (filter (λ (m : Mark). m.last) passed) ≡ suc (length (filter (λ (m : Mark). m.last) others)))
+whole_burst number len [] rest more e lt = absurd (omega arith)
+whole_burst number zero (m ∷ passed) rest more e lt =
+    let head : m ≡ record { number = number; last = true } = cc in
+    let tail : passed ++ rest ≡ more = cc in
+    (passed, tail, omega arith, ap (λ (h : Mark). length (cond h.last (m ∷ filter (λ (m : Mark). m.last) passed) (filter (λ (m : Mark). m.last) passed))) head)
+whole_burst number (suc len) (m ∷ passed) rest more e lt =
+    let head : m ≡ record { number = number; last = false } = cc in
+    let tail : passed ++ rest ≡ burst_marks number len ++ more = cc in
+    let found : (others : List Mark) × (others ++ rest ≡ more) × (length passed ≡ suc len + length others) × (length (filter (λ (m : Mark). m.last) passed) ≡ suc (length (filter (λ (m : Mark). m.last) others))) =
+    whole_burst number len passed rest more tail (omega arith) in
+    (found.0, found.1, omega (arith, found.2), ap (λ (h : Mark). length (cond h.last (m ∷ filter (λ (m : Mark). m.last) passed) (filter (λ (m : Mark). m.last) passed))) head ∙ found.3)
+
+take_none : {X : Type 0} (n : ℕ) → take {A = X} n [] ≡ []
+take_none zero = refl
+take_none (suc n) = refl
+
+completed_from : (asked : List Asked) (passed rest : List Mark) → passed ++ rest ≡ marks asked → completed asked passed ≡ complete len_of_asked (length passed) asked
+completed_from [] passed rest e = take_none (length (filter (λ (m : Mark). m.last) passed))
+completed_from (a ∷ asked) passed rest e = elim (cases_lt a.len (length passed)) [
+  | inl lt ↦
+      let found : (others : List Mark) × (others ++ rest ≡ marks asked) × (length passed ≡ suc a.len + length others) × (length (filter (λ (m : Mark). m.last) passed) ≡ suc (length (filter (λ (m : Mark). m.last) others))) =
+      whole_burst a.number a.len passed rest (marks asked) e lt in
+      ap (λ n. take n (a ∷ asked)) found.3
+      ∙ ap (λ t. a ∷ t) (completed_from asked found.0 rest found.1)
+      ∙ ap (λ n. a ∷ complete len_of_asked n asked) (omega (arith, found.2))
+      ∙ sym (complete-past len_of_asked (length passed) a asked lt)
+  | inr ge ↦
+      ap (λ n. take n (a ∷ asked)) (none_last a.number a.len passed rest (marks asked) e ge)
+      ∙ sym (complete-within len_of_asked (length passed) a asked ge)
+]
+
+pub completed_are_complete : (asked : List Asked) (passed : List Mark) → IsPrefix passed (marks asked) → completed asked passed ≡ complete len_of_asked (length passed) asked
+completed_are_complete asked passed p = completed_from asked passed p.rest (sym p.whole)
