@@ -3,7 +3,7 @@ use Rattle.std.proofs.Common.{◌≡◌, [], ◌∷◌, Some, None, refl}
 use Rattle.std.specs.Prelude.{codes}
 use Rattle.std.specs.Fmt.{digits, decimal}
 use Rattle.plain_text.specs.Lines.{lines}
-use Rattle.plain_text.specs.Numbers.{number_in, read_byte_pair, read_decimal, read_hexadecimal}
+use Rattle.plain_text.specs.Numbers.{number_in, read_byte_pair, read_decimal, read_hexadecimal, read_plain_decimal}
 use Rattle.plain_text.specs.Printing.{hexadecimal, pairs}
 use Rattle.plain_text.specs.Separator.{cut}
 use Rattle.plain_text.specs.Words.{words}
@@ -74,6 +74,18 @@ no_digit = refl
 signed : read_decimal (codes "+4") 100 ≡ None
 unfolding read_decimal number_in
 signed = refl
+
+plain_zero : read_plain_decimal (codes "0") 100 ≡ Some 0
+unfolding read_plain_decimal number_in
+plain_zero = refl
+
+plain_number : read_plain_decimal (codes "9223372036854775807") 9_223_372_036_854_775_808 ≡ Some 9_223_372_036_854_775_807
+unfolding read_plain_decimal number_in
+plain_number = refl
+
+needless_zero : read_plain_decimal (codes "042") 100 ≡ None
+unfolding read_plain_decimal number_in
+needless_zero = refl
 
 either_case : read_hexadecimal (codes "0xFf") 256 ≡ Some 255
 unfolding read_hexadecimal number_in

@@ -1,5 +1,5 @@
 -- The numbers that words spell.
-use Rattle.std.specs.Prelude.{ℕ, Bool, ◌&&◌, ◌==◌, nat_eq, nat_lt, nat_le, List, Option, None, Some, if◌then◌else◌, length, drop, codes}
+use Rattle.std.specs.Prelude.{ℕ, Bool, not, ◌&&◌, ◌||◌, ◌==◌, nat_eq, nat_lt, nat_le, List, Option, None, Some, if◌then◌else◌, length, drop, slice_index, codes}
 use Rattle.std.specs.List.{list_all, starts_with}
 use Rattle.std.specs.Char.{is_digit}
 use Rattle.std.specs.Str.Parse.{digits_value}
@@ -18,6 +18,14 @@ number_in digits base limit =
 -- 1 to 10 decimal digits, zeros at the front allowed, for a number below the limit
 unfoldable pub read_decimal : List ℕ → ℕ → Option ℕ
 read_decimal word limit = if nat_le (length word) 10 then number_in word 10 limit else None
+
+-- one digit, or more of which the first is no zero
+abbrev pub is_plain : List ℕ → Bool
+is_plain word = nat_lt (length word) 2 || not (slice_index word 0 == 48)
+
+-- decimal digits with no needless zero at the front, for a number below the limit
+unfoldable pub read_plain_decimal : List ℕ → ℕ → Option ℕ
+read_plain_decimal word limit = if is_plain word then number_in word 10 limit else None
 
 -- `0x` and 1 to 16 hexadecimal digits in either case, for a number below the limit
 unfoldable pub read_hexadecimal : List ℕ → ℕ → Option ℕ

@@ -8,4 +8,6 @@ pub mod line_buffer;
 pub mod lines;
 pub mod numbers;
 pub mod separator;
+#[cfg(test)]
+mod tests;
 pub mod words;

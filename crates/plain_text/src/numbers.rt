@@ -1,7 +1,7 @@
 //! The numbers that words spell.
 
 ghost use Rattle.std.specs.Prelude.{◌≡◌, ◌<◌, ◌≤◌, IfSome};
-ghost use Rattle.plain_text.specs.Numbers.{number_in, read_byte_pair, read_decimal, read_hexadecimal};
+ghost use Rattle.plain_text.specs.Numbers.{number_in, read_byte_pair, read_decimal, read_hexadecimal, read_plain_decimal};
 
 /// The number that the digits spell in the base, where each byte is a digit of the base in either
 /// case and the number is below the limit. No digit spells no number.
@@ -33,6 +33,19 @@ pub fn read_decimal(word: &[u8], limit: u64) -> Option<u64>
     ensures below { IfSome result (λ n. n < limit) }
 {
     if word.len() <= 10 {
+        number_in(word, 10, limit)
+    } else {
+        None
+    }
+}
+
+/// The number below the limit that decimal digits without needless zeros at the front spell.
+#[tactic(auto, unfolding(crate::specs::Numbers::read_plain_decimal))]
+pub fn read_plain_decimal(word: &[u8], limit: u64) -> Option<u64>
+    ensures number { result ≡ read_plain_decimal word.now limit }
+    ensures below { IfSome result (λ n. n < limit) }
+{
+    if word.len() < 2 || word[0] != b'0' {
         number_in(word, 10, limit)
     } else {
         None

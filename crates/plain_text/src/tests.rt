@@ -1,0 +1,70 @@
+// Known values of each public call, worked by hand.
+
+use crate::line_buffer::LineBuffer;
+use crate::lines::next_line;
+use crate::numbers::{
+    number_in, read_byte_pair, read_decimal, read_hexadecimal, read_plain_decimal,
+};
+use crate::separator::{begins_with_separator, cut_at_separator, cut_text, is_separator};
+use crate::words::{has_no_word, is_word, next_word};
+use std::test::Fail;
+
+#[test]
+fn texts_are_read(rt: HostRuntime) -> Result<(), Fail> {
+    let text = b"a\r\n%%\n\tread  cpu \n";
+    let (line, rest) = next_line(text);
+    assert!(rt; is_word(line, b"a"));
+    assert!(rt; begins_with_separator(rest));
+    assert!(rt; !is_separator(line));
+    let (before, after) = cut_at_separator(text).ok_or("not cut")?;
+    assert!(rt; is_word(before, b"a\r\n"));
+    let (word, behind) = next_word(after).ok_or("no word")?;
+    assert!(rt; is_word(word, b"read"));
+    assert!(rt; !has_no_word(behind));
+    let (before, after) = cut_text("é\n%%").ok_or("not cut")?;
+    assert_eq!(rt; before, "é\n");
+    assert!(rt; after.is_empty());
+    for (word, value) in [
+        ("0042", Some(42)),
+        ("99", Some(99)),
+        ("100", None),
+        ("", None),
+        ("00000000042", None),
+    ] {
+        assert_eq!(rt; read_decimal(word.as_bytes(), 100), value, "at {word}");
+    }
+    for (word, value) in [
+        ("0xfF", Some(255)),
+        ("0x100", None),
+        ("0x", None),
+        ("fF", None),
+    ] {
+        assert_eq!(rt; read_hexadecimal(word.as_bytes(), 256), value, "at {word}");
+    }
+    assert_eq!(rt; read_plain_decimal(b"42", 100), Some(42));
+    assert_eq!(rt; read_plain_decimal(b"042", 100), None);
+    assert_eq!(rt; read_byte_pair(b"7f"), Some(127));
+    assert_eq!(rt; number_in(b"zz", 36, 1296), Some(1295));
+    Ok(())
+}
+
+#[test]
+fn lines_are_written(rt: HostRuntime) -> Result<(), Fail> {
+    let mut line = LineBuffer::new(rt.alloc())?;
+    line.push(b"dropped");
+    line.clear();
+    line.push_decimal(u64::MAX);
+    line.push(b" ");
+    line.push_hexadecimal(u128::MAX);
+    line.push(b" ");
+    line.push_hexadecimal(0);
+    line.push(b":");
+    line.push_pairs(&[0, 10, 255]);
+    assert!(rt;
+        is_word(
+            line.bytes(),
+            b"18446744073709551615 ffffffffffffffffffffffffffffffff 0:000aff"
+        )
+    );
+    Ok(())
+}
