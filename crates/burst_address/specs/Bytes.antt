@@ -7,8 +7,8 @@ use Rattle.axi_beats.specs.declared.beat.Addr.{Addr}
 use Rattle.axi_beats.specs.declared.beat.WBeat.{WBeat}
 use Rattle.burst_address.specs.Formulas.{aligned, size_of, beats_of, beat_at}
 
--- the addresses of the valid bytes of a beat at an address, ascending: from the address to the end of the aligned
--- block that it lies in
+-- the addresses of the valid bytes of a beat at an address, ascending: from the address to the end
+-- of the aligned block that it lies in
 abbrev pub valid_bytes : ℕ → ℕ → List ℕ
 valid_bytes size address = range_with_len address (aligned size address + size - address)
 
@@ -42,6 +42,10 @@ written (address ∷ addresses) [] = []
 written (address ∷ addresses) (None ∷ values) = written addresses values
 written (address ∷ addresses) (Some value ∷ values) = (address, value) ∷ written addresses values
 
--- the bytes that a write with these W beats writes, in burst order
+-- the bytes that W beat n writes, ascending
+abbrev pub beat_written : ℕ → Addr → ℕ → WBeat → List (ℕ × ℕ)
+beat_written bus a n w = written (beat_bytes a n) (map (strobed_byte bus w) (beat_bytes a n))
+
+-- the bytes that a write with these W beats, from the first one on, writes, in burst order
 abbrev pub written_bytes : ℕ → Addr → List WBeat → List (ℕ × ℕ)
 written_bytes bus a ws = written (burst_bytes a) (strobed_bytes bus a 0 ws)

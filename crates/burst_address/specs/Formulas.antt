@@ -1,5 +1,5 @@
--- Where the beats of a burst lie (Arm IHI 0022, burst address structure). All sizes are in bytes, and the beats
--- of a burst are numbered from 0.
+-- Where the beats of a burst lie (Arm IHI 0022, burst address structure). All sizes are in bytes,
+-- and the beats of a burst are numbered from 0.
 use Rattle.std.specs.Prelude.{ℕ, ◌+◌, ◌-◌, ◌*◌, ◌/◌, ◌%◌, ◌^◌, if◌then◌else◌, nat_lt}
 use Rattle.std.proofs.Common.{zero, suc}
 use Rattle.axi_beats.specs.declared.beat.Addr.{Addr}
@@ -10,12 +10,14 @@ use Rattle.axi_beats.specs.declared.beat.Burst.TheVariants.{Fixed, Incr, Wrap}
 abbrev pub aligned : ℕ → ℕ → ℕ
 aligned size address = address / size * size
 
--- beat 0 of an INCR burst is at the start, and the others are one size apart from the aligned start on
+-- beat 0 of an INCR burst is at the start, and the others are one size apart from the aligned start
+-- on
 abbrev pub incr_address : ℕ → ℕ → ℕ → ℕ
 incr_address size start zero = start
 incr_address size start (suc n) = aligned size start + suc n * size
 
--- the lowest address of a WRAP burst: the start rounded down to a multiple of all that the burst transfers
+-- the lowest address of a WRAP burst: the start rounded down to a multiple of all that the burst
+-- transfers
 abbrev pub wrap_boundary : ℕ → ℕ → ℕ → ℕ
 wrap_boundary size beats start = aligned (size * beats) start
 
@@ -44,8 +46,8 @@ beats_of a = a.len + 1
 abbrev pub beat_at : Addr → ℕ → ℕ
 beat_at a n = address_of a.burst (size_of a) (beats_of a) a.addr n
 
--- the lanes that hold valid bytes of a beat run from the lane of its address to the lane of the last byte of the
--- aligned block that its address lies in
+-- the lanes that hold valid bytes of a beat run from the lane of its address to the lane of the
+-- last byte of the aligned block that its address lies in
 abbrev pub lower_lane : ℕ → ℕ → ℕ
 lower_lane bus address = address % bus
 

@@ -1,5 +1,5 @@
--- Which bursts are legal (Arm IHI 0022, burst length, burst size and burst type): four rules, of which the first
--- that is broken counts.
+-- Which bursts are legal (Arm IHI 0022, burst length, burst size and burst type): four rules, of
+-- which the first that is broken counts.
 use Rattle.std.specs.Prelude.{◌≡◌, ℕ, ◌+◌, ◌-◌, ◌*◌, ◌/◌, ◌%◌, ◌==◌, ◌||◌, Bool, true, not, if◌then◌else◌, nat_lt, Option, Some, None}
 use Rattle.axi_beats.specs.declared.beat.Addr.{Addr}
 use Rattle.axi_beats.specs.declared.beat.Burst.{Burst}

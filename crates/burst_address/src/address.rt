@@ -21,8 +21,8 @@ pub fn beat_address(a: &Addr, n: u32) -> u64
     }
 }
 
-/// The lowest and the highest valid lane of beat `n`, counted from 0, on a bus of `bus` bytes, on which the burst
-/// is legal.
+/// The lowest and the highest valid lane of beat `n`, counted from 0, on a bus of `bus` bytes, on
+/// which the burst is legal.
 pub fn lanes(a: &Addr, n: u32, bus: u8) -> (u8, u8)
     requires beat { n ≤ a.now.len }
     requires start { a.now.addr < 2 ^ 63 }

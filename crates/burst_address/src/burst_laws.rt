@@ -1,5 +1,5 @@
 //! What holds of every legal burst.
-ghost use Rattle.burst_address.specs.Laws.{LegalOnWider, OnePage, BelowLimit, OneLine, ValidCount, LanesFollow, IncrAscends, WrapVisitsOnce, FixedRepeats, StrobesBelow};
+ghost use Rattle.burst_address.specs.Laws.{LegalOnWider, OnePage, BelowLimit, OneLine, ValidCount, LanesFollow, IncrAscends, WrapVisitsOnce, FixedRepeats, StrobesBelow, WritesBeatByBeat};
 
 /// The laws of legal bursts and their bytes.
 pub fn laws()
@@ -19,4 +19,7 @@ pub fn laws()
     ensures incr { IncrAscends }
     ensures wrap { WrapVisitsOnce }
     ensures fixed { FixedRepeats }
+
+    // What a write writes.
+    ensures written { WritesBeatByBeat }
 {}

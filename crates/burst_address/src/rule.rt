@@ -12,7 +12,8 @@ use axi_beats::{Addr, Burst};
 pub enum BurstRule {
     /// A beat is wider than the bus.
     Size,
-    /// The number of beats isn't allowed for the kind: INCR 1 to 256, FIXED 1 to 16, WRAP 2, 4, 8 or 16.
+    /// The number of beats isn't allowed for the kind: INCR 1 to 256, FIXED 1 to 16, WRAP 2, 4, 8
+    /// or 16.
     Length,
     /// A WRAP burst doesn't start at a multiple of its beats' size.
     WrapAlign,

@@ -1,4 +1,5 @@
 use Rattle.burst_address.proofs.Beats.{incr-bytes, wrap-bytes, burst-page, burst-limit, beat-line, beat-count, beat-follow, strobes-below}
+use Rattle.burst_address.proofs.Written.{written-more}
 use Rattle.burst_address.proofs.burst_laws.laws.Goals as goal
 
 pub returns-clause-page : goal.returns-clause-page
@@ -24,3 +25,6 @@ returns-clause-incr c = incr-bytes
 
 pub returns-clause-wrap : goal.returns-clause-wrap
 returns-clause-wrap c = wrap-bytes
+
+pub returns-clause-written : goal.returns-clause-written
+returns-clause-written c = written-more
