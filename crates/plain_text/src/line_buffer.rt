@@ -32,7 +32,7 @@ impl LineBuffer {
     pub fn new(alloc: Global) -> Result<LineBuffer, AllocError>
         ensures { IfOk result (λ line. line ≡ []) }
     {
-        let bytes = Vec::with_capacity(alloc, 16_384)?;
+        let bytes = Vec::with_capacity(alloc, Self::ROOM)?;
         Ok(LineBuffer { bytes })
     }
 
