@@ -5,5 +5,15 @@
 //! runtime's streams. `status` has the answers of the top call.
 #![tactic(auto)]
 
-pub mod outside;
-pub mod status;
+mod outside;
+mod status;
+
+pub use outside::gate::{Gate, OpenGate};
+pub use outside::memory_sink::MemorySink;
+pub use outside::memory_source::MemorySource;
+pub use outside::read_all::{InputFault, read_all};
+pub use outside::sink::Sink;
+pub use outside::source::{Failed, Source};
+pub use outside::standard::{StdinSource, StdoutSink};
+pub use outside::write_all::write_piece;
+pub use status::{Refusal, Status};

@@ -1,4 +1,4 @@
-use Rattle.std.proofs.Common.{arith, ℕ, List, ◌≡◌, ◌<◌, ◌++◌, ◌+◌, ◌-◌, length, take, drop, min, ap, sym, ◌∙◌, subst, []}
+use Rattle.std.proofs.Common.{arith, ℕ, List, ◌≡◌, ◌++◌, ◌+◌, ◌-◌, length, take, drop, min, ap, sym, ◌∙◌}
 use Rattle.std.proofs.lemmas.List.{take_rest, drop-drop}
 use Rattle.axi_program.proofs.TransferLemmas.{read-moves}
 use Rattle.axi_program.proofs.outside.memory_source.MemorySourceSource.read.Goals as goal
