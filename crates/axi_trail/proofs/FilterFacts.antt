@@ -1,14 +1,34 @@
 -- Facts on the beats of a number or of an ID, and on how many they are.
 use Rattle.std.proofs.Common.{◌≡◌, ◌≢◌, ℕ, ◌+◌, ◌-◌, ◌<◌, ◌≤◌, ◌==◌, suc, zero, Bool, true, false, cond, List, [], ◌∷◌, ◌++◌, length, map, replicate, refl, sym, ◌∙◌, ap, subst, inl, inr, arith, eq-eqb, append-nil, length-append, length-drop}
 use Rattle.std.specs.Prelude.{filter}
-use Rattle.std.proofs.lemmas.Bool.{ne_eqb, cases_eq}
+use Rattle.std.proofs.lemmas.Bool.{ne_eqb, cases_eq, cases_Bool}
 use Rattle.std.proofs.lemmas.List.{length-replicate}
 use Rattle.std.proofs.lemmas.List.Elements.{filter-append}
 use Rattle.flight.specs.Entries.{of_key, count_of, without_oldest}
 use Rattle.flight.proofs.EntryFacts.{of_key-without, of_key-without_other}
+use Rattle.axi_trail.specs.Streams.{selected}
 use Rattle.axi_trail.specs.Words.{Asked, burst_marks, marks_of, marks, beats_of, number_of_mark, number_of_asked, id_of_asked}
 
 module _ {X : Type 0} where
+  pub filter_cons : (test : X → Bool) (x : X) (xs : List X) → test x ≡ true → filter test (x ∷ xs) ≡ x ∷ filter test xs
+  filter_cons test x xs e = ap (λ b. cond b (x ∷ filter test xs) (filter test xs)) e
+
+  pub filter_skip : (test : X → Bool) (x : X) (xs : List X) → test x ≡ false → filter test (x ∷ xs) ≡ filter test xs
+  filter_skip test x xs e = ap (λ b. cond b (x ∷ filter test xs) (filter test xs)) e
+
+  pub filter-push : (test : X → Bool) (xs : List X) (x : X) → test x ≡ true → filter test (xs ++ x ∷ []) ≡ filter test xs ++ x ∷ []
+  filter-push test xs x e = filter-append test xs (x ∷ []) ∙ ap (λ t. filter test xs ++ t) (filter_cons test x [] e)
+
+  pub filter-push_skip : (test : X → Bool) (xs : List X) (x : X) → test x ≡ false → filter test (xs ++ x ∷ []) ≡ filter test xs
+  filter-push_skip test xs x e = filter-append test xs (x ∷ []) ∙ ap (λ t. filter test xs ++ t) (filter_skip test x [] e) ∙ append-nil (filter test xs)
+
+  pub filter_map : {Y : Type 0} (test : Y → Bool) (g : X → Y) (xs : List X) → filter test (map g xs) ≡ map g (filter (λ x. test (g x)) xs)
+  filter_map test g [] = refl
+  filter_map test g (x ∷ xs) =
+      let go : (b : Bool) → cond b (g x ∷ filter test (map g xs)) (filter test (map g xs)) ≡ map g (cond b (x ∷ filter (λ y. test (g y)) xs) (filter (λ y. test (g y)) xs)) =
+      elim [ true ↦ ap (λ t. g x ∷ t) (filter_map test g xs) | false ↦ filter_map test g xs ]
+      in go (test (g x))
+
   -- two filters in either order
   filter-step : (p q : X → Bool) (x : X) (xs : List X) → filter p (filter q xs) ≡ filter q (filter p xs) →
       (b c : Bool) → p x ≡ b → q x ≡ c → filter p (cond c (x ∷ filter q xs) (filter q xs)) ≡ filter q (cond b (x ∷ filter p xs) (filter p xs))
@@ -91,30 +111,33 @@ pub length-burst_marks : (number len : ℕ) → length (burst_marks number len) 
 length-burst_marks number zero = refl
 length-burst_marks number (suc len) = ap suc (length-burst_marks number len)
 
-pub burst-all : (number t len : ℕ) → number ≡ t → of_key number_of_mark t (burst_marks number len) ≡ burst_marks number len
-burst-all number t zero e = of_key-cons number_of_mark t (record { number = number; last = true }) [] e
-burst-all number t (suc len) e =
-    of_key-cons number_of_mark t (record { number = number; last = false }) (burst_marks number len) e
-    ∙ ap (λ rest. record { number = number; last = false } ∷ rest) (burst-all number t len e)
+pub burst_selected : (selects : ℕ → Bool) (number len : ℕ) → selects number ≡ true → selected number_of_mark selects (burst_marks number len) ≡ burst_marks number len
+burst_selected selects number zero e = filter_cons (λ m. selects (number_of_mark m)) (record { number = number; last = true }) [] e
+burst_selected selects number (suc len) e =
+    filter_cons (λ m. selects (number_of_mark m)) (record { number = number; last = false }) (burst_marks number len) e
+    ∙ ap (λ rest. record { number = number; last = false } ∷ rest) (burst_selected selects number len e)
 
-pub burst-none : (number t len : ℕ) → number ≢ t → of_key number_of_mark t (burst_marks number len) ≡ []
-burst-none number t zero ne = of_key-skip number_of_mark t (record { number = number; last = true }) [] ne
-burst-none number t (suc len) ne =
-    of_key-skip number_of_mark t (record { number = number; last = false }) (burst_marks number len) ne ∙ burst-none number t len ne
+pub burst_left_out : (selects : ℕ → Bool) (number len : ℕ) → selects number ≡ false → selected number_of_mark selects (burst_marks number len) ≡ []
+burst_left_out selects number zero e = filter_skip (λ m. selects (number_of_mark m)) (record { number = number; last = true }) [] e
+burst_left_out selects number (suc len) e =
+    filter_skip (λ m. selects (number_of_mark m)) (record { number = number; last = false }) (burst_marks number len) e ∙ burst_left_out selects number len e
 
--- the marks of a transaction are those of its requests
-pub marks-of_number : (t : ℕ) (asked : List Asked) → of_key number_of_mark t (marks asked) ≡ marks (of_key number_of_asked t asked)
-marks-of_number t [] = refl
-marks-of_number t (a ∷ asked) =
-    of_key-append number_of_mark t (marks_of a) (marks asked)
-    ∙ elim (cases_eq a.number t) [
-      | inl e ↦ ap (λ own. own ++ of_key number_of_mark t (marks asked)) (burst-all a.number t a.len e)
-          ∙ ap (λ rest. marks_of a ++ rest) (marks-of_number t asked)
-          ∙ ap marks (sym (of_key-cons number_of_asked t a asked e))
-      | inr ne ↦ ap (λ own. own ++ of_key number_of_mark t (marks asked)) (burst-none a.number t a.len ne)
-          ∙ marks-of_number t asked
-          ∙ ap marks (sym (of_key-skip number_of_asked t a asked ne))
+-- the marks of selected transactions are those of their requests
+pub marks-selected : (selects : ℕ → Bool) (asked : List Asked) → selected number_of_mark selects (marks asked) ≡ marks (selected number_of_asked selects asked)
+marks-selected selects [] = refl
+marks-selected selects (a ∷ asked) =
+    filter-append (λ m. selects (number_of_mark m)) (marks_of a) (marks asked)
+    ∙ elim (cases_Bool (selects a.number)) [
+      | inl e ↦ ap (λ own. own ++ selected number_of_mark selects (marks asked)) (burst_selected selects a.number a.len e)
+          ∙ ap (λ rest. marks_of a ++ rest) (marks-selected selects asked)
+          ∙ ap marks (sym (filter_cons (λ x. selects (number_of_asked x)) a asked e))
+      | inr ne ↦ ap (λ own. own ++ selected number_of_mark selects (marks asked)) (burst_left_out selects a.number a.len ne)
+          ∙ marks-selected selects asked
+          ∙ ap marks (sym (filter_skip (λ x. selects (number_of_asked x)) a asked ne))
     ]
+
+pub marks-of_number : (t : ℕ) (asked : List Asked) → of_key number_of_mark t (marks asked) ≡ marks (of_key number_of_asked t asked)
+marks-of_number t asked = marks-selected (λ n. n == t) asked
 
 pub length-marks : (asked : List Asked) → length (marks asked) ≡ beats_of asked
 length-marks [] = refl

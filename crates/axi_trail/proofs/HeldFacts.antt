@@ -14,10 +14,10 @@ module _ {X : Type 0} (len_of id_of : X → ℕ) where
   abbrev id_waiting : Waiting X → ℕ
   id_waiting w = id_of w.request
 
-  once-own : (id : ℕ) (w : Waiting X) (ws : List (Waiting X)) → id_of w.request ≡ id → answered_once len_of id_of id (w ∷ ws) ≡ advanced len_of (w ∷ ws)
+  pub once-own : (id : ℕ) (w : Waiting X) (ws : List (Waiting X)) → id_of w.request ≡ id → answered_once len_of id_of id (w ∷ ws) ≡ advanced len_of (w ∷ ws)
   once-own id w ws e = ap (λ b. cond b (advanced len_of (w ∷ ws)) (w ∷ answered_once len_of id_of id ws)) (eq-eqb (id_of w.request) id e)
 
-  once-other : (id : ℕ) (w : Waiting X) (ws : List (Waiting X)) → id_of w.request ≢ id → answered_once len_of id_of id (w ∷ ws) ≡ w ∷ answered_once len_of id_of id ws
+  pub once-other : (id : ℕ) (w : Waiting X) (ws : List (Waiting X)) → id_of w.request ≢ id → answered_once len_of id_of id (w ∷ ws) ≡ w ∷ answered_once len_of id_of id ws
   once-other id w ws ne = ap (λ b. cond b (advanced len_of (w ∷ ws)) (w ∷ answered_once len_of id_of id ws)) (ne_eqb (id_of w.request) id ne)
 
   -- answers come one after the other

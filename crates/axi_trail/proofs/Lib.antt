@@ -1,9 +1,11 @@
+pub mod DataFacts
 pub mod FilterFacts
 pub mod HeldFacts
 pub mod MarkFacts
 pub mod OrderFacts
 pub mod PrefixFacts
 pub mod SlackFacts
+pub mod StepFacts
 pub mod StreamFacts
 pub mod TrailFacts
 pub mod WaitingFacts

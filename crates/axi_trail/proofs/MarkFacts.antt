@@ -1,13 +1,13 @@
 -- Facts on the marks of bursts, and on those that pending requests lack.
-use Rattle.std.proofs.Common.{◌≡◌, ◌≢◌, ℕ, ◌+◌, ◌-◌, ◌<◌, ◌≤◌, suc, zero, true, false, cond, List, [], ◌∷◌, ◌++◌, length, take, drop, get_or, refl, sym, ◌∙◌, ap, inl, inr, arith, length-append}
+use Rattle.std.proofs.Common.{◌≡◌, ℕ, ◌+◌, ◌-◌, ◌<◌, ◌≤◌, suc, zero, Bool, true, false, cond, List, [], ◌∷◌, ◌++◌, length, take, drop, get_or, refl, sym, ◌∙◌, ap, inl, inr, arith, length-append}
 use Rattle.std.specs.Prelude.{filter, flat_map}
-use Rattle.std.proofs.lemmas.Bool.{cases_eq, cases_lt}
+use Rattle.std.proofs.lemmas.Bool.{cases_Bool, cases_lt}
 use Rattle.std.proofs.lemmas.List.{get_or_append_left}
-use Rattle.flight.specs.Entries.{of_key}
-use Rattle.axi_trail.specs.Streams.{IsPrefix, Agree}
-use Rattle.axi_trail.specs.Waiting.{Waiting, pending, complete}
-use Rattle.axi_trail.specs.Words.{Mark, Asked, EndsAtLast, owed_marks, burst_marks, marks_of, marks, completed, number_of_mark, number_of_asked, len_of_asked}
-use Rattle.axi_trail.proofs.FilterFacts.{of_key-append, of_key-cons, of_key-skip, length-burst_marks, burst-all, burst-none}
+use Rattle.std.proofs.lemmas.List.Elements.{filter-append}
+use Rattle.axi_trail.specs.Streams.{IsPrefix, Agree, selected}
+use Rattle.axi_trail.specs.Waiting.{pending, complete}
+use Rattle.axi_trail.specs.Words.{Mark, Asked, EndsAtLast, owed_marks, pending_asked, burst_marks, marks_of, marks, completed, number_of_mark, number_of_asked, number_of_waiting, len_of_asked}
+use Rattle.axi_trail.proofs.FilterFacts.{filter_cons, filter_skip, burst_selected, burst_left_out, length-burst_marks}
 use Rattle.axi_trail.proofs.StreamFacts.{prefix_nil}
 use Rattle.axi_trail.proofs.WaitingFacts.{pending-past, pending-within, complete-past, complete-within}
 
@@ -69,69 +69,63 @@ take_past count [] ys le = ap (λ n. take n ys) (omega arith)
 take_past zero (x ∷ xs) ys le = absurd (omega arith)
 take_past (suc count) (x ∷ xs) ys le = ap (λ t. x ∷ t) (take_past count xs ys (omega arith) ∙ ap (λ n. xs ++ take n ys) (omega arith))
 
-length_own : (number t count len : ℕ) (rest : List Mark) → number ≡ t → count ≤ len → length (of_key number_of_mark t (take count (burst_marks number len ++ rest))) ≡ count
-length_own number t zero len rest e le = refl
-length_own number t (suc count) zero rest e le = absurd (omega arith)
-length_own number t (suc count) (suc len) rest e le =
-    ap length (of_key-cons number_of_mark t (record { number = number; last = false }) (take count (burst_marks number len ++ rest)) e)
-    ∙ ap suc (length_own number t count len rest e (omega arith))
+length_own : (selects : ℕ → Bool) (number count len : ℕ) (rest : List Mark) → selects number ≡ true → count ≤ len → length (selected number_of_mark selects (take count (burst_marks number len ++ rest))) ≡ count
+length_own selects number zero len rest e le = refl
+length_own selects number (suc count) zero rest e le = absurd (omega arith)
+length_own selects number (suc count) (suc len) rest e le =
+    ap length (filter_cons (λ m. selects (number_of_mark m)) (record { number = number; last = false }) (take count (burst_marks number len ++ rest)) e)
+    ∙ ap suc (length_own selects number count len rest e (omega arith))
 
-length_other : (number t count len : ℕ) (rest : List Mark) → number ≢ t → count ≤ len → length (of_key number_of_mark t (take count (burst_marks number len ++ rest))) ≡ 0
-length_other number t zero len rest ne le = refl
-length_other number t (suc count) zero rest ne le = absurd (omega arith)
-length_other number t (suc count) (suc len) rest ne le =
-    ap length (of_key-skip number_of_mark t (record { number = number; last = false }) (take count (burst_marks number len ++ rest)) ne)
-    ∙ length_other number t count len rest ne (omega arith)
+length_other : (selects : ℕ → Bool) (number count len : ℕ) (rest : List Mark) → selects number ≡ false → count ≤ len → length (selected number_of_mark selects (take count (burst_marks number len ++ rest))) ≡ 0
+length_other selects number zero len rest ne le = refl
+length_other selects number (suc count) zero rest ne le = absurd (omega arith)
+length_other selects number (suc count) (suc len) rest ne le =
+    ap length (filter_skip (λ m. selects (number_of_mark m)) (record { number = number; last = false }) (take count (burst_marks number len ++ rest)) ne)
+    ∙ length_other selects number count len rest ne (omega arith)
 
-number_waiting : Waiting Asked → ℕ
-number_waiting w = w.request.number
-
-pub pending_of_number : (t count : ℕ) (asked : List Asked) →
-    of_key (λ (w : Waiting Asked). w.request.number) t (pending len_of_asked count asked)
-    ≡ pending len_of_asked (length (of_key number_of_mark t (take count (marks asked)))) (of_key number_of_asked t asked)
-pending_of_number t count [] = refl
-pending_of_number t count (a ∷ asked) = elim (cases_lt a.len count) [
-  | inl lt ↦
-      let front : take count (marks_of a ++ marks asked) ≡ marks_of a ++ take (count - suc a.len) (marks asked) =
-      take_past count (marks_of a) (marks asked) (omega (arith, length-burst_marks a.number a.len)) ∙ ap (λ n. marks_of a ++ take (count - n) (marks asked)) (length-burst_marks a.number a.len) in
-      let own : of_key number_of_mark t (take count (marks_of a ++ marks asked)) ≡ of_key number_of_mark t (marks_of a) ++ of_key number_of_mark t (take (count - suc a.len) (marks asked)) =
-      ap (of_key number_of_mark t) front ∙ of_key-append number_of_mark t (marks_of a) (take (count - suc a.len) (marks asked)) in
-      ap (of_key (λ (w : Waiting Asked). w.request.number) t) (pending-past len_of_asked count a asked lt)
-      ∙ pending_of_number t (count - suc a.len) asked
-      ∙ elim (cases_eq a.number t) [
-        | inl e ↦
-            let all : length (of_key number_of_mark t (take count (marks_of a ++ marks asked))) ≡ suc a.len + length (of_key number_of_mark t (take (count - suc a.len) (marks asked))) =
-            ap length own ∙ length-append (of_key number_of_mark t (marks_of a)) (of_key number_of_mark t (take (count - suc a.len) (marks asked)))
-            ∙ ap (λ n. n + length (of_key number_of_mark t (take (count - suc a.len) (marks asked)))) (ap length (burst-all a.number t a.len e) ∙ length-burst_marks a.number a.len) in
-            ap (λ n. pending len_of_asked n (of_key number_of_asked t asked)) (omega arith)
-            ∙ sym (pending-past len_of_asked (length (of_key number_of_mark t (take count (marks_of a ++ marks asked)))) a (of_key number_of_asked t asked) (omega arith))
-            ∙ ap (pending len_of_asked (length (of_key number_of_mark t (take count (marks_of a ++ marks asked))))) (sym (of_key-cons number_of_asked t a asked e))
-        | inr ne ↦
-            let none : length (of_key number_of_mark t (take count (marks_of a ++ marks asked))) ≡ length (of_key number_of_mark t (take (count - suc a.len) (marks asked))) =
-            ap length (own ∙ ap (λ t'. t' ++ of_key number_of_mark t (take (count - suc a.len) (marks asked))) (burst-none a.number t a.len ne)) in
-            ap (λ n. pending len_of_asked n (of_key number_of_asked t asked)) (sym none)
-            ∙ ap (pending len_of_asked (length (of_key number_of_mark t (take count (marks_of a ++ marks asked))))) (sym (of_key-skip number_of_asked t a asked ne))
-      ]
-  | inr ge ↦
-      ap (of_key (λ (w : Waiting Asked). w.request.number) t) (pending-within len_of_asked count a asked ge)
-      ∙ elim (cases_eq a.number t) [
-        | inl e ↦
-            of_key-cons (λ (w : Waiting Asked). w.request.number) t (record { request = a; done = count }) (pending len_of_asked 0 asked) e
-            ∙ ap (λ rest. record { request = a; done = count } ∷ rest) (pending_of_number t 0 asked)
-            ∙ sym (pending-within len_of_asked count a (of_key number_of_asked t asked) ge)
-            ∙ ap (λ n. pending len_of_asked n (a ∷ of_key number_of_asked t asked)) (sym (length_own a.number t count a.len (marks asked) e ge))
-            ∙ ap (pending len_of_asked (length (of_key number_of_mark t (take count (marks_of a ++ marks asked))))) (sym (of_key-cons number_of_asked t a asked e))
-        | inr ne ↦
-            of_key-skip (λ (w : Waiting Asked). w.request.number) t (record { request = a; done = count }) (pending len_of_asked 0 asked) ne
-            ∙ pending_of_number t 0 asked
-            ∙ ap (λ n. pending len_of_asked n (of_key number_of_asked t asked)) (sym (length_other a.number t count a.len (marks asked) ne ge))
-            ∙ ap (pending len_of_asked (length (of_key number_of_mark t (take count (marks_of a ++ marks asked))))) (sym (of_key-skip number_of_asked t a asked ne))
-      ]
-]
-
--- how many beats have `last`
-lasts : List Mark → ℕ
-lasts passed = length (filter (λ (m : Mark). m.last) passed)
+module _ (selects : ℕ → Bool) where
+  pub pending_of_selected : (count : ℕ) (asked : List Asked) →
+      selected number_of_waiting selects (pending_asked count asked)
+      ≡ pending_asked (length (selected number_of_mark selects (take count (marks asked)))) (selected number_of_asked selects asked)
+  pending_of_selected count [] = refl
+  pending_of_selected count (a ∷ asked) = elim (cases_lt a.len count) [
+    | inl lt ↦
+        let front : take count (marks_of a ++ marks asked) ≡ marks_of a ++ take (count - suc a.len) (marks asked) =
+        take_past count (marks_of a) (marks asked) (omega (arith, length-burst_marks a.number a.len)) ∙ ap (λ n. marks_of a ++ take (count - n) (marks asked)) (length-burst_marks a.number a.len) in
+        let own : selected number_of_mark selects (take count (marks_of a ++ marks asked)) ≡ selected number_of_mark selects (marks_of a) ++ selected number_of_mark selects (take (count - suc a.len) (marks asked)) =
+        ap (selected number_of_mark selects) front ∙ filter-append (λ m. selects (number_of_mark m)) (marks_of a) (take (count - suc a.len) (marks asked)) in
+        ap (selected number_of_waiting selects) (pending-past len_of_asked count a asked lt)
+        ∙ pending_of_selected (count - suc a.len) asked
+        ∙ elim (cases_Bool (selects a.number)) [
+          | inl e ↦
+              let all : length (selected number_of_mark selects (take count (marks_of a ++ marks asked))) ≡ suc a.len + length (selected number_of_mark selects (take (count - suc a.len) (marks asked))) =
+              ap length own ∙ length-append (selected number_of_mark selects (marks_of a)) (selected number_of_mark selects (take (count - suc a.len) (marks asked)))
+              ∙ ap (λ n. n + length (selected number_of_mark selects (take (count - suc a.len) (marks asked)))) (ap length (burst_selected selects a.number a.len e) ∙ length-burst_marks a.number a.len) in
+              ap (λ n. pending len_of_asked n (selected number_of_asked selects asked)) (omega arith)
+              ∙ sym (pending-past len_of_asked (length (selected number_of_mark selects (take count (marks_of a ++ marks asked)))) a (selected number_of_asked selects asked) (omega arith))
+              ∙ ap (pending len_of_asked (length (selected number_of_mark selects (take count (marks_of a ++ marks asked))))) (sym (filter_cons (λ x. selects (number_of_asked x)) a asked e))
+          | inr ne ↦
+              let none : length (selected number_of_mark selects (take count (marks_of a ++ marks asked))) ≡ length (selected number_of_mark selects (take (count - suc a.len) (marks asked))) =
+              ap length (own ∙ ap (λ t'. t' ++ selected number_of_mark selects (take (count - suc a.len) (marks asked))) (burst_left_out selects a.number a.len ne)) in
+              ap (λ n. pending len_of_asked n (selected number_of_asked selects asked)) (sym none)
+              ∙ ap (pending len_of_asked (length (selected number_of_mark selects (take count (marks_of a ++ marks asked))))) (sym (filter_skip (λ x. selects (number_of_asked x)) a asked ne))
+        ]
+    | inr ge ↦
+        ap (selected number_of_waiting selects) (pending-within len_of_asked count a asked ge)
+        ∙ elim (cases_Bool (selects a.number)) [
+          | inl e ↦
+              filter_cons (λ w. selects (number_of_waiting w)) (record { request = a; done = count }) (pending len_of_asked 0 asked) e
+              ∙ ap (λ rest. record { request = a; done = count } ∷ rest) (pending_of_selected 0 asked)
+              ∙ sym (pending-within len_of_asked count a (selected number_of_asked selects asked) ge)
+              ∙ ap (λ n. pending len_of_asked n (a ∷ selected number_of_asked selects asked)) (sym (length_own selects a.number count a.len (marks asked) e ge))
+              ∙ ap (pending len_of_asked (length (selected number_of_mark selects (take count (marks_of a ++ marks asked))))) (sym (filter_cons (λ x. selects (number_of_asked x)) a asked e))
+          | inr ne ↦
+              filter_skip (λ w. selects (number_of_waiting w)) (record { request = a; done = count }) (pending len_of_asked 0 asked) ne
+              ∙ pending_of_selected 0 asked
+              ∙ ap (λ n. pending len_of_asked n (selected number_of_asked selects asked)) (sym (length_other selects a.number count a.len (marks asked) ne ge))
+              ∙ ap (pending len_of_asked (length (selected number_of_mark selects (take count (marks_of a ++ marks asked))))) (sym (filter_skip (λ x. selects (number_of_asked x)) a asked ne))
+        ]
+  ]
 
 -- marks of a beginning that don't reach the end of the first burst have no `last`
 none_last : (number len : ℕ) (passed rest more : List Mark) → passed ++ rest ≡ burst_marks number len ++ more → length passed ≤ len → length (filter (λ (m : Mark). m.last) passed) ≡ 0

@@ -54,15 +54,15 @@ own_marks i t replies =
     ap length (of_key-of_key id_of_reply number_of_reply i t replies)
     ∙ sym (ap length (of_key-map number_of_mark mark_of_reply t (of_key id_of_reply i replies)) ∙ length-map (of_key number_of_reply t (of_key id_of_reply i replies)) mark_of_reply)
 
-own_ids : (i t : ℕ) (replies : List Reply) → count_of i (map id_of_reply (of_key number_of_reply t replies)) ≡ length (of_key id_of_reply i (of_key number_of_reply t replies))
+pub own_ids : (i t : ℕ) (replies : List Reply) → count_of i (map id_of_reply (of_key number_of_reply t replies)) ≡ length (of_key id_of_reply i (of_key number_of_reply t replies))
 own_ids i t replies = ap length (of_key-map (λ k. k) id_of_reply i (of_key number_of_reply t replies)) ∙ length-map (of_key id_of_reply i (of_key number_of_reply t replies)) id_of_reply
 
-own_beats : (t : ℕ) (asked : List Asked) → length (of_key number_of_mark t (marks asked)) ≡ beats_of (of_key number_of_asked t asked)
+pub own_beats : (t : ℕ) (asked : List Asked) → length (of_key number_of_mark t (marks asked)) ≡ beats_of (of_key number_of_asked t asked)
 own_beats t asked = ap length (marks-of_number t asked) ∙ length-marks (of_key number_of_asked t asked)
 
 -- what the answers under one ID say of the answers to one transaction under this ID
 module _ (asked : List Asked) (replies : List Reply) (order : InOrderOfId asked replies) (t i : ℕ) where
-  at_most_asked : length (of_key id_of_reply i (of_key number_of_reply t replies)) ≤ beats_of (of_key number_of_asked t (of_key id_of_asked i asked))
+  pub at_most_asked : length (of_key id_of_reply i (of_key number_of_reply t replies)) ≤ beats_of (of_key number_of_asked t (of_key id_of_asked i asked))
   at_most_asked = omega (arith, own_marks i t replies, prefix_length (prefix_of_key number_of_mark t (order i)), own_beats t (of_key id_of_asked i asked))
 
   at_least_answered : (front rest : List Asked) → of_key id_of_asked i asked ≡ front ++ rest → beats_of front ≤ length (of_key id_of_reply i replies) →

@@ -1,8 +1,8 @@
 -- Facts on lists of beats that grow.
-use Rattle.std.proofs.Common.{◌≡◌, ℕ, suc, zero, Bool, true, false, List, [], ◌++◌, refl, sym, ◌∙◌, ap, append_assoc, append-nil}
+use Rattle.std.proofs.Common.{◌≡◌, ℕ, suc, zero, Bool, true, false, cond, List, [], ◌∷◌, ◌++◌, refl, sym, ◌∙◌, ap, append_assoc, append-nil}
 use Rattle.std.proofs.lemmas.List.{take-append-drop}
 use Rattle.axi_link.specs.Moves.{without_head}
-use Rattle.axi_trail.specs.Streams.{over, beat_taken, IsPrefix}
+use Rattle.axi_trail.specs.Streams.{over, picked, beat_taken, IsPrefix}
 use Rattle.axi_trail.specs.Trail.{IsQueue}
 
 module _ {X : Type 0} where
@@ -49,3 +49,16 @@ taken_was_put takes puts queue run n =
     let whole : over puts n ≡ over (λ m. beat_taken (takes m) (queue m)) n ++ queue n = queue_is_rest takes puts queue run n in
     let part : IsPrefix (over (λ m. beat_taken (takes m) (queue m)) (suc n)) (over (λ m. beat_taken (takes m) (queue m)) n ++ queue n) = prefix_taken (takes n) (over (λ m. beat_taken (takes m) (queue m)) n) (queue n) in
     record { rest = part.rest; whole = whole ∙ part.whole }
+
+-- all rounds together, by what each of them adds
+pub over-through : {X Y : Type 0} (f : List X → List Y) → f [] ≡ [] → ((xs ys : List X) → f (xs ++ ys) ≡ f xs ++ f ys) → (added : ℕ → List X) (given : ℕ → List Y) → ((n : ℕ) → f (added n) ≡ given n) → (n : ℕ) → f (over added n) ≡ over given n
+over-through f none both added given each zero = none
+over-through f none both added given each (suc n) =
+    both (over added n) (added n) ∙ ap (λ t. t ++ f (added n)) (over-through f none both added given each n) ∙ ap (λ t. over given n ++ t) (each n)
+
+pub picked-append : {X : Type 0} (selects : ℕ → Bool) (pairs more : List (ℕ × X)) → picked selects (pairs ++ more) ≡ picked selects pairs ++ picked selects more
+picked-append selects [] more = refl
+picked-append {X} selects (pair ∷ pairs) more =
+    let go : (b : Bool) → cond b (pair.1 ∷ picked selects (pairs ++ more)) (picked selects (pairs ++ more)) ≡ cond b (pair.1 ∷ picked selects pairs) (picked selects pairs) ++ picked selects more =
+    elim [ true ↦ ap (λ (t : List X). pair.1 ∷ t) (picked-append selects pairs more) | false ↦ picked-append selects pairs more ]
+    in go (selects pair.0)

@@ -89,6 +89,14 @@ module _ {X : Type 0} (len_of : X → ℕ) where
         ∙ ap (λ t. x ∷ t) (requests-fresh xs)
   ]
 
+  -- the complete requests have no more beats than have come
+  pub complete-beats : (count : ℕ) (xs : List X) → beats_by len_of (complete len_of count xs) ≤ count
+  complete-beats count [] = omega arith
+  complete-beats count (x ∷ xs) = elim (cases_lt (len_of x) count) [
+    | inl lt ↦ omega (arith, ap (beats_by len_of) (complete-past count x xs lt), complete-beats (count - suc (len_of x)) xs)
+    | inr ge ↦ omega (arith, ap (beats_by len_of) (complete-within count x xs ge))
+  ]
+
   -- all beats have come
   pub pending-none : (count : ℕ) (xs : List X) → beats_by len_of xs ≤ count → pending len_of count xs ≡ []
   pending-none count [] le = refl

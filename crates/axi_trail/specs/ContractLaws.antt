@@ -1,10 +1,10 @@
 -- What holds of every link that keeps the two contracts.
-use Rattle.std.specs.Prelude.{◌≡◌, ◌≤◌, ◌↔◌, ◌++◌, ◌∷◌, [], ℕ, List, length}
+use Rattle.std.specs.Prelude.{◌≡◌, ◌≤◌, ◌↔◌, ◌++◌, ◌∷◌, [], ℕ, List, length, map, take}
 use Rattle.flight.specs.Entries.{of_key}
 use Rattle.axi_trail.specs.LinkContracts.{Asks, Answers, OneIdAtATime}
 use Rattle.axi_trail.specs.Schedule.{Share, Schedule, Progress, Grows, SameChain}
 use Rattle.axi_trail.specs.Trail.{Beats, IsBehind}
-use Rattle.axi_trail.specs.Words.{Asked, Reply, IsAnswered, InOrderOfId, beats_of, number_of_asked, number_of_reply}
+use Rattle.axi_trail.specs.Words.{Asked, Reply, IsAnswered, InOrderOfId, beats_of, burst_asked, number_of_asked, number_of_reply, number_of_response, number_of_data}
 
 -- what is asked at the upper end is asked at the lower end, which has taken less and answered more
 abbrev pub AskingGoesDown : Type 0
@@ -32,3 +32,9 @@ HeldHaveOneId =
     (shares : ℕ → Share) (asked : List Asked) (replies : List Reply) → OneIdAtATime shares asked replies →
     (before : List Asked) (a : Asked) (between : List Asked) (next : Asked) (after : List Asked) → asked ≡ (before ++ a ∷ between) ++ next ∷ after →
     SameChain shares a.number next.number → ¬ IsAnswered before a replies → a.id ≡ next.id
+
+-- a transaction's write data is there, as far as its answers go: the beats of its first requests, one for each answer
+abbrev pub AnsweredHaveTheirData : Type 0
+AnsweredHaveTheirData =
+    (plan : Schedule) (now : Progress) (trail : Beats) → Asks plan now trail → Answers plan now trail → (t : ℕ) →
+    beats_of (take (length (of_key number_of_response t trail.b)) (of_key number_of_asked t (map burst_asked trail.aw))) ≤ length (of_key number_of_data t trail.w)

@@ -1,5 +1,5 @@
 -- Words on lists of beats that grow from round to round.
-use Rattle.std.specs.Prelude.{◌≡◌, ◌<◌, ◌++◌, ◌∷◌, [], ℕ, zero, suc, List, Bool, true, false, length, take, slice_index_or, if◌then◌else◌}
+use Rattle.std.specs.Prelude.{◌≡◌, ◌<◌, ◌++◌, ◌∷◌, [], ℕ, zero, suc, List, Bool, true, false, length, take, slice_index_or, if◌then◌else◌, filter}
 
 module _ {X : Type 0} where
   -- all that rounds 0 to n - 1 add, one round after the other
@@ -11,6 +11,10 @@ module _ {X : Type 0} where
   abbrev pub picked : (ℕ → Bool) → List (ℕ × X) → List X
   picked selects [] = []
   picked selects (pair ∷ pairs) = if selects pair.0 then pair.1 ∷ picked selects pairs else picked selects pairs
+
+  -- the beats whose key is selected
+  abbrev pub selected : (X → ℕ) → (ℕ → Bool) → List X → List X
+  selected key_of selects xs = filter (λ x. selects (key_of x)) xs
 
   -- the head of a queue, where it is taken
   abbrev pub beat_taken : Bool → List X → List X

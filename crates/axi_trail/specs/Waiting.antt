@@ -13,6 +13,10 @@ fresh x = record { request = x; done = 0 }
 abbrev pub request_of : {X : Type 0} → Waiting X → X
 request_of w = w.request
 
+-- the same of what a request shows
+abbrev pub waiting_shown : {X Y : Type 0} → (X → Y) → Waiting X → Waiting Y
+waiting_shown shown w = record { request = shown w.request; done = w.done }
+
 -- Requests in order of issue; `len_of` tells how many beats of a request come after its first one.
 module _ {X : Type 0} (len_of : X → ℕ) where
   -- how many beats these requests have

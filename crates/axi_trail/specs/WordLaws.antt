@@ -1,10 +1,10 @@
 -- What holds of the words on requests, marks and answers, whatever a node does.
-use Rattle.std.specs.Prelude.{◌≡◌, ◌≢◌, ℕ, suc, ◌≤◌, ◌++◌, ◌∷◌, [], List, Contains, length, map, take, drop, flat_map}
+use Rattle.std.specs.Prelude.{◌≡◌, ◌≢◌, ℕ, Bool, true, suc, ◌≤◌, ◌++◌, ◌∷◌, [], List, Contains, length, map, take, drop, flat_map}
 use Rattle.axi_beats.specs.declared.beat.Addr.{Addr}
 use Rattle.flight.specs.Entries.{of_key, count_of, left_after}
-use Rattle.axi_trail.specs.Streams.{IsPrefix, Agree}
-use Rattle.axi_trail.specs.Waiting.{fresh, request_of, beats_by, pending, complete, advanced, answered_once, held}
-use Rattle.axi_trail.specs.Words.{Mark, Asked, Reply, IsAnswered, EndsAtLast, owed_marks, marks, marks_of, completed, number_of_mark, number_of_asked, id_of_asked, len_of_asked, id_of_reply}
+use Rattle.axi_trail.specs.Streams.{IsPrefix, Agree, over, picked, selected}
+use Rattle.axi_trail.specs.Waiting.{Waiting, fresh, request_of, waiting_shown, beats_by, pending, complete, advanced, answered_once, held}
+use Rattle.axi_trail.specs.Words.{Mark, Asked, Reply, IsAnswered, InOrderOfId, EndsAtLast, owed_marks, next_mark, next_reply, held_asked, pending_asked, marks, marks_of, completed, number_of_mark, number_of_asked, number_of_reply, number_of_waiting, id_of_waiting, id_of_asked, len_of_asked}
 
 -- Beats of a number or an ID.
 
@@ -33,6 +33,16 @@ BeginningsAgree =
     (xs ys us vs : List Mark) →
     (IsPrefix xs ys → Agree xs ys) × (IsPrefix us xs → IsPrefix vs ys → Agree xs ys → Agree us vs)
 
+-- all rounds together, by what each of them adds
+abbrev pub RoundsOneByOne : Type 0
+RoundsOneByOne =
+    (f : List ℕ → List ℕ) → f [] ≡ [] → ((xs ys : List ℕ) → f (xs ++ ys) ≡ f xs ++ f ys) →
+    (added given : ℕ → List ℕ) → ((n : ℕ) → f (added n) ≡ given n) → (n : ℕ) → f (over added n) ≡ over given n
+
+-- what is picked of more pairs
+abbrev pub PickedOfMore : Type 0
+PickedOfMore = (selects : ℕ → Bool) (pairs more : List (ℕ × ℕ)) → picked selects (pairs ++ more) ≡ picked selects pairs ++ picked selects more
+
 -- Marks.
 
 -- one more request asks for its marks after all others
@@ -43,9 +53,9 @@ OneMoreBurst = (asked : List Asked) (a : Asked) → marks (asked ++ a ∷ []) �
 abbrev pub BeginningOfMarks : Type 0
 BeginningOfMarks = (asked more : List Asked) → IsPrefix asked more → IsPrefix (marks asked) (marks more)
 
--- the marks of a transaction are those of its requests
-abbrev pub MarksOfNumber : Type 0
-MarksOfNumber = (t : ℕ) (asked : List Asked) → of_key number_of_mark t (marks asked) ≡ marks (of_key number_of_asked t asked)
+-- the marks of selected transactions are those of their requests
+abbrev pub MarksOfSelected : Type 0
+MarksOfSelected = (selects : ℕ → Bool) (asked : List Asked) → selected number_of_mark selects (marks asked) ≡ marks (selected number_of_asked selects asked)
 
 -- a burst has one beat more than its length says, and `last` on the last one alone
 abbrev pub BurstsEndAtLast : Type 0
@@ -75,18 +85,43 @@ NonePending =
 
 -- the marks that haven't passed are those that the pending requests lack
 abbrev pub PendingOweTheRest : Type 0
-PendingOweTheRest = (count : ℕ) (asked : List Asked) → drop count (marks asked) ≡ flat_map owed_marks (pending len_of_asked count asked)
+PendingOweTheRest = (count : ℕ) (asked : List Asked) → drop count (marks asked) ≡ flat_map owed_marks (pending_asked count asked)
 
--- the pending requests of a transaction are those that its own beats leave pending
-abbrev pub PendingOfNumber : Type 0
-PendingOfNumber =
-    (t count : ℕ) (asked : List Asked) →
-    of_key (λ w. w.request.number) t (pending len_of_asked count asked)
-    ≡ pending len_of_asked (length (of_key number_of_mark t (take count (marks asked)))) (of_key number_of_asked t asked)
+-- the pending requests of selected transactions are those that the beats of these transactions leave pending
+abbrev pub PendingOfSelected : Type 0
+PendingOfSelected =
+    (selects : ℕ → Bool) (count : ℕ) (asked : List Asked) →
+    selected number_of_waiting selects (pending_asked count asked)
+    ≡ pending_asked (length (selected number_of_mark selects (take count (marks asked)))) (selected number_of_asked selects asked)
 
 -- as many requests are complete as beats with `last` have come
 abbrev pub CompletedAreComplete : Type 0
 CompletedAreComplete = (asked : List Asked) (passed : List Mark) → IsPrefix passed (marks asked) → completed asked passed ≡ complete len_of_asked (length passed) asked
+
+-- what is pending of requests is the same for all that shows their lengths
+abbrev pub PendingOfShown : Type 0
+PendingOfShown =
+    (shown : Addr → Asked) (count : ℕ) (xs : List Addr) →
+    pending_asked count (map shown xs) ≡ map (waiting_shown shown) (pending (λ a. (shown a).len) count xs)
+
+-- a beat that goes on in order is the next one of the first pending request
+abbrev pub NextBeat : Type 0
+NextBeat =
+    (asked : List Asked) (passed : List Mark) (m : Mark) (w : Waiting Asked) (others : List (Waiting Asked)) → IsPrefix (passed ++ m ∷ []) (marks asked) →
+    pending_asked (length passed) asked ≡ w ∷ others → m ≡ next_mark w
+
+-- it is enough that it goes on in order among the beats of selected transactions, if the first pending one is selected
+abbrev pub NextBeatOfSelected : Type 0
+NextBeatOfSelected =
+    (selects : ℕ → Bool) (asked : List Asked) (passed : List Mark) (m : Mark) (w : Waiting Asked) (others : List (Waiting Asked)) → IsPrefix passed (marks asked) →
+    pending_asked (length passed) asked ≡ w ∷ others → selects w.request.number ≡ true →
+    Agree (selected number_of_mark selects passed ++ m ∷ []) (marks (selected number_of_asked selects asked)) → m ≡ next_mark w
+
+-- the next beat of the first pending request goes on in order
+abbrev pub BeatKeepsOrder : Type 0
+BeatKeepsOrder =
+    (asked : List Asked) (passed : List Mark) (w : Waiting Asked) (others : List (Waiting Asked)) → IsPrefix passed (marks asked) →
+    pending_asked (length passed) asked ≡ w ∷ others → IsPrefix (passed ++ next_mark w ∷ []) (marks asked)
 
 -- Requests that lack answers, where the answers of each ID come in order of its requests.
 
@@ -108,14 +143,43 @@ HeldOfId = (len_of id_of : Addr → ℕ) (xs : List Addr) (ids : List ℕ) (id :
 abbrev pub HeldOfSingles : Type 0
 HeldOfSingles = (id_of : Addr → ℕ) (xs : List Addr) (ids : List ℕ) → held (λ a. 0) id_of xs ids ≡ map fresh (left_after id_of xs ids)
 
+-- what is held of requests is the same for all that shows their lengths and IDs
+abbrev pub HeldOfShown : Type 0
+HeldOfShown =
+    (shown : Addr → Asked) (xs : List Addr) (ids : List ℕ) →
+    held len_of_asked id_of_asked (map shown xs) ids ≡ map (waiting_shown shown) (held (λ a. (shown a).len) (λ a. (shown a).id) xs ids)
+
+-- the held requests of selected transactions are those that the answers to these transactions leave held
+abbrev pub HeldOfSelected : Type 0
+HeldOfSelected =
+    (selects : ℕ → Bool) (asked : List Asked) (replies : List Reply) → InOrderOfId asked replies →
+    selected number_of_waiting selects (held_asked asked replies) ≡ held_asked (selected number_of_asked selects asked) (selected number_of_reply selects replies)
+
+-- requests that come after answered ones are held behind all others
+abbrev pub LaterRequestsAreHeld : Type 0
+LaterRequestsAreHeld =
+    (asked more : List Asked) (replies : List Reply) → InOrderOfId asked replies → held_asked (asked ++ more) replies ≡ held_asked asked replies ++ map fresh more
+
+-- an answer beat that comes in order is the next one of the oldest held request of its ID, so there is one
+abbrev pub NextAnswer : Type 0
+NextAnswer =
+    (asked : List Asked) (replies : List Reply) (p : Reply) → InOrderOfId asked (replies ++ p ∷ []) →
+    (w : Waiting Asked) × (others : List (Waiting Asked)) × (of_key id_of_waiting p.id (held_asked asked replies) ≡ w ∷ others) × (p ≡ next_reply w)
+
+-- the next answer beat of the oldest held request of an ID comes in order
+abbrev pub AnswerKeepsOrder : Type 0
+AnswerKeepsOrder =
+    (asked : List Asked) (replies : List Reply) (id : ℕ) (w : Waiting Asked) (others : List (Waiting Asked)) → InOrderOfId asked replies →
+    of_key id_of_waiting id (held_asked asked replies) ≡ w ∷ others → InOrderOfId asked (replies ++ next_reply w ∷ [])
+
 -- a request that isn't answered is held
 abbrev pub UnansweredIsHeld : Type 0
 UnansweredIsHeld =
     (asked : List Asked) (replies : List Reply) (before : List Asked) (a : Asked) (after : List Asked) → asked ≡ before ++ a ∷ after → ¬ IsAnswered before a replies →
-    (done : ℕ) × Contains (held len_of_asked id_of_asked asked (map id_of_reply replies)) (record { request = a; done = done })
+    (done : ℕ) × Contains (held_asked asked replies) (record { request = a; done = done })
 
 -- where no request of an ID is held, all requests of the ID are answered
 abbrev pub NoneHeldIsAnswered : Type 0
 NoneHeldIsAnswered =
     (asked : List Asked) (replies : List Reply) (before : List Asked) (a : Asked) (after : List Asked) → asked ≡ before ++ a ∷ after →
-    of_key (λ w. w.request.id) a.id (held len_of_asked id_of_asked asked (map id_of_reply replies)) ≡ [] → IsAnswered before a replies
+    of_key id_of_waiting a.id (held_asked asked replies) ≡ [] → IsAnswered before a replies

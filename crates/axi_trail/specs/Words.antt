@@ -1,5 +1,5 @@
 -- What addresses, write data and answers show to the rules of order (Arm IHI 0022, ordering model).
-use Rattle.std.specs.Prelude.{◌≡◌, ℕ, ◌-◌, zero, suc, ◌≤◌, ◌++◌, ◌∷◌, [], List, Bool, true, false, length, map, take, filter, flat_map}
+use Rattle.std.specs.Prelude.{◌≡◌, ℕ, ◌-◌, zero, suc, ◌≤◌, ◌++◌, ◌∷◌, [], List, Bool, true, false, length, map, take, filter, flat_map, ◌==◌}
 use Rattle.axi_beats.specs.declared.beat.Addr.{Addr}
 use Rattle.axi_beats.specs.declared.beat.WBeat.{WBeat}
 use Rattle.axi_beats.specs.declared.beat.BBeat.{BBeat}
@@ -7,7 +7,7 @@ use Rattle.axi_beats.specs.declared.beat.RBeat.{RBeat}
 use Rattle.flight.specs.Entries.{of_key}
 use Rattle.axi_trail.specs.Streams.{IsPrefix}
 use Rattle.axi_trail.specs.Trail.{Beats}
-use Rattle.axi_trail.specs.Waiting.{Waiting, beats_by}
+use Rattle.axi_trail.specs.Waiting.{Waiting, beats_by, held, pending}
 
 -- the mark of a beat of a burst: the number of its transaction, and whether it is the last beat of its burst
 pub record Mark : Type 0 where
@@ -104,6 +104,29 @@ EndsAtLast (m ∷ rest) = (m.last ≡ true → rest ≡ []) × (m.last ≡ false
 -- the marks of the beats that a request still lacks
 abbrev pub owed_marks : Waiting Asked → List Mark
 owed_marks w = burst_marks w.request.number (w.request.len - w.done)
+
+-- the mark of the next beat of a request
+abbrev pub next_mark : Waiting Asked → Mark
+next_mark w = record { number = w.request.number; last = w.done == w.request.len }
+
+-- the next beat of the answer to a request
+abbrev pub next_reply : Waiting Asked → Reply
+next_reply w = record { number = w.request.number; id = w.request.id; last = w.done == w.request.len }
+
+-- the number of a request that waits, and its ID
+abbrev pub number_of_waiting : Waiting Asked → ℕ
+number_of_waiting w = w.request.number
+
+abbrev pub id_of_waiting : Waiting Asked → ℕ
+id_of_waiting w = w.request.id
+
+-- the requests that lack answers
+abbrev pub held_asked : List Asked → List Reply → List (Waiting Asked)
+held_asked asked replies = held len_of_asked id_of_asked asked (map id_of_reply replies)
+
+-- the requests that lack beats, where so many have come
+abbrev pub pending_asked : ℕ → List Asked → List (Waiting Asked)
+pending_asked count asked = pending len_of_asked count asked
 
 -- the first requests, one for each beat with `last`
 module _ {X : Type 0} where

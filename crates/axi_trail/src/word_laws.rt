@@ -1,6 +1,8 @@
 //! What holds of the words on requests, marks and answers, whatever a node does.
 
-ghost use Rattle.axi_trail.specs.WordLaws.{OneMoreOfKey, BeginningOfKey, KeysInEitherOrder, AgreeingIsBeginning, BeginningsAgree, OneMoreBurst, BeginningOfMarks, MarksOfNumber, BurstsEndAtLast, BeatOfFirstPending, RequestIsPending, PendingAreLast, NonePending, PendingOweTheRest, PendingOfNumber, CompletedAreComplete, AnswerOfOldestHeld, RequestIsHeld, HeldOfId, HeldOfSingles, UnansweredIsHeld, NoneHeldIsAnswered};
+ghost use Rattle.axi_trail.specs.WordLaws.{OneMoreOfKey, BeginningOfKey, KeysInEitherOrder, AgreeingIsBeginning, BeginningsAgree, RoundsOneByOne, PickedOfMore, OneMoreBurst, BeginningOfMarks, MarksOfSelected, BurstsEndAtLast};
+ghost use Rattle.axi_trail.specs.WordLaws.{BeatOfFirstPending, RequestIsPending, PendingAreLast, NonePending, PendingOweTheRest, PendingOfSelected, PendingOfShown, CompletedAreComplete, NextBeat, NextBeatOfSelected, BeatKeepsOrder};
+ghost use Rattle.axi_trail.specs.WordLaws.{AnswerOfOldestHeld, RequestIsHeld, HeldOfId, HeldOfSingles, HeldOfShown, HeldOfSelected, LaterRequestsAreHeld, NextAnswer, AnswerKeepsOrder, UnansweredIsHeld, NoneHeldIsAnswered};
 
 /// The laws of beats of one number or ID, of beginnings, and of the marks of bursts.
 pub fn laws_of_beats()
@@ -13,31 +15,54 @@ pub fn laws_of_beats()
     ensures agreeing { AgreeingIsBeginning }
     ensures agree { BeginningsAgree }
 
+    // What rounds add.
+    ensures rounds { RoundsOneByOne }
+    ensures picks { PickedOfMore }
+
     // The marks of bursts.
     ensures burst { OneMoreBurst }
     ensures marks { BeginningOfMarks }
-    ensures number { MarksOfNumber }
+    ensures selection { MarksOfSelected }
     ensures ends { BurstsEndAtLast }
 {}
 
 /// The laws of requests that lack write data, where data comes in order of the requests.
 pub fn laws_of_pending()
+    // One more beat, or request.
     ensures beat { BeatOfFirstPending }
     ensures request { RequestIsPending }
+
+    // Which requests are pending.
     ensures parts { PendingAreLast }
     ensures none { NonePending }
     ensures rest { PendingOweTheRest }
-    ensures number { PendingOfNumber }
+    ensures selection { PendingOfSelected }
+    ensures shown { PendingOfShown }
     ensures completed { CompletedAreComplete }
+
+    // Which beat is the next.
+    ensures next { NextBeat }
+    ensures next_of_selected { NextBeatOfSelected }
+    ensures keeps { BeatKeepsOrder }
 {}
 
 /// The laws of requests that lack answers, where the answers of each ID come in order of its
 /// requests.
 pub fn laws_of_held()
+    // One more answer beat, or request.
     ensures answer { AnswerOfOldestHeld }
     ensures request { RequestIsHeld }
+    ensures later { LaterRequestsAreHeld }
+
+    // Which requests are held.
     ensures id { HeldOfId }
     ensures singles { HeldOfSingles }
+    ensures shown { HeldOfShown }
+    ensures selection { HeldOfSelected }
     ensures unanswered { UnansweredIsHeld }
     ensures none { NoneHeldIsAnswered }
+
+    // Which answer beat is the next.
+    ensures next { NextAnswer }
+    ensures keeps { AnswerKeepsOrder }
 {}
