@@ -180,9 +180,26 @@ unfiltered {X} key_of key (y ∷ xs) front x back e = elim (cases_eq (key_of y) 
         let found : (left : List X) × (right : List X) × (xs ≡ left ++ x ∷ right) = rest front (cc) in
         (y ∷ found.0, found.1, ap (λ t. y ∷ t) found.2)
 
+stands : {X : Type 0} (xs left : List X) (x : X) (right : List X) → xs ≡ left ++ x ∷ right → Contains xs x
+stands {X} xs left x right e = subst (λ (ys : List X). Contains ys x) (sym e) (Contains-append_right left (x ∷ right) x (0, omega arith, refl))
+
 -- the answers of an ID, counted by their IDs
 pub count_of-replies : (id : ℕ) (replies : List Reply) → count_of id (map id_of_reply replies) ≡ length (of_key id_of_reply id replies)
 count_of-replies id replies = ap length (of_key-map (λ k. k) id_of_reply id replies) ∙ length-map (of_key id_of_reply id replies) id_of_reply
+
+-- what is pending of the requests of an ID is held
+pending_is_held : (asked : List Asked) (ids : List ℕ) (id : ℕ) (front : List (Waiting Asked)) (w : Waiting Asked) (back : List (Waiting Asked)) →
+    pending len_of_asked (count_of id ids) (of_key id_of_asked id asked) ≡ front ++ w ∷ back → Contains (held len_of_asked id_of_asked asked ids) w
+pending_is_held asked ids id front w back e =
+    let found : (left : List (Waiting Asked)) × (right : List (Waiting Asked)) × (held len_of_asked id_of_asked asked ids ≡ left ++ w ∷ right) =
+    unfiltered (λ v. v.request.id) id (held len_of_asked id_of_asked asked ids) front w back (held-of_id len_of_asked id_of_asked asked ids id ∙ e) in
+    stands (held len_of_asked id_of_asked asked ids) found.0 w found.1 found.2
+
+waits : (asked : List Asked) (ids : List ℕ) (before : List Asked) (a : Asked) (after : List Asked) → of_key id_of_asked a.id asked ≡ of_key id_of_asked a.id before ++ a ∷ of_key id_of_asked a.id after →
+    (front : List (Waiting Asked)) × (done : ℕ) × (back : List (Waiting Asked)) × (pending len_of_asked (count_of a.id ids) (of_key id_of_asked a.id before ++ a ∷ of_key id_of_asked a.id after) ≡ front ++ record { request = a; done = done } ∷ back) →
+    (done : ℕ) × Contains (held len_of_asked id_of_asked asked ids) (record { request = a; done = done })
+waits asked ids before a after own (front, done, back, e) =
+    (done, pending_is_held asked ids a.id front (record { request = a; done = done }) back (ap (pending len_of_asked (count_of a.id ids)) own ∙ e))
 
 pub unanswered_is_held : UnansweredIsHeld
 unanswered_is_held asked replies before a after place held_up =
@@ -194,15 +211,7 @@ unanswered_is_held asked replies before a after place held_up =
       | inl lt ↦ lt
       | inr ge ↦ absurd (held_up (omega (arith, count_of-replies a.id replies)))
     ] in
-    let waits : (front : List (Waiting Asked)) × (done : ℕ) × (back : List (Waiting Asked)) × (pending len_of_asked (count_of a.id (map id_of_reply replies)) (of_key id_of_asked a.id before ++ a ∷ of_key id_of_asked a.id after) ≡ front ++ record { request = a; done = done } ∷ back) =
-    pending-has len_of_asked (count_of a.id (map id_of_reply replies)) (of_key id_of_asked a.id before) a (of_key id_of_asked a.id after) few in
-    let found : (left : List (Waiting Asked)) × (right : List (Waiting Asked)) × (held len_of_asked id_of_asked asked (map id_of_reply replies) ≡ left ++ record { request = a; done = waits.1 } ∷ right) =
-    unfiltered (λ w. w.request.id) a.id (held len_of_asked id_of_asked asked (map id_of_reply replies)) waits.0 (record { request = a; done = waits.1 }) waits.2
-    (held-of_id len_of_asked id_of_asked asked (map id_of_reply replies) a.id ∙ ap (pending len_of_asked (count_of a.id (map id_of_reply replies))) own ∙ waits.3) in (
-      waits.1,
-      subst (λ (xs : List (Waiting Asked)). Contains xs (record { request = a; done = waits.1 })) (sym found.2)
-          (Contains-append_right found.0 (record { request = a; done = waits.1 } ∷ found.1) (record { request = a; done = waits.1 }) (0, omega arith, refl)),
-    )
+    waits asked (map id_of_reply replies) before a after own (pending-has len_of_asked (count_of a.id (map id_of_reply replies)) (of_key id_of_asked a.id before) a (of_key id_of_asked a.id after) few)
 
 pub none_held_is_answered : NoneHeldIsAnswered
 none_held_is_answered asked replies before a after place none =

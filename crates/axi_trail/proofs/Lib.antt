@@ -1,6 +1,7 @@
 pub mod DataFacts
 pub mod FilterFacts
 pub mod HeldFacts
+pub mod InductionFacts
 pub mod MarkFacts
 pub mod OrderFacts
 pub mod PrefixFacts

@@ -1,5 +1,6 @@
 pub mod ContractLaws
 pub mod LinkContracts
+pub mod NetworkLaws
 pub mod Schedule
 pub mod Streams
 pub mod Trail
