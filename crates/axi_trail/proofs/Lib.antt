@@ -4,6 +4,7 @@ pub mod HeldFacts
 pub mod InductionFacts
 pub mod MarkFacts
 pub mod OrderFacts
+pub mod PlaceFacts
 pub mod PrefixFacts
 pub mod SlackFacts
 pub mod StepFacts

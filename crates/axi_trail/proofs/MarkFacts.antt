@@ -64,12 +64,12 @@ pending_owe_the_rest count (a ∷ asked) = elim (cases_lt a.len count) [
 ]
 
 -- the beats of a transaction among the first ones
-take_past : (count : ℕ) (xs ys : List Mark) → length xs ≤ count → take count (xs ++ ys) ≡ xs ++ take (count - length xs) ys
+pub take_past : (count : ℕ) (xs ys : List Mark) → length xs ≤ count → take count (xs ++ ys) ≡ xs ++ take (count - length xs) ys
 take_past count [] ys le = ap (λ n. take n ys) (omega arith)
 take_past zero (x ∷ xs) ys le = absurd (omega arith)
 take_past (suc count) (x ∷ xs) ys le = ap (λ t. x ∷ t) (take_past count xs ys (omega arith) ∙ ap (λ n. xs ++ take n ys) (omega arith))
 
-length_own : (selects : ℕ → Bool) (number count len : ℕ) (rest : List Mark) → selects number ≡ true → count ≤ len → length (selected number_of_mark selects (take count (burst_marks number len ++ rest))) ≡ count
+pub length_own : (selects : ℕ → Bool) (number count len : ℕ) (rest : List Mark) → selects number ≡ true → count ≤ len → length (selected number_of_mark selects (take count (burst_marks number len ++ rest))) ≡ count
 length_own selects number zero len rest e le = refl
 length_own selects number (suc count) zero rest e le = absurd (omega arith)
 length_own selects number (suc count) (suc len) rest e le =

@@ -15,7 +15,7 @@ use Rattle.axi_trail.proofs.PrefixFacts.{prefix_length, prefix_of_key}
 use Rattle.axi_trail.proofs.StreamFacts.{prefix_nil}
 
 module _ {X : Type 0} where
-  front_of : (xs ys r s : List X) → xs ++ r ≡ ys ++ s → length xs ≤ length ys → IsPrefix xs ys
+  pub front_of : (xs ys r s : List X) → xs ++ r ≡ ys ++ s → length xs ≤ length ys → IsPrefix xs ys
   front_of [] ys r s e le = prefix_nil ys
   front_of (x ∷ xs) [] r s e le = absurd (omega arith)
   front_of (x ∷ xs) (y ∷ ys) r s e le =
@@ -36,7 +36,7 @@ module _ {X : Type 0} where
       in go (test x)
 
   -- a beginning that is longer by n than another one passes a test at most n times more
-  count_front : (test : X → Bool) (n : ℕ) (xs us rest vs : List X) → xs ++ rest ≡ us ++ vs → length xs ≤ length us + n → length (filter test xs) ≤ length (filter test us) + n
+  pub count_front : (test : X → Bool) (n : ℕ) (xs us rest vs : List X) → xs ++ rest ≡ us ++ vs → length xs ≤ length us + n → length (filter test xs) ≤ length (filter test us) + n
   count_front test n [] us rest vs e le = omega arith
   count_front test n (x ∷ xs) [] rest vs e le = omega (arith, length-filter_le test (x ∷ xs))
   count_front test n (x ∷ xs) (u ∷ us) rest vs e le =
@@ -48,7 +48,7 @@ module _ {X : Type 0} where
       in subst (λ (y : X). length (cond (test x) (x ∷ filter test xs) (filter test xs)) ≤ length (cond (test y) (u ∷ filter test us) (filter test us)) + n) head (go (test x))
 
 -- the answers to a transaction under one ID, counted by their marks
-own_marks : (i t : ℕ) (replies : List Reply) →
+pub own_marks : (i t : ℕ) (replies : List Reply) →
     length (of_key id_of_reply i (of_key number_of_reply t replies)) ≡ length (of_key number_of_mark t (map mark_of_reply (of_key id_of_reply i replies)))
 own_marks i t replies =
     ap length (of_key-of_key id_of_reply number_of_reply i t replies)
@@ -65,7 +65,7 @@ module _ (asked : List Asked) (replies : List Reply) (order : InOrderOfId asked 
   pub at_most_asked : length (of_key id_of_reply i (of_key number_of_reply t replies)) ≤ beats_of (of_key number_of_asked t (of_key id_of_asked i asked))
   at_most_asked = omega (arith, own_marks i t replies, prefix_length (prefix_of_key number_of_mark t (order i)), own_beats t (of_key id_of_asked i asked))
 
-  at_least_answered : (front rest : List Asked) → of_key id_of_asked i asked ≡ front ++ rest → beats_of front ≤ length (of_key id_of_reply i replies) →
+  pub at_least_answered : (front rest : List Asked) → of_key id_of_asked i asked ≡ front ++ rest → beats_of front ≤ length (of_key id_of_reply i replies) →
       beats_of (of_key number_of_asked t front) ≤ length (of_key id_of_reply i (of_key number_of_reply t replies))
   at_least_answered front rest e answered =
       let all : IsPrefix (marks front) (marks (of_key id_of_asked i asked)) = record { rest = marks rest; whole = ap marks e ∙ flat_map-append marks_of front rest } in
@@ -116,7 +116,7 @@ module _ (shares : ℕ → Share) (asked : List Asked) (replies : List Reply) (o
         ]
       ]
 
-  earlier : (i : ℕ) → i ≢ a.id → (front back : List Asked) → before ≡ front ++ back →
+  pub earlier : (i : ℕ) → i ≢ a.id → (front back : List Asked) → before ≡ front ++ back →
       beats_of (of_key id_of_asked i (of_key number_of_asked a.number front)) ≤ length (of_key id_of_reply i (of_key number_of_reply a.number replies)) →
       beats_of (of_key id_of_asked i (of_key number_of_asked a.number before)) ≤ length (of_key id_of_reply i (of_key number_of_reply a.number replies))
   earlier i other front [] e so_far =
@@ -148,7 +148,7 @@ module _ (shares : ℕ → Share) (asked : List Asked) (replies : List Reply) (o
       )
 
   -- behind a request that isn't answered, its transaction has no request under another ID
-  later : ¬ IsAnswered before a replies → (i : ℕ) → i ≢ a.id → (between rest : List Asked) → after ≡ between ++ rest → of_key id_of_asked i (of_key number_of_asked a.number rest) ≡ []
+  pub later : ¬ IsAnswered before a replies → (i : ℕ) → i ≢ a.id → (between rest : List Asked) → after ≡ between ++ rest → of_key id_of_asked i (of_key number_of_asked a.number rest) ≡ []
   later held i other between [] e = refl
   later held i other between (z ∷ rest) e =
       let tail : of_key id_of_asked i (of_key number_of_asked a.number rest) ≡ [] = later held i other (between ++ z ∷ []) rest (e ∙ sym (append_assoc between (z ∷ []) rest)) in

@@ -4,7 +4,7 @@ use Rattle.std.specs.Prelude.{flat_map}
 use Rattle.std.proofs.lemmas.Bool.{ne_eqb, cases_eq, cases_lt, cases_Bool}
 use Rattle.std.proofs.lemmas.List.{length-map, map-append, drop_at, take_at}
 use Rattle.flight.specs.Entries.{of_key, count_of}
-use Rattle.axi_trail.specs.Streams.{IsPrefix, selected}
+use Rattle.axi_trail.specs.Streams.{Agree, IsPrefix, selected}
 use Rattle.axi_trail.specs.Waiting.{Waiting, fresh, waiting_shown, pending, advanced, answered_once, answered_by, held}
 use Rattle.axi_trail.specs.Words.{Mark, Asked, Reply, InOrderOfId, owed_marks, next_mark, next_reply, held_asked, pending_asked, burst_marks, marks, beats_of, mark_of_reply, number_of_mark, number_of_asked, number_of_reply, number_of_waiting, id_of_waiting, id_of_asked, id_of_reply, len_of_asked}
 use Rattle.axi_trail.specs.WordLaws.{NextBeat, NextBeatOfSelected, BeatKeepsOrder, NextAnswer, AnswerKeepsOrder, LaterRequestsAreHeld, HeldOfSelected}
@@ -56,8 +56,24 @@ next_of asked passed m count w others p counted e =
     let both : m ∷ p.rest ≡ next_mark w ∷ begins.0 = sym left ∙ begins.1 in
     cc
 
+nothing : (v : Waiting Asked) (vs : List (Waiting Asked)) → v ∷ vs ≡ [] → ⊥
+nothing v vs none = cc
+
+-- where a request is pending, not all beats have come
+pub not_all : (asked : List Asked) (count : ℕ) (w : Waiting Asked) (others : List (Waiting Asked)) → pending_asked count asked ≡ w ∷ others → count < length (marks asked)
+not_all asked count w others e = elim (cases_lt count (length (marks asked))) [
+  | inl lt ↦ lt
+  | inr ge ↦ absurd (nothing w others (sym e ∙ pending-none len_of_asked count asked (omega (arith, length-marks asked))))
+]
+
+next_agreed : (asked : List Asked) (passed : List Mark) (m : Mark) (w : Waiting Asked) (others : List (Waiting Asked)) → Agree (passed ++ m ∷ []) (marks asked) →
+    pending_asked (length passed) asked ≡ w ∷ others → m ≡ next_mark w
+next_agreed asked passed m w others agree e =
+    next_of asked passed m (length passed) w others
+    (agree_prefix (passed ++ m ∷ []) (marks asked) agree (omega (arith, length-append passed (m ∷ []), not_all asked (length passed) w others e))) refl e
+
 pub next_beat : NextBeat
-next_beat asked passed m w others p e = next_of asked passed m (length passed) w others p refl e
+next_beat asked passed m w others agree e = next_agreed asked passed m w others agree e
 
 -- and the next one goes on in order
 pub next_goes_on : (asked : List Asked) (passed : List Mark) (count : ℕ) (w : Waiting Asked) (others : List (Waiting Asked)) → IsPrefix passed (marks asked) → length passed ≡ count →
@@ -70,9 +86,6 @@ next_goes_on asked passed count w others p counted e =
 pub beat_keeps_order : BeatKeepsOrder
 beat_keeps_order asked passed w others p e = next_goes_on asked passed (length passed) w others p refl e
 
-nothing : (v : Waiting Asked) (vs : List (Waiting Asked)) → v ∷ vs ≡ [] → ⊥
-nothing v vs none = cc
-
 pub next_beat_of_selected : NextBeatOfSelected
 next_beat_of_selected selects asked passed m w others p e chosen agree =
     let passed_marks : take (length passed) (marks asked) ≡ passed = ap (take (length passed)) p.whole ∙ take_at passed p.rest (length passed) refl in
@@ -81,23 +94,17 @@ next_beat_of_selected selects asked passed m w others p e chosen agree =
     ∙ sym (pending_of_selected selects (length passed) asked)
     ∙ ap (selected number_of_waiting selects) e
     ∙ filter_cons (λ v. selects (number_of_waiting v)) w others chosen in
-    let some : length (selected number_of_mark selects passed) < length (marks (selected number_of_asked selects asked)) = elim (cases_lt (length (selected number_of_mark selects passed)) (length (marks (selected number_of_asked selects asked)))) [
-      | inl lt ↦ lt
-      | inr ge ↦ absurd (nothing w (selected number_of_waiting selects others)
-          (sym own ∙ pending-none len_of_asked (length (selected number_of_mark selects passed)) (selected number_of_asked selects asked) (omega (arith, length-marks (selected number_of_asked selects asked)))))
-    ] in
-    next_of (selected number_of_asked selects asked) (selected number_of_mark selects passed) m (length (selected number_of_mark selects passed)) w (selected number_of_waiting selects others)
-    (agree_prefix (selected number_of_mark selects passed ++ m ∷ []) (marks (selected number_of_asked selects asked)) agree (omega (arith, length-append (selected number_of_mark selects passed) (m ∷ [])))) refl own
+    next_agreed (selected number_of_asked selects asked) (selected number_of_mark selects passed) m w (selected number_of_waiting selects others) agree own
 
 -- the answers of an ID, and what is held of it
-own_pending : (asked : List Asked) (replies : List Reply) (id : ℕ) →
+pub own_pending : (asked : List Asked) (replies : List Reply) (id : ℕ) →
     of_key id_of_waiting id (held_asked asked replies) ≡ pending_asked (length (map mark_of_reply (of_key id_of_reply id replies))) (of_key id_of_asked id asked)
 own_pending asked replies id =
     held-of_id len_of_asked id_of_asked asked (map id_of_reply replies) id
     ∙ ap (λ n. pending_asked n (of_key id_of_asked id asked)) (count_of-replies id replies ∙ sym (length-map (of_key id_of_reply id replies) mark_of_reply))
 
 -- the requests of an ID have the ID
-first_has_id : (ws : List (Waiting Asked)) (id : ℕ) (w : Waiting Asked) (others : List (Waiting Asked)) → of_key id_of_waiting id ws ≡ w ∷ others → w.request.id ≡ id
+pub first_has_id : (ws : List (Waiting Asked)) (id : ℕ) (w : Waiting Asked) (others : List (Waiting Asked)) → of_key id_of_waiting id ws ≡ w ∷ others → w.request.id ≡ id
 first_has_id [] id w others e = absurd (cc)
 first_has_id (v ∷ ws) id w others e = elim (cases_eq v.request.id id) [
   | inl own ↦

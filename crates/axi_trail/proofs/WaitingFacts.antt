@@ -1,5 +1,5 @@
 -- Facts on requests that lack beats, where beats come in order of the requests.
-use Rattle.std.proofs.Common.{◌≡◌, ◌≢◌, ℕ, ◌+◌, ◌-◌, ◌<◌, ◌≤◌, suc, cond, List, [], ◌∷◌, ◌++◌, map, refl, sym, ◌∙◌, ap, inl, inr, arith, eq-eqb}
+use Rattle.std.proofs.Common.{subst, ◌≡◌, ◌≢◌, ℕ, ◌+◌, ◌-◌, ◌<◌, ◌≤◌, suc, cond, List, [], ◌∷◌, ◌++◌, map, refl, sym, ◌∙◌, ap, inl, inr, arith, eq-eqb}
 use Rattle.std.proofs.lemmas.Bool.{ne_eqb, lt-ltb, le-ltb, cases_eq, cases_lt}
 use Rattle.axi_trail.specs.Waiting.{Waiting, fresh, request_of, beats_by, pending, complete, advanced}
 
@@ -125,4 +125,21 @@ module _ {X : Type 0} (len_of : X → ℕ) where
         let rest : (front : List (Waiting X)) × (done : ℕ) × (back : List (Waiting X)) × (pending len_of 0 (before ++ x ∷ after) ≡ front ++ record { request = x; done = done } ∷ back) =
         pending-has 0 before x after (omega arith)
         in (record { request = y; done = count } ∷ rest.0, rest.1, rest.2, pending-within count y (before ++ x ∷ after) within ∙ ap (λ t. record { request = y; done = count } ∷ t) rest.3)
+  ]
+
+  -- where the first pending request stands
+  pub pending-place : (count : ℕ) (xs : List X) (w : Waiting X) (others : List (Waiting X)) → pending len_of count xs ≡ w ∷ others →
+      (before : List X) × (after : List X) × (xs ≡ before ++ w.request ∷ after) × (beats_by len_of before + w.done ≡ count) × (w.done ≤ len_of w.request)
+  pending-place count [] w others e = absurd (cc)
+  pending-place count (x ∷ xs) w others e = elim (cases_lt (len_of x) count) [
+    | inl lt ↦
+        let rest : (before : List X) × (after : List X) × (xs ≡ before ++ w.request ∷ after) × (beats_by len_of before + w.done ≡ count - suc (len_of x)) × (w.done ≤ len_of w.request) =
+        pending-place (count - suc (len_of x)) xs w others (sym (pending-past count x xs lt) ∙ e)
+        in (x ∷ rest.0, rest.1, ap (λ t. x ∷ t) rest.2, omega (arith, rest.3), rest.4)
+    | inr ge ↦
+        let both : record { request = x; done = count } ∷ pending len_of 0 xs ≡ w ∷ others = sym (pending-within count x xs ge) ∙ e in
+        let first : record { request = x; done = count } ≡ w = cc in
+        let request : x ≡ w.request = ap (λ v. v.request) first in
+        let done : count ≡ w.done = ap (λ v. v.done) first in
+        ([], xs, ap (λ y. y ∷ xs) request, omega arith, subst (λ (v : Waiting X). v.done ≤ len_of v.request) first ge)
   ]

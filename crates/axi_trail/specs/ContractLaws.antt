@@ -1,10 +1,11 @@
 -- What holds of every link that keeps the two contracts.
-use Rattle.std.specs.Prelude.{◌≡◌, ◌≤◌, ◌↔◌, ◌++◌, ◌∷◌, [], ℕ, List, length, map, take}
+use Rattle.std.specs.Prelude.{◌≡◌, ◌+◌, ◌≤◌, ◌↔◌, ◌++◌, ◌∷◌, [], ℕ, List, length, map, take}
 use Rattle.flight.specs.Entries.{of_key}
 use Rattle.axi_trail.specs.LinkContracts.{Asks, Answers, OneIdAtATime}
 use Rattle.axi_trail.specs.Schedule.{Share, Schedule, Progress, Grows, SameChain}
 use Rattle.axi_trail.specs.Trail.{Beats, IsBehind}
-use Rattle.axi_trail.specs.Words.{Asked, Reply, IsAnswered, InOrderOfId, beats_of, burst_asked, number_of_asked, number_of_reply, number_of_response, number_of_data}
+use Rattle.axi_trail.specs.Waiting.{Waiting}
+use Rattle.axi_trail.specs.Words.{Asked, Reply, IsAnswered, InOrderOfId, held_asked, beats_of, burst_asked, number_of_asked, number_of_reply, number_of_response, number_of_data, id_of_waiting}
 
 -- what is asked at the upper end is asked at the lower end, which has taken less and answered more
 abbrev pub AskingGoesDown : Type 0
@@ -32,6 +33,15 @@ HeldHaveOneId =
     (shares : ℕ → Share) (asked : List Asked) (replies : List Reply) → OneIdAtATime shares asked replies →
     (before : List Asked) (a : Asked) (between : List Asked) (next : Asked) (after : List Asked) → asked ≡ (before ++ a ∷ between) ++ next ∷ after →
     SameChain shares a.number next.number → ¬ IsAnswered before a replies → a.id ≡ next.id
+
+-- the next answer beat of the oldest held request of an ID is the next one of its transaction, too: all beats of the
+-- transaction's earlier requests have come, and of later ones none
+abbrev pub OldestHeldIsNextOfItsOwn : Type 0
+OldestHeldIsNextOfItsOwn =
+    (shares : ℕ → Share) (asked : List Asked) (replies : List Reply) → OneIdAtATime shares asked replies → InOrderOfId asked replies →
+    (id : ℕ) (w : Waiting Asked) (others : List (Waiting Asked)) → of_key id_of_waiting id (held_asked asked replies) ≡ w ∷ others →
+    (before : List Asked) × (after : List Asked) × (asked ≡ before ++ w.request ∷ after)
+    × (length (of_key number_of_reply w.request.number replies) ≡ beats_of (of_key number_of_asked w.request.number before) + w.done)
 
 -- a transaction's write data is there, as far as its answers go: the beats of its first requests, one for each answer
 abbrev pub AnsweredHaveTheirData : Type 0

@@ -107,7 +107,7 @@ PendingOfShown =
 -- a beat that goes on in order is the next one of the first pending request
 abbrev pub NextBeat : Type 0
 NextBeat =
-    (asked : List Asked) (passed : List Mark) (m : Mark) (w : Waiting Asked) (others : List (Waiting Asked)) → IsPrefix (passed ++ m ∷ []) (marks asked) →
+    (asked : List Asked) (passed : List Mark) (m : Mark) (w : Waiting Asked) (others : List (Waiting Asked)) → Agree (passed ++ m ∷ []) (marks asked) →
     pending_asked (length passed) asked ≡ w ∷ others → m ≡ next_mark w
 
 -- it is enough that it goes on in order among the beats of selected transactions, if the first pending one is selected

@@ -1,6 +1,6 @@
 //! What holds of every link that keeps the two contracts.
 
-ghost use Rattle.axi_trail.specs.ContractLaws.{AskingGoesDown, AnsweringGoesUp, OwnRequestsInOrder, HeldHaveOneId, AnsweredHaveTheirData};
+ghost use Rattle.axi_trail.specs.ContractLaws.{AskingGoesDown, AnsweringGoesUp, OwnRequestsInOrder, HeldHaveOneId, OldestHeldIsNextOfItsOwn, AnsweredHaveTheirData};
 
 /// The laws of asking and answering on one link.
 pub fn laws_of_contracts()
@@ -8,5 +8,6 @@ pub fn laws_of_contracts()
     ensures up { AnsweringGoesUp }
     ensures own { OwnRequestsInOrder }
     ensures chain { HeldHaveOneId }
+    ensures next { OldestHeldIsNextOfItsOwn }
     ensures written { AnsweredHaveTheirData }
 {}

@@ -1,5 +1,6 @@
 use Rattle.axi_trail.proofs.DataFacts.{answered_have_their_data}
 use Rattle.axi_trail.proofs.OrderFacts.{own_requests_in_order, held_have_one_id}
+use Rattle.axi_trail.proofs.PlaceFacts.{oldest_held_is_next_of_its_own}
 use Rattle.axi_trail.proofs.SlackFacts.{asking_goes_down, answering_goes_up}
 use Rattle.axi_trail.proofs.contract_laws.laws_of_contracts.Goals as goal
 
@@ -9,5 +10,6 @@ returns c = record {
   up = answering_goes_up;
   own = own_requests_in_order;
   chain = held_have_one_id;
+  next = oldest_held_is_next_of_its_own;
   written = answered_have_their_data;
 }
