@@ -99,7 +99,10 @@ fn memory_pair(rt: HostRuntime) -> Result<(), Fail> {
     for (fail, limit, want) in faults.iter() {
         let mut source = source_of(alloc, fail)?;
         match read_all(alloc, &mut source, *limit) {
-            Ok(text) => assert_eq!(rt; text.as_slice(), b"abcde".as_slice()),
+            Ok(text) => {
+                assert_eq!(rt; text.as_slice(), b"abcde".as_slice());
+                assert_eq!(rt; None, *want);
+            }
             Err(fault) => assert_eq!(rt; Some(fault), *want),
         }
     }
