@@ -1,4 +1,5 @@
 pub mod DataFacts
+pub mod ExampleFacts
 pub mod FilterFacts
 pub mod HeldFacts
 pub mod InductionFacts

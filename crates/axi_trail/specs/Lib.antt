@@ -1,4 +1,5 @@
 pub mod ContractLaws
+pub mod Example
 pub mod LinkContracts
 pub mod NetworkLaws
 pub mod Schedule
