@@ -1,8 +1,8 @@
 -- Facts on ranges, on folds over a part of them, and on padded lists.
-use Rattle.std.proofs.Common.{◌≡◌, ℕ, ◌+◌, ◌<◌, ◌≤◌, suc, zero, Bool, true, false, cond, List, [], ◌∷◌, ◌++◌, length, map, replicate, refl, sym, ◌∙◌, ap, arith, add-one}
+use Rattle.std.proofs.Common.{◌≡◌, ℕ, ◌+◌, ◌<◌, ◌≤◌, suc, zero, Bool, true, false, cond, List, [], ◌∷◌, ◌++◌, length, map, replicate, refl, sym, ◌∙◌, ap, arith, add-one, inl, inr}
 use Rattle.std.specs.Prelude.{filter, fold, slice_set, nat_lt}
 use Rattle.std.specs.List.{range_with_len, AllByRecursion}
-use Rattle.std.proofs.lemmas.Bool.{lt-ltb, le-ltb}
+use Rattle.std.proofs.lemmas.Bool.{lt-ltb, le-ltb, cases_eq}
 use Rattle.std.proofs.lemmas.List.{map-append}
 use Rattle.std.proofs.lemmas.List.Elements.{filter-append}
 use Rattle.std.proofs.lemmas.List.Sums.{fold-append}
@@ -72,7 +72,7 @@ range-split a (suc m) r =
     ap (range_with_len a) more
     ∙ ap (λ t. a ∷ t) (range-split (a + 1) m r ∙ ap (λ b. range_with_len (a + 1) m ++ range_with_len b r) shift)
 
-map-range-constant : (a n b : ℕ) → map (λ k. b) (range_with_len a n) ≡ replicate n b
+pub map-range-constant : (a n b : ℕ) → map (λ k. b) (range_with_len a n) ≡ replicate n b
 map-range-constant a zero b = refl
 map-range-constant a (suc n) b = ap (λ t. b ∷ t) (map-range-constant (a + 1) n b)
 
@@ -86,3 +86,30 @@ map-range-padded f end r =
     ∙ ap (λ t. map f (range_with_len 0 end) ++ t)
     (map-range-agree padded (λ k. 0) (0 + end) r (λ k le lt. ap (λ c. cond c (f k) 0) (le-ltb k end (omega arith)))
     ∙ map-range-constant (0 + end) r 0)
+
+-- no number passes
+pub filter-none : (p : ℕ → Bool) (a n : ℕ) → ((k : ℕ) → p k ≡ false) → filter p (range_with_len a n) ≡ []
+filter-none p a zero none = refl
+filter-none p a (suc n) none =
+    ap (λ c. cond c (a ∷ filter p (range_with_len (a + 1) n)) (filter p (range_with_len (a + 1) n))) (none a)
+    ∙ filter-none p (a + 1) n none
+
+-- where none of a range passes, each fails
+pub filter-empty : (p : ℕ → Bool) (a n : ℕ) → filter p (range_with_len a n) ≡ [] → (k : ℕ) → a ≤ k → k < a + n → p k ≡ false
+filter-empty p a zero e k le lt = absurd (omega arith)
+filter-empty p a (suc n) e k le lt =
+    let rest : List ℕ = filter p (range_with_len (a + 1) n) in
+    let go : (c : Bool) → p a ≡ c → cond c (a ∷ rest) rest ≡ [] → p k ≡ false =
+    λ c is e. elim c as (λ c. p a ≡ c → cond c (a ∷ rest) rest ≡ [] → p k ≡ false) [
+      | true ↦ λ is e. absurd (cc)
+      | false ↦ λ is e. elim (cases_eq k a) [
+        | inl same ↦ ap p same ∙ is
+        | inr other ↦ filter-empty p (a + 1) n e k (omega arith) (omega arith)
+      ]
+    ] is e
+    in go (p a) refl e
+
+-- the numbers of a range are below its end
+pub range-below : (a n end : ℕ) → a + n ≤ end → AllByRecursion (λ k. k < end) (range_with_len a n)
+range-below a zero end le = tt
+range-below a (suc n) end le = (omega arith, range-below (a + 1) n end (omega arith))

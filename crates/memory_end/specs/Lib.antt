@@ -1,5 +1,7 @@
 pub mod Beats
 pub mod Events
+pub mod Laws
+pub mod MemoryInside
 pub mod MemoryState
 pub mod MemoryTable
 pub mod Status

@@ -1,6 +1,6 @@
 -- What a memory does in a round (Arm IHI 0022, relationships between the channels): a function of its state and its
 -- link as they stand at the round's start.
-use Rattle.std.specs.Prelude.{◌==◌, ◌<◌, ◌+◌, ◌^◌, ◌++◌, ◌∷◌, [], ℕ, List, Bool, Option, Some, None, length, drop, nat_lt, is_some, IfSome, if◌then◌else◌, option_map, option_and_then, find}
+use Rattle.std.specs.Prelude.{◌==◌, ◌<◌, ◌+◌, ◌^◌, ◌++◌, ◌∷◌, [], ℕ, List, Bool, Option, Some, None, length, drop, nat_lt, is_some, IfSome, if◌then◌else◌, option_map, option_and_then, find, suc}
 use Rattle.axi_beats.specs.declared.beat.Addr.{Addr}
 use Rattle.axi_beats.specs.declared.beat.WBeat.{WBeat}
 use Rattle.axi_beats.specs.declared.beat.BBeat.{BBeat}
@@ -35,6 +35,11 @@ lacks_data entry = nat_lt entry.taken (beats_of entry.request)
 abbrev pub oldest_lacking : List WriteEntry → Option WriteEntry
 oldest_lacking entries = find lacks_data entries
 
+-- its place
+abbrev pub lacking_place : List WriteEntry → Option ℕ
+lacking_place [] = None
+lacking_place (entry ∷ entries) = if lacks_data entry then Some 0 else option_map suc (lacking_place entries)
+
 -- the response to a write
 abbrev pub answer_to : WriteEntry → BBeat
 answer_to entry = record { id = entry.request.id; resp = entry.worst; tag = entry.request.tag }
@@ -49,29 +54,39 @@ next_beat config store entry = record {
   tag = entry.request.tag;
 }
 
--- AW: the head is taken where one more write fits
+-- the head is taken where one more request fits
+abbrev pub taken_request : {X : Type 0} → List Addr → List X → Option Addr
+taken_request queue entries = passing (fits entries) (head_of queue)
+
+-- the head is taken where a write lacks data
+abbrev pub taken_data : LinkView → List WriteEntry → Option WBeat
+taken_data link entries = passing (is_some (oldest_lacking entries)) (head_of link.w)
+
+-- the oldest write is answered where it has all its data and there is room
+abbrev pub put_response : LinkView → List WriteEntry → Option BBeat
+put_response link entries =
+    passing (has_room link.depth link.b)
+    (option_and_then (λ entry. if lacks_data entry then None else Some (answer_to entry)) (head_of entries))
+
+-- the next beat of the oldest read is put where there is room
+abbrev pub put_read : MemoryConfig → Store → LinkView → List ReadEntry → Option RBeat
+put_read config store link entries = passing (has_room link.depth link.r) (option_map (next_beat config store) (head_of entries))
+
+-- what is taken or put on each channel
 abbrev pub memory_aw : List LinkView → MemoryState → Option Addr
-memory_aw links state = passing (fits state.write_entries) (head_of (memory_link links state).aw)
+memory_aw links state = taken_request (memory_link links state).aw state.write_entries
 
--- W: the head is taken where a write lacks data
 abbrev pub memory_w : List LinkView → MemoryState → Option WBeat
-memory_w links state = passing (is_some (oldest_lacking state.write_entries)) (head_of (memory_link links state).w)
+memory_w links state = taken_data (memory_link links state) state.write_entries
 
--- B: the oldest write is answered where it has all its data and there is room
 abbrev pub memory_b : List LinkView → MemoryState → Option BBeat
-memory_b links state =
-    passing (has_room (memory_link links state).depth (memory_link links state).b)
-    (option_and_then (λ entry. if lacks_data entry then None else Some (answer_to entry)) (head_of state.write_entries))
+memory_b links state = put_response (memory_link links state) state.write_entries
 
--- AR: the head is taken where one more read fits
 abbrev pub memory_ar : List LinkView → MemoryState → Option Addr
-memory_ar links state = passing (fits state.read_entries) (head_of (memory_link links state).ar)
+memory_ar links state = taken_request (memory_link links state).ar state.read_entries
 
--- R: the next beat of the oldest read is put where there is room
 abbrev pub memory_r : List LinkView → MemoryState → Option RBeat
-memory_r links state =
-    passing (has_room (memory_link links state).depth (memory_link links state).r)
-    (option_map (next_beat state.config state.store) (head_of state.read_entries))
+memory_r links state = put_read state.config state.store (memory_link links state) state.read_entries
 
 -- B: the oldest write leaves
 abbrev pub after_b : Option BBeat → List WriteEntry → List WriteEntry
@@ -120,9 +135,9 @@ store_with config None w store = store
 store_with config (Some entry) w store = all_written store (written_bytes config entry.request entry.taken w)
 
 -- W: the beat's bytes are written for the oldest write that lacks data
-abbrev pub store_after : MemoryState → Option WBeat → Store
-store_after state None = state.store
-store_after state (Some w) = store_with state.config (oldest_lacking state.write_entries) w state.store
+abbrev pub store_after : MemoryConfig → Option WBeat → List WriteEntry → Store → Store
+store_after config None entries store = store
+store_after config (Some w) entries store = store_with config (oldest_lacking entries) w store
 
 -- the state after the round: the changes of B, R, W, AW and AR in this order
 abbrev pub memory_next : List LinkView → MemoryState → MemoryState
@@ -131,7 +146,7 @@ memory_next links state = record {
   upper = state.upper;
   write_entries = after_aw (memory_aw links state) (after_w state.config (memory_w links state) (after_b (memory_b links state) state.write_entries));
   read_entries = after_ar (memory_ar links state) (after_r (memory_r links state) state.read_entries);
-  store = store_after state (memory_w links state);
+  store = store_after state.config (memory_w links state) state.write_entries state.store;
 }
 
 -- the takes and puts of the round

@@ -6,8 +6,15 @@
 //! it does in the round. (Arm IHI 0022, transfer behavior and transaction ordering: a subordinate.)
 #![tactic(auto)]
 
+mod beats;
 mod config;
 mod entry;
+mod memory;
+mod memory_laws;
+mod reads;
 mod store;
+mod writes;
 
 pub use config::{MemoryConfig, Range};
+pub use memory::{Memory, crosses_threads};
+pub use memory_laws::laws;

@@ -1,0 +1,161 @@
+-- What a memory keeps stays sound from round to round.
+use Rattle.std.proofs.Common.{◌≡◌, ◌≢◌, ℕ, ◌+◌, ◌*◌, ◌<◌, ◌==◌, suc, zero, Bool, true, false, cond, List, [], ◌∷◌, Option, Some, None, length, refl, sym, ◌∙◌, ap, subst, arith, eq-eqb, true≢false}
+use Rattle.std.specs.Prelude.{All, AllPairs, IfSome}
+use Rattle.std.proofs.lemmas.Bool.{ltb-true}
+use Rattle.std.proofs.lemmas.List.{length-set, length-replicate}
+use Rattle.std.proofs.lemmas.List.Elements.{All-append, All-drop, All-nil}
+use Rattle.axi_beats.specs.declared.beat.Addr.{Addr}
+use Rattle.axi_beats.specs.declared.beat.BBeat.{BBeat}
+use Rattle.axi_beats.specs.declared.beat.WBeat.{WBeat}
+use Rattle.axi_beats.specs.declared.response.Resp.TheVariants.{Okay}
+use Rattle.axi_beats.specs.Word.{IsWholeWord}
+use Rattle.axi_link.specs.LinkView.{LinkView}
+use Rattle.axi_link.specs.Table.{head_of, has_room, passing}
+use Rattle.memory_end.specs.declared.config.MemoryConfig.{MemoryConfig}
+use Rattle.memory_end.specs.declared.entry.WriteEntry.{WriteEntry}
+use Rattle.memory_end.specs.declared.entry.ReadEntry.{ReadEntry}
+use Rattle.memory_end.specs.Beats.{Byte, all_written, beats_of, written_bytes}
+use Rattle.memory_end.specs.Laws.{NewIsMemory, StaysMemory}
+use Rattle.memory_end.specs.MemoryState.{IsWriteEntry, IsReadEntry, AreLinesAmong}
+use Rattle.memory_end.specs.MemoryTable.{after_aw, after_ar, after_b, after_r, after_w, fits, lacks_data, memory_link, memory_aw, memory_ar, memory_b, memory_r, memory_w, next_beat, oldest_lacking, put_read, store_after, store_with, with_beat, with_data}
+use Rattle.memory_end.specs.Store.{Store, IsStore, byte_place, written, written_at}
+
+module _ {X : Type 0} (P : X → Type 0) where
+  all-cons : (x : X) (xs : List X) → P x → All P xs → All P (x ∷ xs)
+  all-cons x xs here rest zero d lt = here
+  all-cons x xs here rest (suc k) d lt = rest k d (omega arith)
+
+  all-head : (x : X) (xs : List X) → All P (x ∷ xs) → P x
+  all-head x xs all = all 0 x (omega arith)
+
+  all-tail : (x : X) (xs : List X) → All P (x ∷ xs) → All P xs
+  all-tail x xs all k d lt = all (suc k) d (omega arith)
+
+-- bytes are written over, and nothing else changes
+record Keeps (before after : Store) : Type 0 where
+  lines : after.lines ≡ before.lines
+  size : length after.bytes ≡ length before.bytes
+  fill : after.fill ≡ before.fill
+
+written_at-keeps : (store : Store) (place : Option ℕ) (value : ℕ) → Keeps store (written_at store place value)
+written_at-keeps store None value = record { lines = refl; size = refl; fill = refl }
+written_at-keeps store (Some place) value = record { lines = refl; size = length-set store.bytes place value; fill = refl }
+
+all_written-keeps : (bytes : List Byte) (store : Store) → Keeps store (all_written store bytes)
+all_written-keeps [] store = record { lines = refl; size = refl; fill = refl }
+all_written-keeps (byte ∷ bytes) store =
+    let first : Keeps store (written store byte.address byte.value) = written_at-keeps store (byte_place store byte.address) byte.value in
+    let rest : Keeps (written store byte.address byte.value) (all_written (written store byte.address byte.value) bytes) = all_written-keeps bytes (written store byte.address byte.value) in
+    record { lines = rest.lines ∙ first.lines; size = rest.size ∙ first.size; fill = rest.fill ∙ first.fill }
+
+store_with-keeps : (config : MemoryConfig) (o : Option WriteEntry) (w : WBeat) (store : Store) → Keeps store (store_with config o w store)
+store_with-keeps config None w store = record { lines = refl; size = refl; fill = refl }
+store_with-keeps config (Some entry) w store = all_written-keeps (written_bytes config entry.request entry.taken w) store
+
+store_after-keeps : (config : MemoryConfig) (o : Option WBeat) (entries : List WriteEntry) (store : Store) → Keeps store (store_after config o entries store)
+store_after-keeps config None entries store = record { lines = refl; size = refl; fill = refl }
+store_after-keeps config (Some w) entries store = store_with-keeps config (oldest_lacking entries) w store
+
+store-stays : (before after : Store) → Keeps before after → IsStore before → IsStore after
+store-stays before after same is = record {
+  ascending = subst (λ (lines : List ℕ). AllPairs (λ a b. a < b) lines) (sym same.lines) is.ascending;
+  whole = same.size ∙ is.whole ∙ ap (λ lines. 128 * length lines) (sym same.lines);
+}
+
+module _ (config : MemoryConfig) (lines : List ℕ) where
+  after_b-stays : (o : Option BBeat) (entries : List WriteEntry) → All (IsWriteEntry config lines) entries → All (IsWriteEntry config lines) (after_b o entries)
+  after_b-stays None entries all = all
+  after_b-stays (Some beat) entries all = All-drop (IsWriteEntry config lines) 1 entries all
+
+  with_beat-stays : (w : WBeat) (entry : WriteEntry) → lacks_data entry ≡ true → IsWriteEntry config lines entry → IsWriteEntry config lines (with_beat config w entry)
+  with_beat-stays w entry lacks is =
+      let more : entry.taken < beats_of entry.request = ltb-true entry.taken (beats_of entry.request) lacks in
+      record { word = is.word; lines_kept = is.lines_kept; taken = omega arith }
+
+  with_data-stays : (w : WBeat) (entries : List WriteEntry) → All (IsWriteEntry config lines) entries → All (IsWriteEntry config lines) (with_data config w entries)
+  with_data-stays w [] all = all
+  with_data-stays w (e ∷ es) all =
+      let P : WriteEntry → Type 0 = IsWriteEntry config lines in
+      let head : P e = all-head P e es all in
+      let tail : All P es = all-tail P e es all in
+      let go : (b : Bool) → lacks_data e ≡ b → All P (cond b (with_beat config w e ∷ es) (e ∷ with_data config w es)) =
+      elim [
+        | true ↦ λ is. all-cons P (with_beat config w e) es (with_beat-stays w e is head) tail
+        | false ↦ λ is. all-cons P e (with_data config w es) head (with_data-stays w es tail)
+      ]
+      in go (lacks_data e) refl
+
+  after_w-stays : (o : Option WBeat) (entries : List WriteEntry) → All (IsWriteEntry config lines) entries → All (IsWriteEntry config lines) (after_w config o entries)
+  after_w-stays None entries all = all
+  after_w-stays (Some w) entries all = with_data-stays w entries all
+
+  after_aw-stays : (o : Option Addr) (entries : List WriteEntry) → IfSome o (IsWholeWord config.bus) → IfSome o (AreLinesAmong config lines) → All (IsWriteEntry config lines) entries → All (IsWriteEntry config lines) (after_aw o entries)
+  after_aw-stays None entries word kept all = all
+  after_aw-stays (Some request) entries word kept all =
+      let P : WriteEntry → Type 0 = IsWriteEntry config lines in
+      let new : WriteEntry = record { request = request; taken = 0; worst = Okay } in
+      All-append P entries (new ∷ []) all (all-cons P new [] record { word = word; lines_kept = kept; taken = omega arith } (All-nil P))
+
+-- what holds of a head holds of what is taken of it
+taken-is : (P : Addr → Type 0) (may : Bool) (o : Option Addr) → IfSome o P → IfSome (passing may o) P
+taken-is P true o is = is
+taken-is P false o is = tt
+
+module _ (config : MemoryConfig) where
+  after_r-stays : (store : Store) (link : LinkView) (entries : List ReadEntry) → All (IsReadEntry config) entries → All (IsReadEntry config) (after_r (put_read config store link entries) entries)
+  after_r-stays store link [] all =
+      let go : (room : Bool) → All (IsReadEntry config) (after_r (passing room None) []) = elim [ true ↦ all | false ↦ all ] in
+      go (has_room link.depth link.r)
+  after_r-stays store link (e ∷ es) all =
+      let P : ReadEntry → Type 0 = IsReadEntry config in
+      let head : P e = all-head P e es all in
+      let tail : All P es = all-tail P e es all in
+      let step : (last : Bool) → (e.put == e.request.len) ≡ last → All P (cond last es (record { request = e.request; put = e.put + 1 } ∷ es)) =
+      elim [
+        | true ↦ λ is. tail
+        | false ↦ λ is.
+            let other : e.put ≢ e.request.len = λ same. true≢false (sym (eq-eqb e.put e.request.len same) ∙ is) in
+            all-cons P record { request = e.request; put = e.put + 1 } es record { word = head.word; put = omega (arith, head.put) } tail
+      ] in
+      let go : (room : Bool) → All P (after_r (passing room (Some (next_beat config store e))) (e ∷ es)) =
+      elim [ true ↦ step (e.put == e.request.len) refl | false ↦ all ]
+      in go (has_room link.depth link.r)
+
+  after_ar-stays : (o : Option Addr) (entries : List ReadEntry) → IfSome o (IsWholeWord config.bus) → All (IsReadEntry config) entries → All (IsReadEntry config) (after_ar o entries)
+  after_ar-stays None entries word all = all
+  after_ar-stays (Some request) entries word all =
+      let P : ReadEntry → Type 0 = IsReadEntry config in
+      let new : ReadEntry = record { request = request; put = 0 } in
+      All-append P entries (new ∷ []) all (all-cons P new [] record { word = word; put = omega arith } (All-nil P))
+
+pub memory-stays : StaysMemory
+memory-stays round links state is can =
+    let link : LinkView = memory_link links state in
+    let keeps : Keeps state.store (store_after state.config (memory_w links state) state.write_entries state.store) =
+    store_after-keeps state.config (memory_w links state) state.write_entries state.store in
+    let words : IfSome (memory_aw links state) (IsWholeWord state.config.bus) = taken-is (IsWholeWord state.config.bus) (fits state.write_entries) (head_of link.aw) can.aw in
+    let kept : IfSome (memory_aw links state) (AreLinesAmong state.config state.store.lines) =
+    taken-is (AreLinesAmong state.config state.store.lines) (fits state.write_entries) (head_of link.aw) can.aw_lines in
+    let reads : IfSome (memory_ar links state) (IsWholeWord state.config.bus) = taken-is (IsWholeWord state.config.bus) (fits state.read_entries) (head_of link.ar) can.ar in
+    let answered : List WriteEntry = after_b (memory_b links state) state.write_entries in
+    let filled : List WriteEntry = after_w state.config (memory_w links state) answered in
+    let writes : All (IsWriteEntry state.config state.store.lines) (after_aw (memory_aw links state) filled) =
+    after_aw-stays state.config state.store.lines (memory_aw links state) filled words kept
+    (after_w-stays state.config state.store.lines (memory_w links state) answered (after_b-stays state.config state.store.lines (memory_b links state) state.write_entries is.writes)) in
+    record {
+      config = is.config;
+      store = store-stays state.store (store_after state.config (memory_w links state) state.write_entries state.store) keeps is.store;
+      fill = keeps.fill ∙ is.fill;
+      writes = subst (λ (lines : List ℕ). All (IsWriteEntry state.config lines) (after_aw (memory_aw links state) filled)) (sym keeps.lines) writes;
+      reads = after_ar-stays state.config (memory_ar links state) (after_r (memory_r links state) state.read_entries) reads
+          (after_r-stays state.config state.store link state.read_entries is.reads);
+    }
+
+pub new-is_memory : NewIsMemory
+new-is_memory config upper touched is ascending = record {
+  config = is;
+  store = record { ascending = ascending; whole = length-replicate (128 * length touched) config.fill };
+  fill = refl;
+  writes = All-nil (IsWriteEntry config touched);
+  reads = All-nil (IsReadEntry config);
+}

@@ -1,0 +1,19 @@
+use Rattle.memory_end.proofs.FitLemmas.{memory-fits}
+use Rattle.memory_end.proofs.ReadLemmas.{reads-written, reads-others}
+use Rattle.memory_end.proofs.StayLemmas.{memory-stays, new-is_memory}
+use Rattle.memory_end.proofs.memory_laws.laws.Goals as goal
+
+pub returns-clause-reads_written : goal.returns-clause-reads_written
+returns-clause-reads_written c = reads-written
+
+pub returns-clause-reads_others : goal.returns-clause-reads_others
+returns-clause-reads_others c = reads-others
+
+pub returns-clause-fits : goal.returns-clause-fits
+returns-clause-fits c = memory-fits
+
+pub returns-clause-opens : goal.returns-clause-opens
+returns-clause-opens c = new-is_memory
+
+pub returns-clause-stays : goal.returns-clause-stays
+returns-clause-stays c = memory-stays

@@ -1,0 +1,26 @@
+-- How a memory keeps its state, and what it never does.
+use Rattle.std.specs.Prelude.{◌≡◌, None}
+use Rattle.axi_link.specs.Acted.{Acted}
+use Rattle.memory_end.specs.MemoryState.{MemoryState, IsMemory}
+use Rattle.memory_end.specs.declared.memory.Memory.TheInside.{Inside}
+
+abbrev pub memory_state : Inside → MemoryState
+memory_state m = record {
+  config = m.config;
+  upper = m.upper;
+  write_entries = m.write_entries;
+  read_entries = m.read_entries;
+  store = m.store;
+}
+
+abbrev pub memory_view : Inside → Acted MemoryState
+memory_view m = record { state = memory_state m; out = m.out }
+
+-- it puts no request and no write data, and takes no answer
+pub record IsMemoryInside (m : Inside) : Type 0 where
+  pub state : IsMemory (memory_state m)
+  pub aw_put : m.out.aw_put ≡ None
+  pub w_put : m.out.w_put ≡ None
+  pub b_take : m.out.b_take ≡ None
+  pub ar_put : m.out.ar_put ≡ None
+  pub r_take : m.out.r_take ≡ None

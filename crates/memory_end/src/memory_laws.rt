@@ -1,0 +1,16 @@
+//! What holds of a memory's definitions.
+
+ghost use Rattle.memory_end.specs.Laws.{MovesAlwaysFit, NewIsMemory, StaysMemory};
+ghost use Rattle.memory_end.specs.Store.{ReadsOthers, ReadsWritten};
+
+/// The laws of a memory's bytes and of its table.
+pub fn laws()
+    // Read after write, at the same address and at another one.
+    ensures reads_written { ReadsWritten }
+    ensures reads_others { ReadsOthers }
+
+    // What the table takes and puts fits the links, and what it keeps stays sound.
+    ensures fits { MovesAlwaysFit }
+    ensures opens { NewIsMemory }
+    ensures stays { StaysMemory }
+{}

@@ -1,0 +1,87 @@
+//! The read channels of a memory in one round: AR and R.
+
+ghost use Rattle.std.specs.Prelude.{◌≡◌, ◌<◌, All, IsTrue, is_some, length, option_copied};
+ghost use Rattle.axi_link.specs.Table.{passing, put_of, take_of};
+ghost use Rattle.memory_end.specs.MemoryState.{IsMemoryConfig, IsReadEntry};
+ghost use Rattle.memory_end.specs.MemoryTable.{after_ar, after_r, next_beat, put_read};
+
+use crate::beats::{read_lanes, valid_status};
+use crate::config::MemoryConfig;
+use crate::entry::ReadEntry;
+use crate::store::ByteStore;
+use axi_beats::{Addr, RBeat};
+use axi_link::{Link, set_put, set_take};
+use flight::Flight;
+
+/// R: puts the next beat of the oldest read where there is room; with its last one it leaves.
+pub fn put_r(
+    put: &mut Option<(u32, RBeat)>,
+    number: u32,
+    link: &Link,
+    config: &MemoryConfig,
+    entries: &mut Flight<ReadEntry>,
+    store: &ByteStore,
+)
+    requires config { IsMemoryConfig config.now }
+    requires reads { All (IsReadEntry config.now) entries.old }
+    ensures put { put.new ≡ put_of number (put_read config.now store.now link.now entries.old) }
+    ensures entries { entries.new ≡ after_r (put_read config.now store.now link.now entries.old) entries.old }
+{
+    if !link.room_r() || entries.is_empty() {
+        set_put(put, number, None);
+        return;
+    }
+    let entry = *entries.get(0);
+    let beat = next_beat(config, &entry, store);
+    set_put(put, number, Some(&beat));
+    if beat.last {
+        entries.take(0);
+    } else {
+        entries.set(
+            0,
+            ReadEntry {
+                request: entry.request,
+                put: entry.put + 1,
+            },
+        );
+    }
+}
+
+/// The next beat of the answer to a read.
+fn next_beat(config: &MemoryConfig, entry: &ReadEntry, store: &ByteStore) -> RBeat
+    requires config { IsMemoryConfig config.now }
+    requires entry { IsReadEntry config.now entry.now }
+    ensures { result ≡ next_beat config.now store.now entry.now }
+{
+    RBeat {
+        id: entry.request.id,
+        lanes: read_lanes(store, config, entry),
+        resp: valid_status(config, entry),
+        last: entry.put == u16::from(entry.request.len),
+        tag: entry.request.tag,
+    }
+}
+
+/// AR: takes the head where one more read fits, and lets it wait for its beats.
+pub fn take_ar(
+    take: &mut Option<u32>,
+    number: u32,
+    head: Option<&Addr>,
+    fits: bool,
+    entries: &mut Flight<ReadEntry>,
+)
+    requires { IsTrue fits → length entries.old < 16 }
+    ensures take { take.new ≡ take_of number (is_some (passing fits (option_copied head.entry))) }
+    ensures entries { entries.new ≡ after_ar (passing fits (option_copied head.entry)) entries.old }
+{
+    match head {
+        Some(request) if fits => {
+            set_take(take, number, true);
+            entries.push(ReadEntry {
+                request: *request,
+                put: 0,
+            });
+        }
+        _ => set_take(take, number, false),
+    }
+}
