@@ -1,1 +1,5 @@
 pub mod TransferLemmas
+pub mod TrafficLaws
+pub mod ScriptLaws
+pub mod DocumentLaws
+mod KnownInputs

@@ -3,11 +3,18 @@
 //! `outside` has the source that the input comes from, the sink that the text goes to, and the gate that the parts
 //! of a phase pass, each with what it promises and with the implementations that stand in memory and over the
 //! runtime's streams. `status` has the answers of the top call.
+//!
+//! `document` reads the input, and its lines by `traffic`, to the manager's script. `texts` writes what the program
+//! says.
 #![tactic(auto)]
 
+mod document;
 mod outside;
 mod status;
+mod texts;
+mod traffic;
 
+pub use document::{DocumentFault, INPUT_LIMIT, read_document};
 pub use outside::gate::{Gate, OpenGate};
 pub use outside::memory_sink::MemorySink;
 pub use outside::memory_source::MemorySource;
@@ -17,3 +24,5 @@ pub use outside::source::{Failed, Source};
 pub use outside::standard::{StdinSource, StdoutSink};
 pub use outside::write_all::write_piece;
 pub use status::{Refusal, Status};
+pub use texts::{render_refusal, render_rounds};
+pub use traffic::{Access, TrafficFault, TrafficLine, read_line, read_traffic};

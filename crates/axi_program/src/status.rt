@@ -1,6 +1,7 @@
 //! What the top call answers.
 
 ghost use Rattle.std.specs.Prelude.{◌≡◌};
+ghost use Rattle.axi_program.specs.Refusals.{no_separator, not_built};
 ghost use Rattle.axi_program.specs.Status.{exit_code};
 
 /// Why an input is refused.
@@ -12,6 +13,36 @@ pub struct Refusal {
     pub place: u32,
     /// The broken rule of the traffic line, or 0 where the cause has no rules.
     pub rule: u8,
+}
+
+impl Refusal {
+    /// The code of an input none of whose lines is `%%`.
+    pub const NO_SEPARATOR: u8 = 3;
+
+    /// The code of an input, or of a line of traffic, that isn't of a form that is read yet.
+    pub const NOT_BUILT: u8 = 23;
+
+    /// No line of the input is `%%`.
+    pub fn no_separator() -> Refusal
+        ensures { result ≡ no_separator }
+    {
+        Refusal {
+            code: Refusal::NO_SEPARATOR,
+            place: 0,
+            rule: 0,
+        }
+    }
+
+    /// The line of traffic with this number isn't of a form that is read yet, or for place 0 the input.
+    pub fn not_built(place: u32) -> Refusal
+        ensures { result ≡ not_built place }
+    {
+        Refusal {
+            code: Refusal::NOT_BUILT,
+            place,
+            rule: 0,
+        }
+    }
 }
 
 /// How a command ended.

@@ -1,0 +1,35 @@
+-- Scripts that grow by one transaction.
+use Rattle.std.proofs.Common.{◌≡◌, ℕ, ◌+◌, ◌^◌, ◌<◌, zero, suc, List, [], ◌∷◌, ◌++◌, length, refl, subst, sym, arith}
+use Rattle.std.specs.Prelude.{IfSome, slice_get}
+use Rattle.std.proofs.lemmas.List.Elements.{All-push}
+use Rattle.manager_end.specs.Script.{ScriptItem}
+use Rattle.axi_beats.specs.declared.beat.Addr.{Addr}
+use Rattle.axi_program.specs.declared.traffic.Access.{Access}
+use Rattle.axi_program.specs.Traffic.{IsAccess, FitsNetwork, IsNetworkScript, request_for}
+
+module _ {X : Type 0} where
+  -- what holds of each element and its place holds after one more
+  each-push : (P : ℕ → X → Type 0) (xs : List X) (x : X) → ((n : ℕ) → IfSome (slice_get xs n) (P n)) → P (length xs) x → (n : ℕ) → IfSome (slice_get (xs ++ x ∷ []) n) (P n)
+  each-push P [] x all here zero = here
+  each-push P [] x all here (suc n) = tt
+  each-push P (y ∷ ys) x all here zero = all 0
+  each-push P (y ∷ ys) x all here (suc n) = each-push (λ k. P (suc k)) ys x (λ k. all (suc k)) here n
+
+-- a request for an access in its ranges is one for a whole word inside the memory
+fits-request : (item : ScriptItem) (access : Access) → item.txn.request ≡ request_for access → IsAccess access → FitsNetwork item
+fits-request item access is in_range =
+    let Fits : Addr → Type 0 = λ request. FitsNetwork (record item { txn = record item.txn { request = request } }) in
+    let small : access.addr < 2 ^ 63 = omega (arith, in_range.inside) in
+    subst Fits (sym is) (record {
+      word = record { one_beat = refl; incrementing = refl; wide = refl; aligned = in_range.aligned; small = small };
+      inside = in_range.inside;
+      id = in_range.id;
+    })
+
+-- the script after one more transaction
+pub suits-push : (script after : List ScriptItem) (item : ScriptItem) (access : Access) → after ≡ script ++ item ∷ [] → item.txn.request ≡ request_for access → IsAccess access
+    → item.txn.number ≡ length script + 1 → IsNetworkScript script → IsNetworkScript after
+suits-push script after item access is request in_range number suits = subst IsNetworkScript (sym is) (record {
+  fits = All-push FitsNetwork script item suits.fits (fits-request item access request in_range);
+  numbered = each-push (λ n (i : ScriptItem). i.txn.number ≡ n + 1) script item suits.numbered number;
+})
