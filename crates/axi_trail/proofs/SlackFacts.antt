@@ -1,14 +1,17 @@
 -- What is asked goes down a link, and what is answered goes up.
-use Rattle.std.proofs.Common.{◌≡◌, ℕ, ◌+◌, ◌^◌, ◌<◌, ◌≤◌, Bool, IsTrue, List, [], ◌∷◌, ◌++◌, length, take, sym, ◌∙◌, ap, arith, append_assoc}
+use Rattle.std.proofs.Common.{◌≡◌, ℕ, suc, ◌+◌, ◌^◌, ◌<◌, ◌≤◌, Bool, IsTrue, List, [], ◌∷◌, ◌++◌, length, take, sym, ◌∙◌, ap, arith, append_assoc}
 use Rattle.std.specs.Prelude.{filter, slice_range}
 use Rattle.std.proofs.lemmas.List.Elements.{All-weaker}
 use Rattle.axi_beats.specs.declared.beat.Addr.{Addr}
 use Rattle.axi_beats.specs.declared.beat.RBeat.{RBeat}
-use Rattle.axi_trail.specs.ContractLaws.{AskingGoesDown, AnsweringGoesUp}
+use Rattle.axi_trail.specs.ContractLaws.{AskingGoesDown, AnsweringGoesUp, AskedThroughLink, AnsweredThroughLink}
 use Rattle.axi_trail.specs.LinkContracts.{Requests, without_id}
 use Rattle.axi_trail.specs.Schedule.{Share, Span, bytes_on}
 use Rattle.axi_trail.specs.Streams.{IsPrefix}
+use Rattle.axi_trail.specs.Trail.{IsBehind, IsFifo, trail_above, trail_below, seen_above, seen_below}
 use Rattle.axi_trail.specs.Words.{Mark, Asked, Reply, IsAnswered, InOrderOfId, marks_of, completed, mark_of_data, mark_of_reply, write_asked, burst_asked, write_reply, read_reply, number_of_address, number_of_data, number_of_response, number_of_read_data, id_of_asked, id_of_reply}
+use Rattle.axi_link.specs.Table.{link_of}
+use Rattle.axi_trail.proofs.TrailFacts.{links_are_queues, taken_was_put_before, heads_are_behind}
 use Rattle.axi_trail.proofs.StreamFacts.{prefix_itself, prefix_nil, prefix_trans}
 use Rattle.axi_trail.proofs.PrefixFacts.{prefix_after, prefix_length, prefix_take, prefix_filter, prefix_of_key, prefix_map, prefix_flat_map, prefix_of_same, All_front, Agree_fronts}
 
@@ -72,3 +75,27 @@ answering_goes_up plan early late lower upper grows behind answers = record {
   done_when_answered = λ t some all. grows.written t (answers.done_when_answered t some (omega (arith, prefix_length (prefix_of_key number_of_response t behind.b))));
   bytes_are_filled = λ t. prefix_trans (prefix_trans (prefix_bytes (plan.reads t).lanes (prefix_of_key number_of_read_data t behind.r)) (answers.bytes_are_filled t)) (grows.filled t);
 }
+
+pub asked_through_link : AskedThroughLink
+asked_through_link plan early late number links uppers lowers grows run n asks =
+    let fifo : IsFifo (trail_above uppers links n number) (trail_below lowers links n number) (link_of (links n) number) = links_are_queues number links uppers lowers run n in
+    let heads : (IsBehind (trail_below lowers links n number) (trail_above uppers links n number))
+    × (IsBehind (seen_below (trail_below lowers links n number) (link_of (links n) number)) (trail_above uppers links n number))
+    × (IsBehind (trail_below lowers links n number) (seen_above (trail_above uppers links n number) (link_of (links n) number))) =
+    heads_are_behind (trail_above uppers links n number) (trail_below lowers links n number) (link_of (links n) number) fifo in (
+      asking_goes_down plan early late (trail_below lowers links n number) (trail_above uppers links n number) grows heads.0 asks,
+      asking_goes_down plan early late (seen_below (trail_below lowers links n number) (link_of (links n) number)) (trail_above uppers links n number) grows heads.1 asks,
+      asking_goes_down plan early late (trail_below lowers links (suc n) number) (trail_above uppers links n number) grows (taken_was_put_before number links uppers lowers run n).0 asks,
+    )
+
+pub answered_through_link : AnsweredThroughLink
+answered_through_link plan early late number links uppers lowers grows run n answers =
+    let fifo : IsFifo (trail_above uppers links n number) (trail_below lowers links n number) (link_of (links n) number) = links_are_queues number links uppers lowers run n in
+    let heads : (IsBehind (trail_below lowers links n number) (trail_above uppers links n number))
+    × (IsBehind (seen_below (trail_below lowers links n number) (link_of (links n) number)) (trail_above uppers links n number))
+    × (IsBehind (trail_below lowers links n number) (seen_above (trail_above uppers links n number) (link_of (links n) number))) =
+    heads_are_behind (trail_above uppers links n number) (trail_below lowers links n number) (link_of (links n) number) fifo in (
+      answering_goes_up plan early late (trail_below lowers links n number) (trail_above uppers links n number) grows heads.0 answers,
+      answering_goes_up plan early late (trail_below lowers links n number) (seen_above (trail_above uppers links n number) (link_of (links n) number)) grows heads.2 answers,
+      answering_goes_up plan early late (trail_below lowers links n number) (trail_above uppers links (suc n) number) grows (taken_was_put_before number links uppers lowers run n).1 answers,
+    )

@@ -1,9 +1,12 @@
 -- What holds of every link that keeps the two contracts.
-use Rattle.std.specs.Prelude.{◌≡◌, ◌+◌, ◌≤◌, ◌↔◌, ◌++◌, ◌∷◌, [], ℕ, List, length, map, take}
+use Rattle.std.specs.Prelude.{◌≡◌, ◌+◌, ◌≤◌, ◌↔◌, ◌++◌, ◌∷◌, [], ℕ, suc, List, length, map, take}
+use Rattle.axi_link.specs.LinkView.{LinkView}
+use Rattle.axi_link.specs.Table.{link_of}
+use Rattle.axi_link.specs.declared.out.Out.{Out}
 use Rattle.flight.specs.Entries.{of_key}
 use Rattle.axi_trail.specs.LinkContracts.{Asks, Answers, OneIdAtATime}
 use Rattle.axi_trail.specs.Schedule.{Share, Schedule, Progress, Grows, SameChain}
-use Rattle.axi_trail.specs.Trail.{Beats, IsBehind}
+use Rattle.axi_trail.specs.Trail.{Beats, IsBehind, IsLinkRun, trail_above, trail_below, seen_above, seen_below}
 use Rattle.axi_trail.specs.Waiting.{Waiting}
 use Rattle.axi_trail.specs.Words.{Asked, Reply, IsAnswered, InOrderOfId, held_asked, beats_of, burst_asked, number_of_asked, number_of_reply, number_of_response, number_of_data, id_of_waiting}
 
@@ -18,6 +21,25 @@ abbrev pub AnsweringGoesUp : Type 0
 AnsweringGoesUp =
     (plan : Schedule) (early late : Progress) (lower upper : Beats) → Grows early late → IsBehind lower upper →
     Answers plan early lower → Answers plan late upper
+
+-- what is asked at the upper end after n rounds is asked at the lower end: after n rounds, with the heads that the node
+-- there looks at, and after one more round
+abbrev pub AskedThroughLink : Type 0
+AskedThroughLink =
+    (plan : Schedule) (early late : Progress) (number : ℕ) (links : ℕ → List LinkView) (uppers lowers : ℕ → Out) → Grows early late → IsLinkRun number links uppers lowers → (n : ℕ) →
+    Asks plan early (trail_above uppers links n number) →
+    Asks plan late (trail_below lowers links n number)
+    × Asks plan late (seen_below (trail_below lowers links n number) (link_of (links n) number))
+    × Asks plan late (trail_below lowers links (suc n) number)
+
+-- and what is answered at the lower end is answered at the upper end
+abbrev pub AnsweredThroughLink : Type 0
+AnsweredThroughLink =
+    (plan : Schedule) (early late : Progress) (number : ℕ) (links : ℕ → List LinkView) (uppers lowers : ℕ → Out) → Grows early late → IsLinkRun number links uppers lowers → (n : ℕ) →
+    Answers plan early (trail_below lowers links n number) →
+    Answers plan late (trail_above uppers links n number)
+    × Answers plan late (seen_above (trail_above uppers links n number) (link_of (links n) number))
+    × Answers plan late (trail_above uppers links (suc n) number)
 
 -- the requests of a transaction are answered in their order: a request is answered exactly where the answers to
 -- its transaction are as many as the transaction's requests, up to this one, ask for
