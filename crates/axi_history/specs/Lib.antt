@@ -1,3 +1,6 @@
 pub mod Answered
 pub mod Delivered
+pub mod KnownTraces
+pub mod PortHistory
+pub mod PortRules
 pub mod Records

@@ -5,6 +5,8 @@
 //! issue and the answers. None of these definitions knows of a queue, a table, an entry or a cursor.
 #![tactic(auto)]
 
+mod known;
 mod port;
 
+pub use known::known_traces;
 pub use port::{PortKind, PortRound, RawAddr, RawB, RawR, Seen};
