@@ -1,5 +1,7 @@
 -- Facts on scripts as lists.
-use Rattle.std.proofs.Common.{◌≡◌, ℕ, ◌+◌, ◌-◌, ◌^◌, ◌<◌, ◌≤◌, zero, suc, List, [], ◌∷◌, ◌++◌, Option, Some, None, length, take, refl, sym, subst, arith, add-one, length-append, length-take, Bool, true, false, cond, map}
+use Rattle.std.proofs.Common.{◌≡◌, ℕ, ◌+◌, ◌-◌, ◌^◌, ◌<◌, ◌≤◌, zero, suc, List, [], ◌∷◌, ◌++◌, Option, Some, None, length, take, refl, sym, subst, arith, add-one, length-append, length-take, get_or, ap, ◌∙◌, Bool, true, false, cond, map}
+use Rattle.std.proofs.Math.Nat.{pow-le-pow_right}
+use Rattle.std.specs.Option.{option_map}
 use Rattle.std.specs.Prelude.{IfSome, slice_get}
 use Rattle.axi_beats.specs.Word.{IsWholeWord}
 use Rattle.manager_end.specs.declared.script.Txn.{Txn}
@@ -8,7 +10,7 @@ use Rattle.manager_end.specs.Script.{ScriptItem, CanPush, IsScript}
 use Rattle.manager_end.specs.declared.script.Item.{Item}
 use Rattle.manager_end.specs.ScriptInside.{item_view}
 use Rattle.std.proofs.lemmas.List.{map-append}
-use Rattle.std.proofs.lemmas.Option.{slice_get-get_or}
+use Rattle.std.proofs.lemmas.Option.{slice_get-get_or, slice_get_read, slice_get-map}
 
 IfSome-at : {X : Type 0} (P : X → Type 0) (o : Option X) (x : X) → o ≡ Some x → IfSome o P → P x
 IfSome-at P o x e p = subst (λ (q : Option _). IfSome q P) e p
@@ -33,3 +35,20 @@ module _ {X : Type 0} where
 pub IsScript-push : (before after : List Item) (item : Item) (ok : Bool) → after ≡ cond ok (before ++ item ∷ []) before → IsScript (map item_view before) → CanPush (map item_view before) item.txn item.bytes.items → IsScript (map item_view after)
 IsScript-push before after item true is all can = subst (λ (items : List Item). IsScript (map item_view items)) (sym is) (subst IsScript (sym (map-append item_view before (item ∷ []))) (kept-push (λ front (i : ScriptItem). CanPush front i.txn i.bytes) (map item_view before) (item_view item) all can))
 IsScript-push before after item false is all can = subst (λ (items : List Item). IsScript (map item_view items)) (sym is) all
+
+-- a transaction of a script could follow those before it
+pub script-item : (script : List ScriptItem) (n : ℕ) (item : ScriptItem) → IsScript script → slice_get script n ≡ Some item → CanPush (take n script) item.txn item.bytes
+script-item script n item is at = IfSome-at (λ (i : ScriptItem). CanPush (take n script) i.txn i.bytes) (slice_get script n) item at (is n)
+
+-- a transaction sends at most the bytes of the widest bus
+pub bytes-most : (script : List ScriptItem) (txn : Txn) (bytes : List WriteByte) → CanPush script txn bytes → length bytes ≤ 128
+bytes-most script txn bytes can =
+    let power = pow-le-pow_right {n = 2} (omega arith) {i = txn.request.size} {j = 7} can.size
+    in let go : (b : Bool) → length bytes ≡ cond b (2 ^ txn.request.size) 0 → length bytes ≤ 128 = elim [ true ↦ λ e. omega arith | false ↦ λ e. omega arith ]
+    in go txn.write can.bytes_sent
+
+pub item-bytes : (items : List Item) (n : ℕ) (x : Item) → IsScript (map item_view items) → n < length items → x ≡ get_or items n x → length x.bytes.items ≤ 128
+item-bytes items n x is within at =
+    let here : slice_get items n ≡ Some x = slice_get_read items (length items) n x refl within at
+    in let seen : slice_get (map item_view items) n ≡ Some (item_view x) = slice_get-map item_view items n ∙ ap (option_map item_view) here
+    in bytes-most (take n (map item_view items)) x.txn x.bytes.items (script-item (map item_view items) n (item_view x) is seen)

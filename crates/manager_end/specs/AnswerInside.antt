@@ -1,5 +1,5 @@
 -- How an answer is kept.
-use Rattle.std.specs.Prelude.{◌≤◌, length, take}
+use Rattle.std.specs.Prelude.{◌≤◌, ◌<◌, ◌^◌, length, take}
 use Rattle.manager_end.specs.Answer.{AnswerView}
 use Rattle.manager_end.specs.declared.answer.Answer.TheInside.{Inside}
 
@@ -7,12 +7,13 @@ abbrev pub answer_view : Inside → AnswerView
 answer_view a = record {
   issued = a.issued;
   answered = a.answered;
-  resps = take a.came a.responses.items;
-  bytes = take a.read a.data.items;
-  due_resps = length a.responses.items;
-  due_bytes = length a.data.items;
+  resps = take a.came a.resps.items;
+  bytes = take a.read a.bytes.items;
+  due_resps = length a.resps.items;
+  due_bytes = length a.bytes.items;
 }
 
 pub record IsAnswer (a : Inside) : Type 0 where
-  pub came : a.came ≤ length a.responses.items
-  pub read : a.read ≤ length a.data.items
+  pub came : a.came ≤ length a.resps.items
+  pub read : a.read ≤ length a.bytes.items
+  pub counted : length a.resps.items < 2 ^ 32

@@ -1,7 +1,10 @@
 pub mod Answer
 pub mod AnswerInside
 pub mod Beats
+pub mod Laws
+pub mod ManagerInside
 pub mod ManagerState
 pub mod ManagerTable
+pub mod Placed
 pub mod Script
 pub mod ScriptInside

@@ -1,11 +1,12 @@
 -- What a manager keeps.
-use Rattle.std.specs.Prelude.{◌≡◌, ◌≢◌, ◌==◌, ◌<◌, ◌≤◌, ◌++◌, ◌∷◌, [], ℕ, List, Bool, Option, Some, None, All, length, map, drop, filter, count_by, not, nat_lt, slice_get, slice_index_or, if◌then◌else◌}
+use Rattle.std.specs.Prelude.{◌≡◌, ◌≢◌, ◌==◌, ◌<◌, ◌≤◌, ◌++◌, ◌∷◌, [], ℕ, List, Bool, true, false, Option, Some, None, All, length, map, drop, filter, count_by, not, nat_lt, slice_get, slice_index_or, if◌then◌else◌}
 use Rattle.std.specs.List.{enumerate_from}
 use Rattle.axi_beats.specs.Word.{IsWholeWord, IsBusWidth}
 use Rattle.axi_link.specs.LinkView.{LinkView}
 use Rattle.manager_end.specs.Answer.{AnswerView, unanswered}
 use Rattle.manager_end.specs.Script.{ScriptItem, IsScript, sent_bytes}
 use Rattle.manager_end.specs.declared.entry.Entry.{Entry}
+use Rattle.manager_end.specs.declared.script.Txn.{Txn}
 
 -- The script, the link below and the width of the bus; how many of the script's writes and reads are issued, and
 -- of how many writes the data is sent; the transactions that wait for their answers; how many are answered, and
@@ -22,17 +23,24 @@ pub record ManagerState : Type 0 where
   pub answered : ℕ
   pub answers : List AnswerView
 
--- the writes of a script in their order, each with its place
-abbrev pub writes_of : List ScriptItem → List (ℕ × ScriptItem)
-writes_of script = filter (λ (p : ℕ × ScriptItem). p.1.txn.write) (enumerate_from 0 script)
+-- the transaction is a write, or is a read
+abbrev pub is_directed : Bool → Txn → Bool
+is_directed true txn = txn.write
+is_directed false txn = not txn.write
 
--- the reads of a script in their order, each with its place
+-- the writes, or the reads, of a script in their order, each with its place
+abbrev pub of_direction : Bool → List ScriptItem → List (ℕ × ScriptItem)
+of_direction write script = filter (λ (p : ℕ × ScriptItem). is_directed write p.1.txn) (enumerate_from 0 script)
+
+abbrev pub writes_of : List ScriptItem → List (ℕ × ScriptItem)
+writes_of script = of_direction true script
+
 abbrev pub reads_of : List ScriptItem → List (ℕ × ScriptItem)
-reads_of script = filter (λ (p : ℕ × ScriptItem). not p.1.txn.write) (enumerate_from 0 script)
+reads_of script = of_direction false script
 
 -- the bytes that a transaction reads
-abbrev pub due_bytes : ℕ → ScriptItem → ℕ
-due_bytes bus item = if item.txn.write then 0 else bus
+abbrev pub due_bytes : ℕ → Txn → ℕ
+due_bytes bus txn = if txn.write then 0 else bus
 
 -- nothing is issued
 abbrev pub new_manager : List ScriptItem → ℕ → ℕ → ManagerState
@@ -46,7 +54,7 @@ new_manager script lower bus = record {
   write_entries = [];
   read_entries = [];
   answered = 0;
-  answers = map (λ item. unanswered (due_bytes bus item)) script;
+  answers = map (λ item. unanswered (due_bytes bus item.txn)) script;
 }
 
 -- the answer has come

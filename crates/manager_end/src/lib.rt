@@ -7,9 +7,16 @@
 #![tactic(auto)]
 
 mod answer;
+mod answers;
+mod beats;
+mod direction;
 mod entry;
+mod manager;
+mod manager_laws;
 mod script;
 
 pub use answer::Answer;
 pub use entry::Entry;
+pub use manager::{Manager, crosses_threads};
+pub use manager_laws::laws;
 pub use script::{Script, Txn, WriteByte};

@@ -1,6 +1,6 @@
 //! `Script`, seen in clauses as the list of its transactions, each with its bytes.
 
-ghost use Rattle.std.specs.Prelude.{◌≡◌, ◌<◌, ◌++◌, ◌∷◌, [], length, slice_get, OnOk, OnErr, Some};
+ghost use Rattle.std.specs.Prelude.{◌≡◌, ◌<◌, ◌≤◌, ◌++◌, ◌∷◌, [], length, slice_get, OnOk, OnErr, Some};
 ghost use Rattle.std.specs.Option.{option_map};
 ghost use Rattle.manager_end.specs.Script.{CanPush, IsScript};
 
@@ -100,7 +100,8 @@ impl Script {
     /// The bytes that were pushed with the transaction at place `n`, which is below the length.
     pub fn bytes(&self, n: u32) -> &[WriteByte]
         requires { n < length self.now }
-        ensures { option_map (λ item. item.bytes) (slice_get self.now n) ≡ Some result.now }
+        ensures value { option_map (λ item. item.bytes) (slice_get self.now n) ≡ Some result.now }
+        ensures most { length result.now ≤ 128 }
     {
         self.items[n as usize].bytes.as_slice()
     }

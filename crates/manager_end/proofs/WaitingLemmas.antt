@@ -1,0 +1,268 @@
+-- Facts on the transactions that wait, and on the answers that are noted.
+use Rattle.std.proofs.Common.{◌≡◌, ◌≢◌, ℕ, ◌+◌, ◌<◌, ◌≤◌, ◌==◌, zero, suc, Bool, true, false, cond, List, [], ◌∷◌, ◌++◌, Option, Some, None, length, map, take, drop, get_or, set, refl, sym, ◌∙◌, ap, subst, arith, add-one, append_assoc, drop-cons, rules}
+use Rattle.std.specs.Option.{option_map}
+use Rattle.std.specs.Prelude.{All, find, sum_by, count_by, nat_lt, slice_get}
+use Rattle.std.proofs.lemmas.Bool.{eqb-true, eqb-false}
+use Rattle.std.proofs.lemmas.List.{get_or-set_same, get_or-set_other, map-append, length-set}
+use Rattle.std.proofs.lemmas.List.Elements.{All-cons, All-head, All-tail, All-weaker}
+use Rattle.std.proofs.lemmas.List.Sums.{sum_by-set}
+use Rattle.std.proofs.lemmas.Option.{slice_get_within, get_or_from_slice_get}
+use Rattle.axi_beats.specs.declared.response.Resp.{Resp}
+use Rattle.flight.specs.Entries.{place_of, without_oldest}
+use Rattle.manager_end.specs.Answer.{AnswerView, unanswered, issued_in, answered_in, noted}
+use Rattle.manager_end.specs.ManagerState.{IsUnanswered, AreWaiting, AreDistinct, waiting, is_answered}
+use Rattle.manager_end.specs.ManagerTable.{answering, left_waiting, with_issued}
+use Rattle.manager_end.specs.Script.{ScriptItem}
+use Rattle.manager_end.specs.declared.direction.Direction.{Direction}
+use Rattle.manager_end.specs.declared.entry.Entry.{Entry}
+
+inner : {X : Type 0} (x y : X) → Some x ≡ Some y → x ≡ y
+inner x y e = cc
+
+-- what holds of all places holds of those that are left
+pub All-left : (P : ℕ → Type 0) (id : ℕ) (entries : List Entry) (more : List ℕ) → All P (map (λ (entry : Entry). entry.place) entries ++ more) → All P (map (λ (entry : Entry). entry.place) (without_oldest (λ (entry : Entry). entry.id) id entries) ++ more)
+All-left P id [] more all = all
+All-left P id (x ∷ xs) more all =
+    let go : (same : Bool) → All P (map (λ (entry : Entry). entry.place) (cond same xs (x ∷ without_oldest (λ (entry : Entry). entry.id) id xs)) ++ more) =
+    elim [
+      | true ↦ All-tail P x.place (map (λ (entry : Entry). entry.place) xs ++ more) all
+      | false ↦ All-cons P x.place _ (All-head P x.place (map (λ (entry : Entry). entry.place) xs ++ more) all) (All-left P id xs more (All-tail P x.place (map (λ (entry : Entry). entry.place) xs ++ more) all))
+    ]
+    in go (x.id == id)
+
+-- those that are left have other places than one another
+pub AreDistinct-left : (id : ℕ) (entries : List Entry) (more : List ℕ) → AreDistinct (map (λ (entry : Entry). entry.place) entries ++ more) → AreDistinct (map (λ (entry : Entry). entry.place) (without_oldest (λ (entry : Entry). entry.id) id entries) ++ more)
+AreDistinct-left id [] more all = all
+AreDistinct-left id (x ∷ xs) more all =
+    let go : (same : Bool) → AreDistinct (map (λ (entry : Entry). entry.place) (cond same xs (x ∷ without_oldest (λ (entry : Entry). entry.id) id xs)) ++ more) =
+    elim [
+      | true ↦ all.1
+      | false ↦ (All-left (λ other. other ≢ x.place) id xs more all.0, AreDistinct-left id xs more all.1)
+    ]
+    in go (x.id == id)
+
+-- what holds of all places holds of the oldest one of an ID
+pub All-oldest : (P : ℕ → Type 0) (id : ℕ) (entries : List Entry) (more : List ℕ) (e : Entry) → find (λ (entry : Entry). entry.id == id) entries ≡ Some e → All P (map (λ (entry : Entry). entry.place) entries ++ more) → P e.place
+All-oldest P id [] more e found all = absurd (cc)
+All-oldest P id (x ∷ xs) more e found all =
+    let go : (same : Bool) → cond same (Some x) (find (λ (entry : Entry). entry.id == id) xs) ≡ Some e → P e.place =
+    elim [
+      | true ↦ λ here. subst (λ (entry : Entry). P entry.place) (inner x e here) (All-head P x.place (map (λ (entry : Entry). entry.place) xs ++ more) all)
+      | false ↦ λ there. All-oldest P id xs more e there (All-tail P x.place (map (λ (entry : Entry). entry.place) xs ++ more) all)
+    ]
+    in go (x.id == id) found
+
+-- those that are left have other places than the one that left
+pub others-left : (id : ℕ) (entries : List Entry) (more : List ℕ) (e : Entry) → find (λ (entry : Entry). entry.id == id) entries ≡ Some e → AreDistinct (map (λ (entry : Entry). entry.place) entries ++ more) → All (λ other. other ≢ e.place) (map (λ (entry : Entry). entry.place) (without_oldest (λ (entry : Entry). entry.id) id entries) ++ more)
+others-left id [] more e found all = absurd (cc)
+others-left id (x ∷ xs) more e found all =
+    let go : (same : Bool) → cond same (Some x) (find (λ (entry : Entry). entry.id == id) xs) ≡ Some e → All (λ other. other ≢ e.place) (map (λ (entry : Entry). entry.place) (cond same xs (x ∷ without_oldest (λ (entry : Entry). entry.id) id xs)) ++ more) =
+    elim [
+      | true ↦ λ here. subst (λ (entry : Entry). All (λ other. other ≢ entry.place) (map (λ (entry : Entry). entry.place) xs ++ more)) (inner x e here) all.0
+      | false ↦ λ there. All-cons (λ other. other ≢ e.place) x.place _ (λ same. All-oldest (λ other. other ≢ x.place) id xs more e there all.0 (sym same)) (others-left id xs more e there all.1)
+    ]
+    in go (x.id == id) found
+
+-- the oldest of an ID has it
+pub oldest-id : (id : ℕ) (entries : List Entry) (e : Entry) → find (λ (entry : Entry). entry.id == id) entries ≡ Some e → e.id ≡ id
+oldest-id id [] e found = absurd (cc)
+oldest-id id (x ∷ xs) e found =
+    let go : (same : Bool) → (x.id == id) ≡ same → cond same (Some x) (find (λ (entry : Entry). entry.id == id) xs) ≡ Some e → e.id ≡ id =
+    elim [
+      | true ↦ λ is here. ap (λ (entry : Entry). entry.id) (sym (inner x e here)) ∙ eqb-true x.id id is
+      | false ↦ λ is there. oldest-id id xs e there
+    ]
+    in go (x.id == id) refl found
+
+-- the next one to be issued waits, as the first of those that wait for their issue
+pub waiting-next : (entries : List Entry) (issued : ℕ) (transactions : List (ℕ × ScriptItem)) (next : ℕ × ScriptItem) → slice_get transactions issued ≡ Some next → waiting entries issued transactions ≡ map (λ (entry : Entry). entry.place) entries ++ next.0 ∷ map (λ (p : ℕ × ScriptItem). p.0) (drop (issued + 1) transactions)
+waiting-next entries issued transactions next is =
+    let within = slice_get_within transactions issued next is
+    in let cut : drop issued transactions ≡ next ∷ drop (suc issued) transactions = drop-cons transactions issued next within ∙ ap (λ (x : ℕ × ScriptItem). x ∷ drop (suc issued) transactions) (get_or_from_slice_get transactions issued next next is)
+    in let tail : map (λ (p : ℕ × ScriptItem). p.0) (drop issued transactions) ≡ next.0 ∷ map (λ (p : ℕ × ScriptItem). p.0) (drop (issued + 1) transactions) =
+    rw add-one (ap (map (λ (p : ℕ × ScriptItem). p.0)) cut)
+    in ap (λ (back : List ℕ). map (λ (entry : Entry). entry.place) entries ++ back) tail
+
+-- one that is issued waits from then on for its answer
+pub waiting-issued : (entries : List Entry) (issued : ℕ) (transactions : List (ℕ × ScriptItem)) (next : ℕ × ScriptItem) → slice_get transactions issued ≡ Some next → waiting (with_issued (Some next) entries) (issued + 1) transactions ≡ waiting entries issued transactions
+waiting-issued entries issued transactions next is =
+    ap (λ (front : List ℕ). front ++ map (λ (p : ℕ × ScriptItem). p.0) (drop (issued + 1) transactions)) (map-append (λ (entry : Entry). entry.place) entries (record { place = next.0; id = next.1.txn.request.id } ∷ []))
+    ∙ append_assoc (map (λ (entry : Entry). entry.place) entries) (next.0 ∷ []) (map (λ (p : ℕ × ScriptItem). p.0) (drop (issued + 1) transactions))
+    ∙ sym (waiting-next entries issued transactions next is)
+
+abbrev one : Bool → ℕ
+one b = cond b 1 0
+
+module _ (place : ℕ) (change : AnswerView → AnswerView) (answers : List AnswerView) where
+  -- what holds of an answer after a note where the note keeps it
+  pub noted-keeps : (P : AnswerView → Type 0) → ((a : AnswerView) → P a → P (change a)) → (p : ℕ) → p < length answers → P (get_or answers p (unanswered 0)) → P (get_or (noted place change answers) p (unanswered 0))
+  noted-keeps P keeps p within is =
+      let go : (same : Bool) → (p == place) ≡ same → P (get_or (noted place change answers) p (unanswered 0)) =
+      elim [
+        | true ↦ λ here.
+            let e = eqb-true p place here
+            in let at = subst (λ (n : ℕ). n < length answers) e within
+            in subst (λ (n : ℕ). P (get_or (noted place change answers) n (unanswered 0))) (sym e)
+            (subst P (sym (get_or-set_same answers place (change (get_or answers place (unanswered 0))) (unanswered 0) at))
+            (keeps (get_or answers place (unanswered 0)) (subst (λ (n : ℕ). P (get_or answers n (unanswered 0))) e is)))
+        | false ↦ λ there. subst P (sym (get_or-set_other answers place p (change (get_or answers place (unanswered 0))) (unanswered 0) (eqb-false p place there))) is
+      ]
+      in go (p == place) refl
+
+  -- what holds of an answer after a note on another one
+  pub noted-other : (P : AnswerView → Type 0) (p : ℕ) → p ≢ place → P (get_or answers p (unanswered 0)) → P (get_or (noted place change answers) p (unanswered 0))
+  noted-other P p other is = subst P (sym (get_or-set_other answers place p (change (get_or answers place (unanswered 0))) (unanswered 0) other)) is
+
+  -- as many answers are answered where the note keeps that of the one
+  pub answered-kept : place < length answers → is_answered (change (get_or answers place (unanswered 0))) ≡ is_answered (get_or answers place (unanswered 0)) → count_by is_answered (noted place change answers) ≡ count_by is_answered answers
+  answered-kept within same =
+      let counts = sum_by-set (λ (a : AnswerView). one (is_answered a)) answers place (change (get_or answers place (unanswered 0))) (unanswered 0) within
+      in let equal : one (is_answered (change (get_or answers place (unanswered 0)))) ≡ one (is_answered (get_or answers place (unanswered 0))) = ap one same
+      in omega (arith, counts, equal)
+
+  -- one more answer is answered after a note that makes it so
+  pub answered-more : place < length answers → is_answered (change (get_or answers place (unanswered 0))) ≡ true → is_answered (get_or answers place (unanswered 0)) ≡ false → count_by is_answered (noted place change answers) ≡ count_by is_answered answers + 1
+  answered-more within now before =
+      let counts = sum_by-set (λ (a : AnswerView). one (is_answered a)) answers place (change (get_or answers place (unanswered 0))) (unanswered 0) within
+      in let was_one : one (is_answered (change (get_or answers place (unanswered 0)))) ≡ 1 = ap one now
+      in let was_none : one (is_answered (get_or answers place (unanswered 0))) ≡ 0 = ap one before
+      in omega (arith, counts, was_one, was_none)
+
+-- the answers and the places of those that wait, of one direction with n bytes due of each and of the other one with
+-- m bytes
+pub record AreKept (n m size : ℕ) (answers : List AnswerView) (answered : ℕ) (own other : List ℕ) : Type 0 where
+  pub own_waiting : AreWaiting n answers own
+  pub other_waiting : AreWaiting m answers other
+  pub counted : answered ≡ count_by is_answered answers
+  pub one_each : length answers ≡ size
+
+pub kept-turned : (n m size : ℕ) (answers : List AnswerView) (answered : ℕ) (own other : List ℕ) → AreKept n m size answers answered own other → AreKept m n size answers answered other own
+kept-turned n m size answers answered own other kept = record { own_waiting = kept.other_waiting; other_waiting = kept.own_waiting; counted = kept.counted; one_each = kept.one_each }
+
+within-noted : (place : ℕ) (change : AnswerView → AnswerView) (answers : List AnswerView) (places : List ℕ) → All (λ p. p < length answers) places → All (λ p. p < length (noted place change answers)) places
+within-noted place change answers places all = subst (λ (size : ℕ). All (λ p. p < size) places) (sym (length-set answers place (change (get_or answers place (unanswered 0))))) all
+
+-- an issue is noted
+pub waiting-noted : (n place : ℕ) (round : ℕ) (answers : List AnswerView) (places : List ℕ) → AreWaiting n answers places → AreWaiting n (noted place (issued_in round) answers) places
+waiting-noted n place round answers places wait = record {
+  within = within-noted place (issued_in round) answers places wait.within;
+  nothing_came = λ k d lt. noted-keeps place (issued_in round) answers (IsUnanswered n) (λ a is. record { answered = is.answered; resps = is.resps; no_bytes = is.no_bytes; due_resps = is.due_resps; due_bytes = is.due_bytes }) (get_or places k d) (wait.within k d lt) (wait.nothing_came k d lt);
+  distinct = wait.distinct;
+}
+
+-- an answer is noted of another transaction
+pub waiting-answered_other : (n place : ℕ) (change : AnswerView → AnswerView) (answers : List AnswerView) (places : List ℕ) → All (λ p. p ≢ place) places → AreWaiting n answers places → AreWaiting n (noted place change answers) places
+waiting-answered_other n place change answers places others wait = record {
+  within = within-noted place change answers places wait.within;
+  nothing_came = λ k d lt. noted-other place change answers (IsUnanswered n) (get_or places k d) (others k d lt) (wait.nothing_came k d lt);
+  distinct = wait.distinct;
+}
+
+-- an answer is noted of the oldest transaction of an ID, which leaves
+pub waiting-answered : (n : ℕ) (change : AnswerView → AnswerView) (answers : List AnswerView) (entries : List Entry) (more : List ℕ) (e : Entry) → find (λ (entry : Entry). entry.id == e.id) entries ≡ Some e → AreWaiting n answers (map (λ (entry : Entry). entry.place) entries ++ more) → AreWaiting n (noted e.place change answers) (map (λ (entry : Entry). entry.place) (without_oldest (λ (entry : Entry). entry.id) e.id entries) ++ more)
+waiting-answered n change answers entries more e found wait = record {
+  within = within-noted e.place change answers _ (All-left (λ p. p < length answers) e.id entries more wait.within);
+  nothing_came =
+      let others = others-left e.id entries more e found wait.distinct
+      in let left = All-left (λ p. IsUnanswered n (get_or answers p (unanswered 0))) e.id entries more wait.nothing_came
+      in λ k d lt. noted-other e.place change answers (IsUnanswered n) _ (others k d lt) (left k d lt);
+  distinct = AreDistinct-left e.id entries more wait.distinct;
+}
+
+-- a transaction of another number of bytes stands elsewhere
+others-apart : (n m place : ℕ) (answers : List AnswerView) (places : List ℕ) → n ≢ m → IsUnanswered n (get_or answers place (unanswered 0)) → AreWaiting m answers places → All (λ p. p ≢ place) places
+others-apart n m place answers places apart here wait =
+    λ k d lt same. apart (sym here.due_bytes ∙ ap (λ (p : ℕ). (get_or answers p (unanswered 0)).due_bytes) (sym same) ∙ (wait.nothing_came k d lt).due_bytes)
+
+-- an answer in a round
+pub kept-answered : (n m size round : ℕ) (resp : Resp) (bytes : List ℕ) (answers : List AnswerView) (answered : ℕ) (entries : List Entry) (more other : List ℕ) (e : Entry) → 0 < round → n ≢ m → find (λ (entry : Entry). entry.id == e.id) entries ≡ Some e → AreKept n m size answers answered (map (λ (entry : Entry). entry.place) entries ++ more) other → AreKept n m size (noted e.place (answered_in round resp bytes) answers) (answered + 1) (map (λ (entry : Entry). entry.place) (without_oldest (λ (entry : Entry). entry.id) e.id entries) ++ more) other
+kept-answered n m size round resp bytes answers answered entries more other e counts apart found kept =
+    let here = All-oldest (λ p. IsUnanswered n (get_or answers p (unanswered 0))) e.id entries more e found kept.own_waiting.nothing_came
+    in let within = All-oldest (λ p. p < length answers) e.id entries more e found kept.own_waiting.within
+    in let now : nat_lt 0 round ≡ true = search rules
+    in let before : is_answered (get_or answers e.place (unanswered 0)) ≡ false = ap (λ (k : ℕ). nat_lt 0 k) here.answered
+    in record {
+      own_waiting = waiting-answered n (answered_in round resp bytes) answers entries more e found kept.own_waiting;
+      other_waiting = waiting-answered_other m e.place (answered_in round resp bytes) answers other (others-apart n m e.place answers other apart here kept.other_waiting) kept.other_waiting;
+      counted = ap (λ (k : ℕ). k + 1) kept.counted ∙ sym (answered-more e.place (answered_in round resp bytes) answers within now before);
+      one_each = length-set answers e.place (answered_in round resp bytes (get_or answers e.place (unanswered 0))) ∙ kept.one_each;
+    }
+
+-- an issue in a round
+pub kept-issued : (n m size round place : ℕ) (answers : List AnswerView) (answered : ℕ) (own other : List ℕ) → place < length answers → AreKept n m size answers answered own other → AreKept n m size (noted place (issued_in round) answers) answered own other
+kept-issued n m size round place answers answered own other within kept = record {
+  own_waiting = waiting-noted n place round answers own kept.own_waiting;
+  other_waiting = waiting-noted m place round answers other kept.other_waiting;
+  counted = kept.counted ∙ sym (answered-kept place (issued_in round) answers within refl);
+  one_each = length-set answers place (issued_in round (get_or answers place (unanswered 0))) ∙ kept.one_each;
+}
+
+-- the oldest of an ID by its place among the entries
+pub oldest-at : (id : ℕ) (entries : List Entry) (place : ℕ) → place_of id (map (λ (entry : Entry). entry.id) entries) ≡ Some place → slice_get entries place ≡ find (λ (entry : Entry). entry.id == id) entries
+oldest-at id [] place is = absurd (cc)
+oldest-at id (x ∷ xs) place is =
+    let later : (o : Option ℕ) → place_of id (map (λ (entry : Entry). entry.id) xs) ≡ o → option_map suc o ≡ Some place → slice_get (x ∷ xs) place ≡ find (λ (entry : Entry). entry.id == id) xs =
+    elim [
+      | None ↦ λ at none. absurd (cc)
+      | Some p ↦ λ at some. let next : suc p ≡ place = cc in subst (λ (q : ℕ). slice_get (x ∷ xs) q ≡ find (λ (entry : Entry). entry.id == id) xs) next (oldest-at id xs p at)
+    ]
+    in let go : (same : Bool) → cond same (Some 0) (option_map suc (place_of id (map (λ (entry : Entry). entry.id) xs))) ≡ Some place → slice_get (x ∷ xs) place ≡ cond same (Some x) (find (λ (entry : Entry). entry.id == id) xs) =
+    elim [
+      | true ↦ λ here. let zero_at : 0 ≡ place = cc in subst (λ (p : ℕ). slice_get (x ∷ xs) p ≡ Some x) zero_at refl
+      | false ↦ λ there. later (place_of id (map (λ (entry : Entry). entry.id) xs)) refl there
+    ]
+    in go (x.id == id) is
+
+-- none has the ID
+pub oldest-none : (id : ℕ) (entries : List Entry) → place_of id (map (λ (entry : Entry). entry.id) entries) ≡ None → (find (λ (entry : Entry). entry.id == id) entries ≡ None) × (without_oldest (λ (entry : Entry). entry.id) id entries ≡ entries)
+oldest-none id [] is = (refl, refl)
+oldest-none id (x ∷ xs) is =
+    let later : (o : Option ℕ) → place_of id (map (λ (entry : Entry). entry.id) xs) ≡ o → option_map suc o ≡ None → (find (λ (entry : Entry). entry.id == id) xs ≡ None) × (x ∷ without_oldest (λ (entry : Entry). entry.id) id xs ≡ x ∷ xs) =
+    elim [
+      | None ↦ λ at none. let rest = oldest-none id xs at in (rest.0, ap (λ (ys : List Entry). x ∷ ys) rest.1)
+      | Some p ↦ λ at some. absurd (cc)
+    ]
+    in let go : (same : Bool) → cond same (Some 0) (option_map suc (place_of id (map (λ (entry : Entry). entry.id) xs))) ≡ None → (cond same (Some x) (find (λ (entry : Entry). entry.id == id) xs) ≡ None) × (cond same xs (x ∷ without_oldest (λ (entry : Entry). entry.id) id xs) ≡ x ∷ xs) =
+    elim [
+      | true ↦ λ here. absurd (cc)
+      | false ↦ λ there. later (place_of id (map (λ (entry : Entry). entry.id) xs)) refl there
+    ]
+    in go (x.id == id) is
+
+-- what holds of the places that wait holds of the entries
+pub All-entries : (P : ℕ → Type 0) (entries : List Entry) (more : List ℕ) → All P (map (λ (entry : Entry). entry.place) entries ++ more) → All (λ (entry : Entry). P entry.place) entries
+All-entries P [] more all = λ k d lt. absurd (omega arith)
+All-entries P (x ∷ xs) more all = All-cons (λ (entry : Entry). P entry.place) x xs (All-head P x.place (map (λ (entry : Entry). entry.place) xs ++ more) all) (All-entries P xs more (All-tail P x.place (map (λ (entry : Entry). entry.place) xs ++ more) all))
+
+without-absent : (id : ℕ) (entries : List Entry) → find (λ (entry : Entry). entry.id == id) entries ≡ None → without_oldest (λ (entry : Entry). entry.id) id entries ≡ entries
+without-absent id [] none = refl
+without-absent id (x ∷ xs) none =
+    let go : (same : Bool) → cond same (Some x) (find (λ (entry : Entry). entry.id == id) xs) ≡ None → cond same xs (x ∷ without_oldest (λ (entry : Entry). entry.id) id xs) ≡ x ∷ xs =
+    elim [ true ↦ λ here. absurd (cc) | false ↦ λ there. ap (λ (ys : List Entry). x ∷ ys) (without-absent id xs there) ]
+    in go (x.id == id) none
+
+-- the oldest of an ID that was looked for by its place
+pub at-place : (P : ℕ → Type 0) (id : ℕ) (entries : List Entry) (place : ℕ) → All (λ (entry : Entry). P entry.place) entries → option_map (λ (entry : Entry). entry.place) (find (λ (entry : Entry). entry.id == id) entries) ≡ Some place → P place
+at-place P id [] place all none = absurd (cc)
+at-place P id (x ∷ xs) place all some =
+    let go : (same : Bool) → option_map (λ (entry : Entry). entry.place) (cond same (Some x) (find (λ (entry : Entry). entry.id == id) xs)) ≡ Some place → P place =
+    elim [
+      | true ↦ λ here. let same : x.place ≡ place = cc in subst P same (All-head (λ (entry : Entry). P entry.place) x xs all)
+      | false ↦ λ there. at-place P id xs place (All-tail (λ (entry : Entry). P entry.place) x xs all) there
+    ]
+    in go (x.id == id) some
+
+module _ {X : Type 0} where
+  -- those that are left where a head's ID is looked for
+  pub left-head : (id_of : X → ℕ) (entries : List Entry) (head : X) → left_waiting (answering id_of entries (Some head)) entries ≡ without_oldest (λ (entry : Entry). entry.id) (id_of head) entries
+  left-head id_of entries head =
+      let go : (o : Option Entry) → find (λ (entry : Entry). entry.id == id_of head) entries ≡ o → left_waiting (option_map (λ (entry : Entry). (entry, head)) o) entries ≡ without_oldest (λ (entry : Entry). entry.id) (id_of head) entries =
+      elim [
+        | None ↦ λ none. sym (without-absent (id_of head) entries none)
+        | Some e ↦ λ some. ap (λ (id : ℕ). without_oldest (λ (entry : Entry). entry.id) id entries) (oldest-id (id_of head) entries e some)
+      ]
+      in go (find (λ (entry : Entry). entry.id == id_of head) entries) refl
+
+pub direction-same : (new old : Direction) (entries : List Entry) → new.places ≡ old.places → new.issued ≡ old.issued → new.entries ≡ entries → new ≡ record old { entries = entries }
+direction-same new old entries places issued waits =
+    ap (λ p. record new { places = p }) places ∙ ap (λ i. record new { places = old.places; issued = i }) issued ∙ ap (λ (e : List Entry). record old { entries = e }) waits

@@ -1,0 +1,23 @@
+use Rattle.std.proofs.Common.{◌≡◌, ◌<◌, ℕ, List, Option, None, Some, ap, sym, ◌∙◌, length, get_or}
+use Rattle.std.specs.Option.{option_copied}
+use Rattle.manager_end.specs.Answer.{unanswered}
+use Rattle.manager_end.specs.ManagerState.{IsUnanswered}
+use Rattle.manager_end.specs.ManagerTable.{answering, left_waiting}
+use Rattle.manager_end.proofs.WaitingLemmas.{at-place, left-head, direction-same}
+use Rattle.manager_end.proofs.manager.take_data.Goals as goal
+
+pub returns-in_default-close-clause-reads : goal.returns-in_default-close-clause-reads
+returns-in_default-close-clause-reads c =
+    direction-same c.close.new.self c.args.reads.now _ c.close.ensures.places c.close.ensures.issued
+    (c.close.ensures.entries ∙ sym (left-head (λ beat. beat.id) c.args.reads.now.entries c.in-Some.beat.now) ∙ ap (λ head. left_waiting (answering (λ beat. beat.id) c.args.reads.now.entries (option_copied head)) c.args.reads.now.entries) (sym c.in-Some.is))
+
+pub note_read-requires-clause-within : goal.note_read-requires-clause-within
+note_read-requires-clause-within c = at-place (λ place. place < length c.args.answers.now) c.in-Some.beat.now.id c.args.reads.now.entries _ c.requires.within (sym c.close.ensures.place ∙ c.in-Some-close.is)
+
+pub note_read-requires-clause-due : goal.note_read-requires-clause-due
+note_read-requires-clause-due c = at-place (λ place. IsUnanswered c.args.bus (get_or c.args.answers.now place (unanswered 0))) c.in-Some.beat.now.id c.args.reads.now.entries _ c.requires.due (sym c.close.ensures.place ∙ c.in-Some-close.is)
+
+pub returns-clause-reads : goal.returns-clause-reads
+returns-clause-reads c =
+    direction-same c.close.new.self c.args.reads.now _ c.close.ensures.places c.close.ensures.issued
+    (c.close.ensures.entries ∙ sym (left-head (λ beat. beat.id) c.args.reads.now.entries c.in-Some.beat.now) ∙ ap (λ head. left_waiting (answering (λ beat. beat.id) c.args.reads.now.entries (option_copied head)) c.args.reads.now.entries) (sym c.in-Some.is))

@@ -1,0 +1,22 @@
+-- What holds of the manager's table, whatever the links bring.
+use Rattle.std.specs.Prelude.{◌<◌, ℕ, List, All}
+use Rattle.axi_beats.specs.Word.{IsWholeWord, IsBusWidth}
+use Rattle.axi_link.specs.Fits.{MovesFit}
+use Rattle.axi_link.specs.LinkView.{LinkView}
+use Rattle.manager_end.specs.ManagerState.{ManagerState, IsManager, new_manager}
+use Rattle.manager_end.specs.ManagerTable.{manager_next, manager_out}
+use Rattle.manager_end.specs.Script.{ScriptItem, IsScript}
+
+-- the manager takes only where there is a head, and puts only where there is room
+abbrev pub ManagerMovesFit : Type 0
+ManagerMovesFit = (links : List LinkView) (s : ManagerState) → MovesFit links (manager_out links s)
+
+-- what holds of a manager holds of one that has issued nothing
+abbrev pub ManagerBegins : Type 0
+ManagerBegins =
+    (script : List ScriptItem) (lower bus : ℕ) → IsScript script → IsBusWidth bus → All (λ (item : ScriptItem). IsWholeWord bus item.txn.request) script →
+    IsManager (new_manager script lower bus)
+
+-- what holds of a manager holds after a round
+abbrev pub ManagerStays : Type 0
+ManagerStays = (round : ℕ) (links : List LinkView) (s : ManagerState) → 0 < round → IsManager s → IsManager (manager_next round links s)

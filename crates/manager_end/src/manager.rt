@@ -1,0 +1,233 @@
+//! `Manager`, seen in clauses as its state and its moves.
+
+ghost use Rattle.std.specs.Prelude.{◌≡◌, ◌<◌, ◌≤◌, ◌+◌, ◌∷◌, [], All, IfOk, IfSome, IsSome, length, is_some, slice_index_or, vec_len};
+ghost use Rattle.std.specs.Option.{option_copied};
+ghost use Rattle.axi_beats.specs.Word.{IsBusWidth, IsWholeWord};
+ghost use Rattle.axi_link.specs.Acted.{opened};
+ghost use Rattle.manager_end.specs.Answer.{unanswered};
+ghost use Rattle.manager_end.specs.ManagerState.{CanManager, IsUnanswered, answer_of, is_done, new_manager};
+ghost use Rattle.manager_end.specs.ManagerTable.{answering, left_waiting, manager_table, more, note_issue, note_read, note_write, with_issued};
+ghost use Rattle.manager_end.specs.Placed.{placed};
+
+use crate::answer::Answer;
+use crate::answers::Answers;
+use crate::beats::{put_data, put_request};
+use crate::direction::Direction;
+use crate::script::Script;
+use axi_beats::{BBeat, NoMemory, RBeat};
+use axi_link::{Link, Out, link_at, set_take};
+use std::alloc::Global;
+use std::marker::{Model, Send, Sync};
+
+/// A manager on the link below it.
+#[derive(Drop)]
+pub struct Manager {
+    script: Script,
+    lower: u32,
+    bus: u8,
+    writes: Direction,
+    reads: Direction,
+    // Of how many writes the data is sent.
+    sent: usize,
+    answered: u32,
+    answers: Answers,
+    out: Out,
+}
+
+impl Model for Manager {
+    ghost use Rattle.axi_link.specs.Acted.{Acted};
+    ghost use Rattle.manager_end.specs.ManagerState.{ManagerState};
+
+    ghost Value = { Acted ManagerState };
+
+    ghost use Rattle.manager_end.specs.ManagerInside.{manager_view, IsManagerInside};
+
+    ghost view = { manager_view };
+
+    ghost invariant = { IsManagerInside };
+}
+
+impl Manager {
+    /// A manager with nothing issued: its script, the number of the link below it and the bytes of
+    /// its bus. All memory for the answers is taken here.
+    pub fn new(
+        alloc: Global,
+        script: Script,
+        lower: u32,
+        bus: u8,
+        accept: &[u8],
+        give: &[u8],
+    ) -> Result<Manager, NoMemory>
+        requires bus { IsBusWidth bus }
+        requires words { All (λ item. IsWholeWord bus item.txn.request) script }
+        requires accept { accept.now ≡ 0 ∷ [] }
+        requires give { give.now ≡ 0 ∷ [] }
+        ensures { IfOk result (λ manager. manager ≡ opened (new_manager script lower bus)) }
+    {
+        let writes = Direction::new(alloc, &script, true)?;
+        let reads = Direction::new(alloc, &script, false)?;
+        let answers = Answers::new(alloc, &script, bus)?;
+        Ok(Manager {
+            script,
+            lower,
+            bus,
+            writes,
+            reads,
+            sent: 0,
+            answered: 0,
+            answers,
+            out: Out::default(),
+        })
+    }
+
+    /// The answer to the transaction at place `n` of the script, counted from 0; None exactly where
+    /// it isn't answered.
+    pub fn answer(&self, n: u32) -> Option<&Answer>
+        requires { n < length self.now.state.script }
+        ensures { option_copied result ≡ answer_of self.now.state n }
+    {
+        let answer = self.answers.get(n as usize);
+        if answer.answered() > 0 {
+            Some(answer)
+        } else {
+            None
+        }
+    }
+
+    /// Whether all transactions are answered.
+    pub fn done(&self) -> bool
+        ensures { result ≡ is_done self.now.state }
+    {
+        self.answered == self.script.len()
+    }
+
+    /// Does what the decision table says for this round, which counts from 1: takes and puts go to
+    /// `out`, and no memory is taken.
+    pub fn decide(&mut self, round: u64, links: &[Link])
+        requires { CanManager round links.now self.old.state }
+        ensures { self.new ≡ manager_table round links.now self.old.state }
+    {
+        let link = link_at(links, self.lower);
+        let write = self
+            .writes
+            .next(&self.script, self.answered, link.room_aw());
+        let read = self.reads.next(&self.script, self.answered, link.room_ar());
+        let data = self.writes.next_data(self.sent, link.room_w());
+        put_request(&mut self.out.aw_put, self.lower, &self.script, write);
+        put_data(&mut self.out.w_put, self.lower, &self.script, data);
+        put_request(&mut self.out.ar_put, self.lower, &self.script, read);
+
+        let written = take_response(&mut self.writes, &mut self.answers, round, link.head_b());
+        let got = take_data(
+            &mut self.reads,
+            &mut self.answers,
+            round,
+            self.bus,
+            link.head_r(),
+        );
+        set_take(&mut self.out.b_take, self.lower, written);
+        set_take(&mut self.out.r_take, self.lower, got);
+        self.answered += u32::from(written) + u32::from(got);
+        self.sent += usize::from(data.is_some());
+        issue(
+            &mut self.writes,
+            &mut self.answers,
+            &self.script,
+            round,
+            write,
+        );
+        issue(
+            &mut self.reads,
+            &mut self.answers,
+            &self.script,
+            round,
+            read,
+        );
+    }
+
+    /// What the manager takes and puts in the round that it decided last; nothing before the first.
+    pub fn out(&self) -> &Out
+        ensures { result.now ≡ self.now.out }
+    {
+        &self.out
+    }
+}
+
+/// Takes a response that answers a write, and notes it; whether one was taken.
+fn take_response(
+    writes: &mut Direction,
+    answers: &mut Answers,
+    round: u64,
+    head: Option<&BBeat>,
+) -> bool
+    requires within { All (λ entry. entry.place < length answers.old) writes.old.entries }
+    requires due { All (λ entry. IsUnanswered 0 (slice_index_or answers.old entry.place (unanswered 0))) writes.old.entries }
+    ensures taken { result ≡ is_some (answering (λ beat. beat.id) writes.old.entries (option_copied head.entry)) }
+    ensures writes { writes.new ≡ record writes.old { entries = left_waiting (answering (λ beat. beat.id) writes.old.entries (option_copied head.entry)) writes.old.entries } }
+    ensures answers { answers.new ≡ note_write round (answering (λ beat. beat.id) writes.old.entries (option_copied head.entry)) answers.old }
+{
+    let Some(beat) = head else {
+        return false;
+    };
+    let Some(place) = writes.close(beat.id) else {
+        return false;
+    };
+    answers.note_write(place, round, beat.resp);
+    true
+}
+
+/// Takes a data beat that answers a read, and notes it; whether one was taken.
+fn take_data(
+    reads: &mut Direction,
+    answers: &mut Answers,
+    round: u64,
+    bus: u8,
+    head: Option<&RBeat>,
+) -> bool
+    requires within { All (λ entry. entry.place < length answers.old) reads.old.entries }
+    requires due { All (λ entry. IsUnanswered bus (slice_index_or answers.old entry.place (unanswered 0))) reads.old.entries }
+    requires lanes { bus ≤ 128 }
+    ensures taken { result ≡ is_some (answering (λ beat. beat.id) reads.old.entries (option_copied head.entry)) }
+    ensures reads { reads.new ≡ record reads.old { entries = left_waiting (answering (λ beat. beat.id) reads.old.entries (option_copied head.entry)) reads.old.entries } }
+    ensures answers { answers.new ≡ note_read round bus (answering (λ beat. beat.id) reads.old.entries (option_copied head.entry)) answers.old }
+{
+    let Some(beat) = head else {
+        return false;
+    };
+    let Some(place) = reads.close(beat.id) else {
+        return false;
+    };
+    answers.note_read(place, round, bus, beat);
+    true
+}
+
+/// Files the next transaction as issued, and notes the round; nothing where there is none.
+fn issue(
+    direction: &mut Direction,
+    answers: &mut Answers,
+    script: &Script,
+    round: u64,
+    next: Option<u32>,
+)
+    requires within { IfSome next (λ place. place < length script.now) }
+    requires noted { IfSome next (λ place. place < length answers.old) }
+    requires room { IsSome next → length direction.old.entries < 16 }
+    requires left { IsSome next → direction.old.issued < vec_len direction.old.places }
+    ensures direction { direction.new ≡ record direction.old {
+      issued = direction.old.issued + more (is_some (placed script.now next));
+      entries = with_issued (placed script.now next) direction.old.entries;
+    } }
+    ensures answers { answers.new ≡ note_issue round (placed script.now next) answers.old }
+{
+    if let Some(place) = next {
+        direction.issue(script, place);
+        answers.note_issue(place, round);
+    }
+}
+
+fn crosses<T: Send + Sync>(_value: &T) {}
+
+/// A manager may be sent to another thread, and lent to one.
+pub fn crosses_threads(manager: &Manager) {
+    crosses(manager);
+}
