@@ -2,10 +2,12 @@
 use Rattle.std.proofs.Common.{◌≡◌, [], ◌∷◌, Some, None, refl}
 use Rattle.std.specs.Prelude.{codes}
 use Rattle.std.specs.Fmt.{digits, decimal}
+use Rattle.plain_text.specs.Fields.{field_before}
 use Rattle.plain_text.specs.Lines.{lines}
 use Rattle.plain_text.specs.Numbers.{number_in, read_byte_pair, read_decimal, read_hexadecimal, read_plain_decimal}
 use Rattle.plain_text.specs.Printing.{hexadecimal, pairs}
 use Rattle.plain_text.specs.Separator.{cut}
+use Rattle.plain_text.specs.Spelling.{read_glyph, read_pair, read_pairs, read_plain_hexadecimal}
 use Rattle.plain_text.specs.Words.{words}
 
 no_line : lines (codes "") ≡ []
@@ -134,3 +136,33 @@ hexadecimal_zero = refl
 pairs_written : pairs (0 ∷ 10 ∷ 255 ∷ []) ≡ codes "000aff"
 unfolding pairs
 pairs_written = refl
+
+fields_to_a_comma : field_before 44 (codes "a,,b") ≡ Some (codes "a", codes ",b")
+fields_to_a_comma = refl
+
+no_comma : field_before 44 (codes "ab") ≡ None
+no_comma = refl
+
+plain_address : read_plain_hexadecimal (codes "ffc") 4096 ≡ Some 4092
+unfolding read_plain_hexadecimal number_in
+plain_address = refl
+
+capital_digit : read_plain_hexadecimal (codes "ffC") 4096 ≡ None
+unfolding read_plain_hexadecimal number_in
+capital_digit = refl
+
+needless_hexadecimal_zero : read_plain_hexadecimal (codes "0f") 4096 ≡ None
+unfolding read_plain_hexadecimal number_in
+needless_hexadecimal_zero = refl
+
+pairs_of_bytes : read_pairs (codes "00ab7f") ≡ Some (0 ∷ 171 ∷ 127 ∷ [])
+unfolding read_pairs read_pair read_glyph
+pairs_of_bytes = refl
+
+odd_pairs : read_pairs (codes "00a") ≡ None
+unfolding read_pairs read_pair read_glyph
+odd_pairs = refl
+
+capital_pair : read_pairs (codes "aB") ≡ None
+unfolding read_pairs read_pair read_glyph
+capital_pair = refl

@@ -6,3 +6,6 @@ pub mod CutSteps
 pub mod CutLaws
 pub mod HexadecimalSteps
 pub mod KnownValues
+pub mod FieldLaws
+pub mod SpellingLaws
+pub mod HexadecimalLaws

@@ -34,7 +34,7 @@ pub number_after_digit : (value base limit digit : ℕ) (rest : List ℕ) → di
 number_after_digit value base limit digit rest h = rw (lt-ltb (digit_value digit) base h)
 
 -- further digits make no number less
-digits_value_after-le : (base value : ℕ) (digits : List ℕ) → 1 ≤ base → value ≤ digits_value_after base value digits
+pub digits_value_after-le : (base value : ℕ) (digits : List ℕ) → 1 ≤ base → value ≤ digits_value_after base value digits
 digits_value_after-le base value [] h = omega arith
 digits_value_after-le base value (digit ∷ rest) h =
     let further = digits_value_after-le base (value * base + digit_value digit) rest h in

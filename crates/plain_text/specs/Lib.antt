@@ -1,6 +1,10 @@
+pub mod Exact
+pub mod ExactLaws
+pub mod Fields
 pub mod Lines
 pub mod Numbers
 pub mod Printing
 pub mod Separator
 pub mod SeparatorLaws
+pub mod Spelling
 pub mod Words

@@ -1,11 +1,13 @@
 // Known values of each public call, worked by hand.
 
+use crate::fields::field_before;
 use crate::line_buffer::LineBuffer;
 use crate::lines::next_line;
 use crate::numbers::{
     number_in, read_byte_pair, read_decimal, read_hexadecimal, read_plain_decimal,
 };
 use crate::separator::{begins_with_separator, cut_at_separator, cut_text, is_separator};
+use crate::spelling::{read_pair, read_plain_hexadecimal};
 use crate::words::{has_no_word, is_word, next_word};
 use std::test::Fail;
 
@@ -45,6 +47,12 @@ fn texts_are_read(rt: HostRuntime) -> Result<(), Fail> {
     assert_eq!(rt; read_plain_decimal(b"042", 100), None);
     assert_eq!(rt; read_byte_pair(b"7f"), Some(127));
     assert_eq!(rt; number_in(b"zz", 36, 1296), Some(1295));
+    let (field, rest) = field_before(b"ffc,1", b',').ok_or("no field")?;
+    assert_eq!(rt; read_plain_hexadecimal(field, 4095), Some(4092));
+    assert_eq!(rt; read_plain_hexadecimal(field, 4091), None);
+    assert_eq!(rt; read_plain_hexadecimal(b"Ff", 4095), None);
+    assert!(rt; is_word(rest, b"1"));
+    assert_eq!(rt; read_pair(b'a', b'0'), Some(160));
     Ok(())
 }
 
