@@ -1,8 +1,8 @@
-mod BeatLemmas
-mod EntryLemmas
-mod FitLemmas
-mod ListLemmas
-mod MemoryLemmas
-mod ReadLemmas
-mod StayLemmas
-mod StoreLemmas
+pub mod BeatLemmas
+pub mod EntryLemmas
+pub mod FitLemmas
+pub mod ListLemmas
+pub mod MemoryLemmas
+pub mod ReadLemmas
+pub mod StayLemmas
+pub mod StoreLemmas

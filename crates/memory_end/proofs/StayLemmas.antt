@@ -15,7 +15,7 @@ use Rattle.memory_end.specs.declared.config.MemoryConfig.{MemoryConfig}
 use Rattle.memory_end.specs.declared.entry.WriteEntry.{WriteEntry}
 use Rattle.memory_end.specs.declared.entry.ReadEntry.{ReadEntry}
 use Rattle.memory_end.specs.Beats.{Byte, all_written, beats_of, written_bytes}
-use Rattle.memory_end.specs.Laws.{NewIsMemory, StaysMemory}
+use Rattle.memory_end.specs.Laws.{KeepsArguments, NewIsMemory, StaysMemory}
 use Rattle.memory_end.specs.MemoryState.{IsWriteEntry, IsReadEntry, AreLinesAmong}
 use Rattle.memory_end.specs.MemoryTable.{after_aw, after_ar, after_b, after_r, after_w, fits, lacks_data, memory_link, memory_aw, memory_ar, memory_b, memory_r, memory_w, next_beat, oldest_lacking, put_read, store_after, store_with, with_beat, with_data}
 use Rattle.memory_end.specs.Store.{Store, IsStore, byte_place, written, written_at}
@@ -150,6 +150,13 @@ memory-stays round links state is can =
       reads = after_ar-stays state.config (memory_ar links state) (after_r (memory_r links state) state.read_entries) reads
           (after_r-stays state.config state.store link state.read_entries is.reads);
     }
+
+pub memory-keeps : KeepsArguments
+memory-keeps links state = record {
+  config = refl;
+  upper = refl;
+  lines = (store_after-keeps state.config (memory_w links state) state.write_entries state.store).lines;
+}
 
 pub new-is_memory : NewIsMemory
 new-is_memory config upper touched is ascending = record {

@@ -13,6 +13,8 @@ mod memory;
 mod memory_laws;
 mod reads;
 mod store;
+#[cfg(test)]
+mod tests;
 mod writes;
 
 pub use config::{MemoryConfig, Range};

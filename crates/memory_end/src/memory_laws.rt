@@ -1,6 +1,6 @@
 //! What holds of a memory's definitions.
 
-ghost use Rattle.memory_end.specs.Laws.{MovesAlwaysFit, NewIsMemory, StaysMemory};
+ghost use Rattle.memory_end.specs.Laws.{KeepsArguments, MovesAlwaysFit, NewIsMemory, StaysMemory};
 ghost use Rattle.memory_end.specs.Store.{ReadsOthers, ReadsWritten};
 
 /// The laws of a memory's bytes and of its table.
@@ -13,4 +13,5 @@ pub fn laws()
     ensures fits { MovesAlwaysFit }
     ensures opens { NewIsMemory }
     ensures stays { StaysMemory }
+    ensures keeps { KeepsArguments }
 {}

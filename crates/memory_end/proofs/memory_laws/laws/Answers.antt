@@ -1,6 +1,6 @@
 use Rattle.memory_end.proofs.FitLemmas.{memory-fits}
 use Rattle.memory_end.proofs.ReadLemmas.{reads-written, reads-others}
-use Rattle.memory_end.proofs.StayLemmas.{memory-stays, new-is_memory}
+use Rattle.memory_end.proofs.StayLemmas.{memory-keeps, memory-stays, new-is_memory}
 use Rattle.memory_end.proofs.memory_laws.laws.Goals as goal
 
 pub returns-clause-reads_written : goal.returns-clause-reads_written
@@ -17,3 +17,6 @@ returns-clause-opens c = new-is_memory
 
 pub returns-clause-stays : goal.returns-clause-stays
 returns-clause-stays c = memory-stays
+
+pub returns-clause-keeps : goal.returns-clause-keeps
+returns-clause-keeps c = memory-keeps
