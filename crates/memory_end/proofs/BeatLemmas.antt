@@ -144,6 +144,13 @@ module _ (config : MemoryConfig) (request : Addr) (beat : ℕ) (is : IsMemoryCon
         ]
         in go strobed refl strobed-below
 
+    -- which is that of the word
+    pub strobed-word : w.strobe ≢ 0 → w.strobe < 2 ^ config.bus → strobed_status config request beat w ≡ write_status config word
+    strobed-word some lt =
+        let go : (b : Bool) → is_inside config word ≡ b → strobed_status config request beat w ≡ cond b Okay DecErr =
+        elim [ true ↦ strobed-inside | false ↦ strobed-outside some lt ]
+        in go (is_inside config word) refl
+
   -- the status of valid bytes
   pub valid-inside : is_inside config word ≡ true → valid_status config request beat ≡ Okay
   valid-inside inside =
@@ -158,6 +165,12 @@ module _ (config : MemoryConfig) (request : Addr) (beat : ℕ) (is : IsMemoryCon
         | suc n ↦ λ lt le. worst-outside config word config.bus is (word-in_line request.addr config.bus is.bus) 0 (range_with_len (0 + 1) n) some outside
       ]
       in go config.bus some (omega arith)
+
+  pub valid-word : valid_status config request beat ≡ write_status config word
+  valid-word =
+      let go : (b : Bool) → is_inside config word ≡ b → valid_status config request beat ≡ cond b Okay DecErr =
+      elim [ true ↦ valid-inside | false ↦ valid-outside ]
+      in go (is_inside config word) refl
 
   module _ (store : Store) where
     valid-below : (k : ℕ) → k < config.bus → is_valid request beat config.bus k ≡ true

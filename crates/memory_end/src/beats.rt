@@ -4,7 +4,7 @@ ghost use Rattle.std.specs.Prelude.{◌≡◌, ◌*◌, ◌/◌, ◌<◌, ◌≤
 ghost use Rattle.axi_beats.specs.Word.{IsBusWidth, IsWholeWord};
 ghost use Rattle.memory_end.specs.Beats.{all_written, answered_lanes, strobed_status, valid_status, written_bytes};
 ghost use Rattle.memory_end.specs.MemoryState.{IsMemoryConfig};
-ghost use Rattle.memory_end.specs.Status.{is_inside};
+ghost use Rattle.memory_end.specs.Status.{is_inside, write_status};
 
 use crate::config::MemoryConfig;
 use crate::entry::{ReadEntry, WriteEntry};
@@ -27,6 +27,18 @@ fn word_address(request: &Addr, bus: u8) -> u64
     request.addr / u64::from(bus) * u64::from(bus)
 }
 
+/// The status that all bytes of a request's word have, since they lie in one line.
+fn word_status(config: &MemoryConfig, request: &Addr) -> Resp
+    requires { IsMemoryConfig config.now }
+    ensures { result ≡ write_status config.now (request.now.addr / config.now.bus * config.now.bus) }
+{
+    if is_inside(config, word_address(request, config.bus)) {
+        Resp::Okay
+    } else {
+        Resp::DecErr
+    }
+}
+
 /// Writes the strobed OKAY bytes of the next beat of a write.
 pub fn write_beat(store: &mut ByteStore, config: &MemoryConfig, entry: &WriteEntry, beat: &WBeat)
     requires config { IsMemoryConfig config.now }
@@ -47,11 +59,7 @@ pub fn strobed_status(config: &MemoryConfig, entry: &WriteEntry, beat: &WBeat) -
     if beat.strobe == 0 {
         return Resp::Okay;
     }
-    if is_inside(config, word_address(&entry.request, config.bus)) {
-        Resp::Okay
-    } else {
-        Resp::DecErr
-    }
+    word_status(config, &entry.request)
 }
 
 /// The lanes of the next beat of a read.
@@ -73,9 +81,5 @@ pub fn valid_status(config: &MemoryConfig, entry: &ReadEntry) -> Resp
     requires config { IsMemoryConfig config.now }
     ensures { result ≡ valid_status config.now entry.now.request entry.now.put }
 {
-    if is_inside(config, word_address(&entry.request, config.bus)) {
-        Resp::Okay
-    } else {
-        Resp::DecErr
-    }
+    word_status(config, &entry.request)
 }

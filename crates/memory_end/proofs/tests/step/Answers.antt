@@ -1,6 +1,5 @@
 use Rattle.std.proofs.Common.{◌≡◌, ◌∙◌, ◌+◌, ◌*◌, ◌/◌, ◌^◌, ◌<◌, ◌≤◌, ◌&&◌, ℕ, Bool, true, false, List, [], ◌∷◌, Option, Some, None, sym, ap, subst, arith, refl, IsTrue, leb, ltb}
-use Rattle.std.specs.Prelude.{Contains, IfSome}
-use Rattle.std.specs.Option.{option_copied}
+use Rattle.std.specs.Prelude.{IfSome}
 use Rattle.std.proofs.lemmas.Bool.{leb-true}
 use Rattle.axi_beats.specs.declared.beat.Addr.{Addr}
 use Rattle.axi_beats.specs.declared.beat.WBeat.{WBeat}
@@ -12,7 +11,6 @@ use Rattle.memory_end.specs.declared.config.MemoryConfig.{MemoryConfig}
 use Rattle.memory_end.specs.Laws.{HasSameArguments}
 use Rattle.memory_end.specs.MemoryState.{AreLinesAmong, MemoryState, new_memory}
 use Rattle.memory_end.specs.MemoryTable.{CanMemory, memory_link, memory_next}
-use Rattle.memory_end.specs.Status.{is_inside}
 use Rattle.memory_end.proofs.StayLemmas.{memory-keeps}
 use Rattle.memory_end.proofs.tests.step.Goals as goal
 
