@@ -1,5 +1,5 @@
 -- The laws of the manager's table.
-use Rattle.std.proofs.Common.{◌≡◌, ◌≢◌, ℕ, ◌+◌, ◌<◌, ◌≤◌, ◌==◌, ◌&&◌, zero, suc, Bool, true, false, cond, List, [], ◌∷◌, ◌++◌, Option, Some, None, length, map, take, drop, get_or, refl, sym, ◌∙◌, ap, subst, arith, add-zero, zero-add, length-append, rules}
+use Rattle.std.proofs.Common.{◌≡◌, ◌≢◌, ℕ, ◌+◌, ◌<◌, ◌≤◌, ◌==◌, ◌&&◌, suc, Bool, true, false, cond, List, [], ◌∷◌, ◌++◌, Option, Some, None, length, map, take, drop, get_or, refl, sym, ◌∙◌, ap, subst, arith, add-zero, zero-add, length-append}
 use Rattle.std.specs.List.{enumerate_from}
 use Rattle.std.specs.Prelude.{All, filter, find, is_some, nat_lt, not, slice_get}
 use Rattle.std.specs.Option.{option_map}
@@ -12,15 +12,15 @@ use Rattle.std.proofs.lemmas.Option.{slice_get_within}
 use Rattle.axi_beats.specs.declared.beat.BBeat.{BBeat}
 use Rattle.axi_beats.specs.declared.beat.RBeat.{RBeat}
 use Rattle.axi_beats.specs.Word.{IsBusWidth}
-use Rattle.axi_link.specs.Fits.{TakeFits, PutFits, MovesFit}
+use Rattle.axi_link.specs.Fits.{TakeFits, PutFits}
 use Rattle.axi_link.specs.LinkView.{LinkView}
 use Rattle.axi_link.specs.Table.{link_of, head_of, has_room, passing, put_of, take_of}
 use Rattle.flight.specs.Entries.{without_oldest}
 use Rattle.manager_end.specs.Answer.{AnswerView, unanswered}
 use Rattle.manager_end.specs.Beats.{request_of, data_of}
-use Rattle.manager_end.specs.Laws.{ManagerBegins, ManagerMovesFit, ManagerStays}
-use Rattle.manager_end.specs.ManagerState.{ManagerState, is_answered, IsManager, IsUnanswered, AreWaiting, AreDistinct, waiting, writes_of, reads_of, due_bytes, new_manager}
-use Rattle.manager_end.specs.ManagerTable.{below, answering, left_waiting, with_issued, more, note_write, note_read, note_issue, ready, fits, manager_aw, manager_w, manager_ar, manager_b, manager_r, manager_next, manager_out}
+use Rattle.manager_end.specs.Laws.{ManagerBegins, ManagerMovesFit}
+use Rattle.manager_end.specs.ManagerState.{ManagerState, is_answered, IsManager, IsUnanswered, AreWaiting, AreDistinct, waiting, writes_of, reads_of, due_bytes}
+use Rattle.manager_end.specs.ManagerTable.{below, answering, left_waiting, with_issued, more, note_write, note_read, note_issue, ready, fits, manager_aw, manager_w, manager_ar, manager_b, manager_r, manager_next}
 use Rattle.manager_end.specs.Script.{ScriptItem}
 use Rattle.manager_end.specs.declared.entry.Entry.{Entry}
 use Rattle.manager_end.proofs.WaitingLemmas.{AreKept, kept-turned, kept-answered, kept-issued, oldest-id, waiting-issued, waiting-next}

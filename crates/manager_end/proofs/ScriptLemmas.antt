@@ -1,9 +1,8 @@
 -- Facts on scripts as lists.
-use Rattle.std.proofs.Common.{◌≡◌, ℕ, ◌+◌, ◌-◌, ◌^◌, ◌<◌, ◌≤◌, zero, suc, List, [], ◌∷◌, ◌++◌, Option, Some, None, length, take, refl, sym, subst, arith, add-one, length-append, length-take, get_or, ap, ◌∙◌, Bool, true, false, cond, map}
+use Rattle.std.proofs.Common.{◌≡◌, ℕ, ◌-◌, ◌^◌, ◌<◌, ◌≤◌, zero, suc, List, [], ◌∷◌, ◌++◌, Option, Some, length, take, refl, sym, subst, arith, length-take, get_or, ap, ◌∙◌, Bool, true, false, cond, map}
 use Rattle.std.proofs.Math.Nat.{pow-le-pow_right}
 use Rattle.std.specs.Option.{option_map}
 use Rattle.std.specs.Prelude.{IfSome, slice_get}
-use Rattle.axi_beats.specs.Word.{IsWholeWord}
 use Rattle.manager_end.specs.declared.script.Txn.{Txn}
 use Rattle.manager_end.specs.declared.script.WriteByte.{WriteByte}
 use Rattle.manager_end.specs.Script.{ScriptItem, CanPush, IsScript}

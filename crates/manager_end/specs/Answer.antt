@@ -1,5 +1,5 @@
 -- What a manager notes of a transaction (Arm IHI 0022, read and write response structure).
-use Rattle.std.specs.Prelude.{◌≡◌, ◌++◌, ◌∷◌, [], ℕ, List, Option, Some, None, nat_lt, slice_get, slice_set, slice_index_or}
+use Rattle.std.specs.Prelude.{◌++◌, ◌∷◌, [], ℕ, List, slice_set, slice_index_or}
 use Rattle.axi_beats.specs.declared.response.Resp.{Resp}
 
 -- The rounds in which a transaction was issued and answered, where rounds count from 1 and 0 says 'not yet'; the

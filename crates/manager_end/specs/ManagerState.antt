@@ -4,7 +4,7 @@ use Rattle.std.specs.List.{enumerate_from}
 use Rattle.axi_beats.specs.Word.{IsWholeWord, IsBusWidth}
 use Rattle.axi_link.specs.LinkView.{LinkView}
 use Rattle.manager_end.specs.Answer.{AnswerView, unanswered}
-use Rattle.manager_end.specs.Script.{ScriptItem, IsScript, sent_bytes}
+use Rattle.manager_end.specs.Script.{ScriptItem, IsScript}
 use Rattle.manager_end.specs.declared.entry.Entry.{Entry}
 use Rattle.manager_end.specs.declared.script.Txn.{Txn}
 

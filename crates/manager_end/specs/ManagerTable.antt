@@ -1,6 +1,6 @@
 -- The manager's decision table. All rows read the links and the state as they stand at the round's start.
 -- (Arm IHI 0022, dependencies between channel handshake signals; transaction ordering.)
-use Rattle.std.specs.Prelude.{◌==◌, ◌<◌, ◌+◌, ◌&&◌, ◌++◌, ◌∷◌, [], ℕ, List, Bool, true, false, Option, Some, None, length, take, find, is_some, nat_lt, nat_le, slice_get}
+use Rattle.std.specs.Prelude.{◌==◌, ◌+◌, ◌&&◌, ◌++◌, ◌∷◌, [], ℕ, List, Bool, true, false, Option, Some, None, length, take, find, is_some, nat_lt, nat_le, slice_get}
 use Rattle.std.specs.Option.{option_map}
 use Rattle.axi_beats.specs.declared.beat.BBeat.{BBeat}
 use Rattle.axi_beats.specs.declared.beat.RBeat.{RBeat}

@@ -14,6 +14,8 @@ mod entry;
 mod manager;
 mod manager_laws;
 mod script;
+#[cfg(test)]
+mod tests;
 
 pub use answer::Answer;
 pub use entry::Entry;

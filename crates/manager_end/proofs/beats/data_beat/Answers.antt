@@ -1,4 +1,4 @@
-use Rattle.std.proofs.Common.{◌≡◌, ◌*◌, ◌%◌, ◌^◌, ap, ◌∙◌, get_or, set}
+use Rattle.std.proofs.Common.{◌*◌, ◌%◌, ◌^◌, ap, ◌∙◌, set}
 use Rattle.std.specs.Prelude.{bit_or}
 use Rattle.manager_end.proofs.BeatLemmas.{lanes-step, strobe-step}
 use Rattle.manager_end.proofs.beats.data_beat.Goals as goal

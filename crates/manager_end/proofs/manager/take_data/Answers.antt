@@ -1,4 +1,4 @@
-use Rattle.std.proofs.Common.{◌≡◌, ◌<◌, ℕ, List, Option, None, Some, ap, sym, ◌∙◌, length, get_or}
+use Rattle.std.proofs.Common.{◌<◌, ap, sym, ◌∙◌, length, get_or}
 use Rattle.std.specs.Option.{option_copied}
 use Rattle.manager_end.specs.Answer.{unanswered}
 use Rattle.manager_end.specs.ManagerState.{IsUnanswered}

@@ -1,4 +1,4 @@
-use Rattle.std.proofs.Common.{◌≡◌, ap, sym, ◌∙◌}
+use Rattle.std.proofs.Common.{ap, sym, ◌∙◌}
 use Rattle.std.specs.Option.{option_map}
 use Rattle.flight.proofs.EntryFacts.{remove-first_place}
 use Rattle.manager_end.specs.declared.entry.Entry.{Entry}

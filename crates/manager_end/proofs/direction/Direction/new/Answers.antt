@@ -1,4 +1,4 @@
-use Rattle.std.proofs.Common.{◌≡◌, ◌++◌, ◌∷◌, [], ℕ, List, Bool, cond, ap, sym, ◌∙◌}
+use Rattle.std.proofs.Common.{◌++◌, ◌∷◌, [], ℕ, List, Bool, cond, ap, sym, ◌∙◌}
 use Rattle.manager_end.specs.ManagerState.{is_directed}
 use Rattle.manager_end.proofs.DirectionLemmas.{places-more}
 use Rattle.manager_end.proofs.direction.Direction.new.Goals as goal

@@ -1,11 +1,9 @@
-use Rattle.std.proofs.Common.{◌≡◌, ◌+◌, ◌<◌, ◌&&◌, ◌^◌, ℕ, List, Bool, true, false, Option, Some, None, ap, arith, length, refl, subst, sym, ◌∙◌}
+use Rattle.std.proofs.Common.{◌≡◌, ◌+◌, ◌<◌, ◌^◌, ℕ, List, true, false, Option, ap, arith, length, subst, sym, ◌∙◌}
 use Rattle.std.specs.Option.{option_copied, option_map}
-use Rattle.std.specs.Prelude.{All, IfSome, IsSome, is_some, slice_get}
-use Rattle.axi_beats.specs.declared.beat.BBeat.{BBeat}
-use Rattle.axi_beats.specs.declared.beat.RBeat.{RBeat}
+use Rattle.std.specs.Prelude.{IfSome, is_some}
 use Rattle.axi_link.specs.Acted.{Acted}
 use Rattle.axi_link.specs.LinkView.{LinkView}
-use Rattle.axi_link.specs.Table.{has_room, passing, put_of, take_of}
+use Rattle.axi_link.specs.Table.{put_of, take_of}
 use Rattle.axi_link.specs.declared.out.Out.{Out}
 use Rattle.manager_end.specs.Beats.{request_of, data_of}
 use Rattle.manager_end.specs.ManagerInside.{manager_state}

@@ -1,6 +1,6 @@
-use Rattle.std.proofs.Common.{◌≡◌, List, refl, rules, subst, sym}
-use Rattle.manager_end.specs.ManagerState.{ManagerState, IsManager, new_manager}
-use Rattle.manager_end.specs.Script.{ScriptItem, IsScript}
+use Rattle.std.proofs.Common.{refl, rules, subst, sym}
+use Rattle.manager_end.specs.ManagerState.{IsManager, new_manager}
+use Rattle.manager_end.specs.Script.{IsScript}
 use Rattle.manager_end.proofs.ManagerLaws.{manager-begins}
 use Rattle.manager_end.proofs.StepLemmas.{state-same}
 use Rattle.manager_end.proofs.manager.Manager.new.Goals as goal
