@@ -44,9 +44,10 @@ impl Model for Memory {
 
 impl Memory {
     /// A memory below link `upper` that nothing has asked yet, whose bytes all have the fill value.
-    /// `touched` are the numbers of the 128-byte lines that may be written, ascending. Its base and
-    /// size are multiples of 4096. Ranges that can't be written or read and delays aren't there yet:
-    /// the ranges are empty, and the delays 0.
+    /// `touched` are the numbers of the 128-byte lines that may be written, ascending: the addresses
+    /// divided by 128. Parts that can't be written or can't be read and delays aren't there yet:
+    /// `read_only` and `hole` are empty, and `accept` and `give` are the one delay 0. All memory is
+    /// taken here.
     pub fn new(
         alloc: Global,
         config: MemoryConfig,
@@ -88,7 +89,9 @@ impl Memory {
     }
 
     /// Decides what the memory takes and puts in a round, from its state and the links as they stand
-    /// at the round's start, and goes on to its next state.
+    /// at the round's start, and goes on to its next state. Rounds count from 1. Its link is among
+    /// the links and offers requests for words of its bus alone, writes on lines that it keeps or
+    /// outside it, and strobes on lanes of its bus.
     pub fn decide(&mut self, round: u64, links: &[Link])
         requires { CanMemory round links.now self.old.state }
         ensures { self.new ≡ memory_table links.now self.old.state }
