@@ -80,6 +80,13 @@ impl Manager {
         })
     }
 
+    /// The script, with its transactions.
+    pub fn script(&self) -> &Script
+        ensures { result.now ≡ self.now.state.script }
+    {
+        &self.script
+    }
+
     /// The answer to the transaction at place `n` of the script, counted from 0; None exactly where
     /// it isn't answered.
     pub fn answer(&self, n: u32) -> Option<&Answer>

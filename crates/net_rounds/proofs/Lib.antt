@@ -1,0 +1,11 @@
+pub mod BoundLemmas
+pub mod Choosing
+pub mod NetLemmas
+pub mod NetworkLemmas
+pub mod Numbers
+pub mod Pair
+pub mod PairLemmas
+pub mod RunLemmas
+pub mod ScriptLemmas
+pub mod StoreStays
+pub mod TouchedLemmas

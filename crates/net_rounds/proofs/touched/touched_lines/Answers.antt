@@ -1,0 +1,22 @@
+use Rattle.std.proofs.Common.{◌≡◌, ◌++◌, ◌∷◌, [], sym, ap, ◌∙◌, arith}
+use Rattle.net_rounds.proofs.ScriptLemmas.{line-kept, line-passed}
+use Rattle.net_rounds.specs.BuiltIn.{lines_below, touched_lines}
+use Rattle.net_rounds.proofs.touched.touched_lines.Goals as goal
+use Rattle.net_rounds.proofs.touched.touched_lines.Goals.{then-is_touched+in_ok-push, else-is_touched}
+
+pub loop-line-preserved : goal.loop-line-preserved
+loop-line-preserved c =
+    elim c.if-is_touched.branch [
+      | then-is_touched+in_ok-push w ↦
+          let kept = line-kept c.loop-line.line c.args.script.now (sym c.is_touched.ensures ∙ w.if-is_touched.true) in
+          ap (λ v. v.items) w.lines-is ∙ w.in_ok-push.ensures.items ∙ ap (λ ls. ls ++ c.loop-line.line ∷ []) c.loop-line.invariant ∙ sym kept
+      | else-is_touched w ↦
+          let passed = line-passed c.loop-line.line c.args.script.now (sym c.is_touched.ensures ∙ w.if-is_touched.false) in
+          ap (λ v. v.items) w.lines-is ∙ c.loop-line.invariant ∙ sym passed
+    ]
+
+pub returns : goal.returns
+unfolding touched_lines
+returns c =
+    let end : c.loop-line.line ≡ 64 = omega arith in
+    c.loop-line.invariant ∙ ap (λ count. lines_below count c.args.script.now) end

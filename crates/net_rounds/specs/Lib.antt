@@ -1,0 +1,6 @@
+pub mod BuiltIn
+pub mod NetInside
+pub mod NetView
+pub mod Network
+pub mod Numbered
+pub mod Run

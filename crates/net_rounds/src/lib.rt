@@ -1,0 +1,18 @@
+//! The rounds of a network.
+//!
+//! In phase one of a round every node decides on the links as they stand; in phase two every link
+//! makes the moves that its two nodes chose. [`Net`] stands where its rounds lead from the opening
+//! state, and says so in its type.
+#![tactic(auto)]
+
+mod ends;
+mod net;
+mod phase;
+mod run_laws;
+mod touched;
+
+pub use ends::Ends;
+pub use net::Net;
+pub use phase::{commit_each, decide_each};
+pub use run_laws::runs_are_least;
+pub use touched::touched_lines;

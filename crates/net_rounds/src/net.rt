@@ -1,0 +1,160 @@
+//! `Net`, seen in clauses as the network as it stands, the rounds that led there and the most rounds
+//! of a run.
+
+ghost use Rattle.std.specs.Prelude.{◌≡◌, ◌<◌, ◌+◌, ◌-◌, ◌^◌, [], ◌∷◌, IfOk, Some};
+ghost use Rattle.net_rounds.specs.BuiltIn.{IsTraffic, bound, built_in, first_manager};
+ghost use Rattle.net_rounds.specs.Network.{after_commit, after_decide, after_rounds, is_finished};
+ghost use Rattle.net_rounds.specs.NetView.{NetView};
+ghost use Rattle.net_rounds.specs.Run.{run_length};
+
+use crate::ends::Ends;
+use crate::phase::{commit_each, decide_each};
+use crate::touched::touched_lines;
+use axi_beats::NoMemory;
+use axi_link::Link;
+use manager_end::{Manager, Script};
+use memory_end::{Memory, MemoryConfig};
+use net_nodes::Node;
+use std::alloc::{AllocError, Global};
+use std::marker::Model;
+
+/// The width of the built-in network's bus, in bytes.
+const BUS: u8 = 4;
+
+/// The depth of its link.
+const DEPTH: u8 = 2;
+
+/// The number of its link.
+const LINK: u32 = 0;
+
+/// A network that runs. All its memory is taken when it is built.
+#[derive(Drop)]
+pub struct Net {
+    nodes: Vec<Node>,
+    links: Vec<Link>,
+    ends: Vec<Ends>,
+    rounds: u64,
+    most: u64,
+}
+
+impl Model for Net {
+    ghost use Rattle.net_rounds.specs.NetView.{NetView, IsNet};
+
+    ghost Value = { NetView };
+
+    ghost use Rattle.net_rounds.specs.NetInside.{net_view};
+
+    ghost view = { net_view };
+
+    ghost invariant = { λ n. IsNet (net_view n) };
+}
+
+impl Net {
+    /// The built-in network with the transactions of `script`, before its first round.
+    pub fn build(alloc: Global, script: Script) -> Result<Net, NoMemory>
+        requires { IsTraffic script }
+        ensures { IfOk result (λ net. net ≡ record { network = built_in script; rounds = 0; most = bound script }) }
+    {
+        let most = 12 * u64::from(script.len());
+        let touched = touched_lines(alloc, &script)?;
+        let ram = MemoryConfig {
+            base: 0,
+            size: 8192,
+            bus: BUS,
+            fill: 0,
+        };
+        let manager = Manager::new(alloc, script, LINK, BUS, &[0], &[0])?;
+        let memory = Memory::new(alloc, ram, &[], &[], &[0], &[0], LINK, &touched)?;
+        let link = Link::new(alloc, DEPTH)?;
+        Ok(Net {
+            nodes: nodes_of(alloc, manager, memory)?,
+            links: links_of(alloc, link)?,
+            ends: ends_of(alloc)?,
+            rounds: 0,
+            most,
+        })
+    }
+
+    /// The rounds that were made.
+    pub fn rounds(&self) -> u64
+        ensures { result ≡ self.now.rounds }
+    {
+        self.rounds
+    }
+
+    /// Whether every transaction is answered.
+    pub fn finished(&self) -> bool
+        ensures { result ≡ is_finished self.now.network }
+    {
+        self.nodes.iter().all(|node| node.done())
+    }
+
+    /// The manager, with its script and the answers that it noted.
+    pub fn manager(&self) -> &Manager
+        ensures { first_manager self.now.network.nodes ≡ Some result.now.state }
+    {
+        match &self.nodes[0] {
+            Node::Manager(manager) => manager,
+            Node::Memory(_) => unreachable!(),
+        }
+    }
+
+    /// One round: every node decides, then every link moves.
+    pub fn round(&mut self)
+        requires { self.old.rounds < 2 ^ 63 - 1 }
+        ensures network { self.new.network ≡ after_commit (after_decide (self.old.rounds + 1) self.old.network) }
+        ensures rounds { self.new.rounds ≡ self.old.rounds + 1 }
+        ensures most { self.new.most ≡ self.old.most }
+    {
+        let round = self.rounds + 1;
+        decide_each(&mut self.nodes, round, &self.links);
+        commit_each(&mut self.links, 0, &self.ends, &self.nodes);
+        self.rounds = round;
+    }
+
+    /// Rounds up to the first state in which every transaction is answered, and at most as many as
+    /// the bound; whether every transaction is answered then.
+    pub fn run(&mut self) -> bool
+        requires { self.old.rounds ≡ 0 }
+        ensures rounds { self.new.rounds ≡ run_length self.old.network self.old.most }
+        ensures network { self.new.network ≡ after_rounds self.new.rounds self.old.network }
+        ensures finished { result ≡ is_finished self.new.network }
+    {
+        let most = self.most;
+        for _round in 0..most {
+            if self.finished() {
+                return true;
+            }
+            self.round();
+        }
+        self.finished()
+    }
+}
+
+/// The nodes of the built-in network: the manager, and the memory below it.
+fn nodes_of(alloc: Global, manager: Manager, memory: Memory) -> Result<Vec<Node>, AllocError>
+    ensures { IfOk result (λ nodes. nodes.items ≡ Node.Manager manager ∷ Node.Memory memory ∷ []) }
+{
+    let mut nodes = Vec::new(alloc);
+    nodes.push(Node::Manager(manager))?;
+    nodes.push(Node::Memory(memory))?;
+    Ok(nodes)
+}
+
+/// Its one link.
+fn links_of(alloc: Global, link: Link) -> Result<Vec<Link>, AllocError>
+    ensures { IfOk result (λ links. links.items ≡ link ∷ []) }
+{
+    let mut links = Vec::new(alloc);
+    links.push(link)?;
+    Ok(links)
+}
+
+/// The nodes of that link.
+fn ends_of(alloc: Global) -> Result<Vec<Ends>, AllocError>
+    ensures { IfOk result (λ ends. ends.items ≡ record { upper = 0; lower = 1 } ∷ []) }
+{
+    let mut ends = Vec::new(alloc);
+    ends.push(Ends { upper: 0, lower: 1 })?;
+    Ok(ends)
+}
