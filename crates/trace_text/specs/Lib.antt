@@ -1,0 +1,5 @@
+pub mod Form
+pub mod Line
+pub mod LineLaws
+pub mod Ranges
+pub mod Reading

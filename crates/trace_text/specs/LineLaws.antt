@@ -1,0 +1,11 @@
+-- The laws of trace lines.
+use Rattle.std.specs.Prelude.{◌≡◌, ℕ, List, Option, Some}
+use Rattle.axi_history.specs.declared.port.PortRound.{PortRound}
+use Rattle.trace_text.specs.Form.{line_text}
+use Rattle.trace_text.specs.Line.{Line}
+use Rattle.trace_text.specs.Ranges.{IsTraceRound}
+use Rattle.trace_text.specs.Reading.{line_of}
+
+-- a text is the trace line of at most one round
+abbrev pub LinesAreUnique : Type 0
+LinesAreUnique = (r s : PortRound) (text : List ℕ) → Line r text → Line s text → r ≡ s
