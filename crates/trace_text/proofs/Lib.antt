@@ -1,2 +1,3 @@
 pub mod KnownLines
+pub mod LanesLaws
 pub mod WritingLaws

@@ -2,7 +2,7 @@
 
 ghost use Rattle.std.specs.Prelude.{◌≡◌, ◌+◌, ◌<◌, ◌≤◌, ◌^◌, IfSome, IsTrue, option_map};
 ghost use Rattle.trace_text.specs.Ranges.{is_bus, is_port_kind};
-ghost use Rattle.trace_text.specs.Reading.{address_of, bit_before, bit_of, channel_before, channel_of, decimal_before, hexadecimal_before, kind_before, lanes_before, lanes_of, line_of, lite_of, marked, read_data_of, response_of, round_before, tag_of, write_data_of};
+ghost use Rattle.trace_text.specs.Reading.{address_of, bit_before, bit_of, channel_of, decimal_before, hexadecimal_before, kind_before, lanes_of, line_of, lite_of, marked, read_data_of, response_of, round_before, tag_of, write_data_of};
 
 use axi_beats::{Lanes, Tag, WBeat};
 use axi_history::{PortKind, PortRound, RawAddr, RawB, RawR, Seen};
@@ -12,17 +12,21 @@ use plain_text::spelling::{read_pair, read_plain_hexadecimal};
 use plain_text::words::is_word;
 
 // The round whose trace line the text is, if there is one.
-#[tactic(auto, unfolding(crate::specs::Reading::line_of))]
+#[tactic(auto, unfolding(crate::specs::Reading::line_of, crate::specs::Reading::channel_before))]
 pub(crate) fn line_of(text: &[u8]) -> Option<PortRound>
     ensures { result ≡ line_of text.now }
 {
     let (round, rest) = round_before(text)?;
     let (link, rest) = decimal_before(rest, b' ', 4096)?;
     let (kind, rest) = kind_before(rest)?;
-    let (aw, rest) = address_channel_before(rest)?;
-    let (w, rest) = write_data_channel_before(rest, kind.bus)?;
-    let (b, rest) = response_channel_before(rest)?;
-    let (ar, rest) = address_channel_before(rest)?;
+    let (word, rest) = field_before(rest, b' ')?;
+    let aw = address_channel(word)?;
+    let (word, rest) = field_before(rest, b' ')?;
+    let w = write_data_channel(word, kind.bus)?;
+    let (word, rest) = field_before(rest, b' ')?;
+    let b = response_channel(word)?;
+    let (word, rest) = field_before(rest, b' ')?;
+    let ar = address_channel(word)?;
     let r = read_data_channel(rest, kind.bus)?;
     Some(PortRound { round, link: link as u32, kind, aw, w, b, ar, r })
 }
@@ -75,31 +79,6 @@ fn is_bus(bus: u8) -> bool
     ensures { result ≡ is_bus bus }
 {
     bus == 4 || bus == 8 || bus == 16 || bus == 32 || bus == 64 || bus == 128
-}
-
-#[tactic(auto, unfolding(crate::specs::Reading::channel_before))]
-fn address_channel_before(text: &[u8]) -> Option<(Option<Seen<RawAddr>>, &[u8])>
-    ensures { option_map (λ found. (found.0, found.1.now)) result ≡ channel_before address_of text.now }
-{
-    let (word, rest) = field_before(text, b' ')?;
-    Some((address_channel(word)?, rest))
-}
-
-#[tactic(auto, unfolding(crate::specs::Reading::channel_before))]
-fn write_data_channel_before(text: &[u8], bus: u8) -> Option<(Option<Seen<WBeat>>, &[u8])>
-    requires { IsTrue (is_bus bus) }
-    ensures { option_map (λ found. (found.0, found.1.now)) result ≡ channel_before (write_data_of bus) text.now }
-{
-    let (word, rest) = field_before(text, b' ')?;
-    Some((write_data_channel(word, bus)?, rest))
-}
-
-#[tactic(auto, unfolding(crate::specs::Reading::channel_before))]
-fn response_channel_before(text: &[u8]) -> Option<(Option<Seen<RawB>>, &[u8])>
-    ensures { option_map (λ found. (found.0, found.1.now)) result ≡ channel_before response_of text.now }
-{
-    let (word, rest) = field_before(text, b' ')?;
-    Some((response_channel(word)?, rest))
 }
 
 fn address_channel(word: &[u8]) -> Option<Option<Seen<RawAddr>>>
@@ -181,12 +160,13 @@ fn address_of(text: &[u8]) -> Option<RawAddr>
     })
 }
 
-#[tactic(auto, unfolding(crate::specs::Reading::write_data_of))]
+#[tactic(auto, unfolding(crate::specs::Reading::write_data_of, crate::specs::Reading::lanes_before))]
 fn write_data_of(text: &[u8], bus: u8) -> Option<WBeat>
     requires { IsTrue (is_bus bus) }
     ensures { result ≡ write_data_of bus text.now }
 {
-    let (lanes, rest) = lanes_before(text, b',', bus)?;
+    let (word, rest) = field_before(text, b',')?;
+    let lanes = lanes_of(word, bus)?;
     let (strobe, rest) = hexadecimal_before(rest, b',', greatest_strobe(bus))?;
     let (last, rest) = bit_before(rest, b',')?;
     let tag = tag_of(rest)?;
@@ -203,13 +183,14 @@ fn response_of(text: &[u8]) -> Option<RawB>
     Some(RawB { id: id as u32, resp: resp as u8, tag })
 }
 
-#[tactic(auto, unfolding(crate::specs::Reading::read_data_of))]
+#[tactic(auto, unfolding(crate::specs::Reading::read_data_of, crate::specs::Reading::lanes_before))]
 fn read_data_of(text: &[u8], bus: u8) -> Option<RawR>
     requires { IsTrue (is_bus bus) }
     ensures { result ≡ read_data_of bus text.now }
 {
     let (id, rest) = decimal_before(text, b',', 1 << 32)?;
-    let (lanes, rest) = lanes_before(rest, b',', bus)?;
+    let (word, rest) = field_before(rest, b',')?;
+    let lanes = lanes_of(word, bus)?;
     let (resp, rest) = decimal_before(rest, b',', 4)?;
     let (last, rest) = bit_before(rest, b',')?;
     let tag = tag_of(rest)?;
@@ -280,15 +261,6 @@ fn bit_of(word: &[u8]) -> Option<bool>
     } else {
         None
     }
-}
-
-#[tactic(auto, unfolding(crate::specs::Reading::lanes_before))]
-fn lanes_before(text: &[u8], end: u8, bus: u8) -> Option<(Lanes, &[u8])>
-    requires { IsTrue (is_bus bus) }
-    ensures { option_map (λ found. (found.0, found.1.now)) result ≡ lanes_before end bus text.now }
-{
-    let (word, rest) = field_before(text, end)?;
-    Some((lanes_of(word, bus)?, rest))
 }
 
 // Two digits for each lane of the bus; the lanes above it are 0.
