@@ -1,3 +1,6 @@
+pub mod BeatForms
+pub mod FieldForms
 pub mod KnownLines
 pub mod LanesLaws
+pub mod LineForms
 pub mod WritingLaws

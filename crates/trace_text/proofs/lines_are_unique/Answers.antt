@@ -1,5 +1,5 @@
-use Rattle.trace_text.proofs.KnownLines
+use Rattle.trace_text.proofs.LineForms.{lines_are_unique}
 use Rattle.trace_text.proofs.lines_are_unique.Goals as goal
 
 pub returns : goal.returns
-returns c = ?
+returns c = lines_are_unique
