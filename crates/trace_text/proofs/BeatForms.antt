@@ -1,19 +1,17 @@
 -- The beats of the five channels are read as they are written.
-use Rattle.std.proofs.Common.{◌≡◌, ℕ, ◌+◌, ◌-◌, ◌*◌, ◌^◌, ◌<◌, ◌≤◌, Bool, true, false, cond, eqb, List, [], ◌∷◌, ◌++◌, Option, Some, None, length, take, drop, refl, ap, sym, subst, ◌∙◌, arith, lit<, lit≤, zero, suc}
+use Rattle.std.proofs.Common.{◌≡◌, ℕ, ◌-◌, ◌^◌, ◌<◌, ◌≤◌, Bool, true, false, cond, eqb, List, [], ◌∷◌, ◌++◌, Option, Some, None, length, take, refl, ap, sym, subst, ◌∙◌, arith, lit<, lit≤, zero, suc}
 use Rattle.std.specs.Prelude.{IfSome, codes, replicate}
-use Rattle.std.specs.Char.{digit_value}
 use Rattle.std.specs.Fmt.{decimal}
 use Rattle.std.specs.Str.{bytes_eq}
 use Rattle.std.proofs.Math.Nat.{pow-le-pow_right}
-use Rattle.std.proofs.lemmas.Bool.{eqb-true, eq-eqb, eqb-false}
+use Rattle.std.proofs.lemmas.Bool.{eqb-true, eq-eqb}
 use Rattle.std.proofs.lemmas.List.{take_at, drop_at, take-append-drop, length-append, length-take, length-replicate}
 use Rattle.std.proofs.lemmas.Slice.Eq.{bytes_eq-Decides}
-use Rattle.plain_text.specs.Exact.{◌>>=◌, IsExact, IsExactBefore, read_before, write_before}
+use Rattle.plain_text.specs.Exact.{◌>>=◌, IsExact, IsExactBefore, write_before}
 use Rattle.plain_text.specs.ExactLaws.{AreBytes}
 use Rattle.plain_text.specs.Printing.{hexadecimal, pairs}
 use Rattle.plain_text.specs.Spelling.{read_pairs}
 use Rattle.plain_text.proofs.FieldLaws.{Avoids, Avoids-append, bind_some, some_is, before_is_exact}
-use Rattle.plain_text.proofs.SpellingLaws.{Avoids-decimal}
 use Rattle.plain_text.proofs.HexadecimalLaws.{Avoids-hexadecimal, Avoids-pairs, pairs_is_exact}
 use Rattle.axi_beats.specs.declared.beat.WBeat.{WBeat}
 use Rattle.axi_history.specs.declared.port.RawAddr.{RawAddr}
@@ -22,7 +20,7 @@ use Rattle.axi_history.specs.declared.port.RawR.{RawR}
 use Rattle.axi_history.specs.declared.port.Seen.{Seen}
 use Rattle.trace_text.specs.Form.{address_text, bit_text, channel_text, lanes_text, mark, read_data_text, response_text, tag_text, write_data_text}
 use Rattle.trace_text.specs.Ranges.{IsOnBus, IsTraceAddress, IsTraceReadData, IsTraceResponse, IsTraceWriteData}
-use Rattle.trace_text.specs.Reading.{address_of, bit_before, channel_before, channel_of, decimal_before, hexadecimal_before, lanes_before, lanes_of, marked, read_data_of, response_of, tag_of, write_data_of}
+use Rattle.trace_text.specs.Reading.{address_of, channel_before, channel_of, lanes_before, lanes_of, marked, read_data_of, response_of, tag_of, write_data_of}
 use Rattle.trace_text.proofs.FieldForms.{step, passes, decimal_form, hexadecimal_form, bit_form, tag_form, Avoids-bit, Avoids-number, Avoids-tag}
 
 -- ---- lanes
@@ -47,13 +45,14 @@ lanes_sound bus within word lanes e =
     let p = passes (eqb (length bytes.0) bus) (bytes.0 ++ replicate (128 - bus) 0) lanes bytes.2 in
     let count : length bytes.0 ≡ bus = eqb-true (length bytes.0) bus p.0 in
     let s = pairs_is_exact.sound word bytes.0 bytes.1 in
-    subst (λ (xs : List ℕ). IsOnBus bus xs × (word ≡ lanes_text bus xs)) p.1
-    (record {
-       lanes_128 = omega (arith, count, length-append bytes.0 (replicate (128 - bus) 0), length-replicate {A = ℕ} (128 - bus) 0);
-       bytes = AreBytes-append bytes.0 (replicate (128 - bus) 0) s.0 (AreBytes-zeros (128 - bus));
-       above = drop_at bytes.0 (replicate (128 - bus) 0) bus count;
-     },
-     s.1 ∙ ap pairs (sym (take_at bytes.0 (replicate (128 - bus) 0) bus count)))
+    subst (λ (xs : List ℕ). IsOnBus bus xs × (word ≡ lanes_text bus xs)) p.1 (
+      record {
+        lanes_128 = omega (arith, count, length-append bytes.0 (replicate (128 - bus) 0), length-replicate {A = ℕ} (128 - bus) 0);
+        bytes = AreBytes-append bytes.0 (replicate (128 - bus) 0) s.0 (AreBytes-zeros (128 - bus));
+        above = drop_at bytes.0 (replicate (128 - bus) 0) bus count;
+      },
+      s.1 ∙ ap pairs (sym (take_at bytes.0 (replicate (128 - bus) 0) bus count)),
+    )
 
 lanes_complete : (bus : ℕ) → bus ≤ 128 → (lanes : List ℕ) → IsOnBus bus lanes → lanes_of bus (lanes_text bus lanes) ≡ Some lanes
 unfolding lanes_of
@@ -88,9 +87,10 @@ address_sound text beat e =
     let tag = bind_some (tag_of lock.0.1) _ beat lock.3 in
     let last = tag_form.sound lock.0.1 tag.0 tag.1 in
     let made : RawAddr = record { id = id.0.0; addr = addr.0.0; len = len.0.0; size = size.0.0; burst = burst.0.0; lock = lock.0.0; tag = tag.0 } in
-    subst (λ (b : RawAddr). IsTraceAddress b × (text ≡ decimal b.id ++ 44 ∷ (hexadecimal b.addr ++ 44 ∷ (decimal b.len ++ 44 ∷ (decimal b.size ++ 44 ∷ (decimal b.burst ++ 44 ∷ (bit_text b.lock ++ 44 ∷ tag_text b.tag))))))) (some_is made beat tag.2)
-    (record { id = id.1; addr = addr.1; len = omega (arith, len.1); size = omega (arith, size.1); burst = omega (arith, burst.1); tag = last.0 },
-     id.2 ∙ ap (λ (t : List ℕ). decimal id.0.0 ++ 44 ∷ t) (addr.2 ∙ ap (λ (t : List ℕ). hexadecimal addr.0.0 ++ 44 ∷ t) (len.2 ∙ ap (λ (t : List ℕ). decimal len.0.0 ++ 44 ∷ t) (size.2 ∙ ap (λ (t : List ℕ). decimal size.0.0 ++ 44 ∷ t) (burst.2 ∙ ap (λ (t : List ℕ). decimal burst.0.0 ++ 44 ∷ t) (lock.2 ∙ ap (λ (t : List ℕ). bit_text lock.0.0 ++ 44 ∷ t) last.1))))))
+    subst (λ (b : RawAddr). IsTraceAddress b × (text ≡ decimal b.id ++ 44 ∷ (hexadecimal b.addr ++ 44 ∷ (decimal b.len ++ 44 ∷ (decimal b.size ++ 44 ∷ (decimal b.burst ++ 44 ∷ (bit_text b.lock ++ 44 ∷ tag_text b.tag))))))) {x = made} (some_is made beat tag.2) (
+      record { id = id.1; addr = addr.1; len = omega (arith, len.1); size = omega (arith, size.1); burst = omega (arith, burst.1); tag = last.0 },
+      id.2 ∙ ap (λ (t : List ℕ). decimal id.0.0 ++ 44 ∷ t) (addr.2 ∙ ap (λ (t : List ℕ). hexadecimal addr.0.0 ++ 44 ∷ t) (len.2 ∙ ap (λ (t : List ℕ). decimal len.0.0 ++ 44 ∷ t) (size.2 ∙ ap (λ (t : List ℕ). decimal size.0.0 ++ 44 ∷ t) (burst.2 ∙ ap (λ (t : List ℕ). decimal burst.0.0 ++ 44 ∷ t) (lock.2 ∙ ap (λ (t : List ℕ). bit_text lock.0.0 ++ 44 ∷ t) last.1))))),
+    )
 
 address_complete : (beat : RawAddr) → IsTraceAddress beat → address_of (address_text beat) ≡ Some beat
 unfolding address_of address_text
@@ -112,10 +112,10 @@ unfolding address_text
 Avoids-address beat fits =
     Avoids-before _ _ (Avoids-number beat.id (omega (arith, fits.id)))
     (Avoids-before _ _ (Avoids-hexadecimal 32 beat.addr (lit≤ tt) (omega (arith, fits.addr)))
-     (Avoids-before _ _ (Avoids-number beat.len (omega (arith, fits.len)))
-      (Avoids-before _ _ (Avoids-number beat.size (omega (arith, fits.size)))
-       (Avoids-before _ _ (Avoids-number beat.burst (omega (arith, fits.burst)))
-        (Avoids-before _ _ (Avoids-bit beat.lock) (Avoids-tag beat.tag fits.tag))))))
+    (Avoids-before _ _ (Avoids-number beat.len (omega (arith, fits.len)))
+    (Avoids-before _ _ (Avoids-number beat.size (omega (arith, fits.size)))
+    (Avoids-before _ _ (Avoids-number beat.burst (omega (arith, fits.burst)))
+    (Avoids-before _ _ (Avoids-bit beat.lock) (Avoids-tag beat.tag fits.tag))))))
 
 -- ---- write data
 
@@ -131,9 +131,10 @@ write_data_sound bus within text beat e =
     let tag = bind_some (tag_of last.0.1) _ beat last.3 in
     let end = tag_form.sound last.0.1 tag.0 tag.1 in
     let made : WBeat = record { lanes = lanes.0.0; strobe = strobe.0.0; last = last.0.0; tag = tag.0 } in
-    subst (λ (b : WBeat). IsTraceWriteData bus b × (text ≡ lanes_text bus b.lanes ++ 44 ∷ (hexadecimal b.strobe ++ 44 ∷ (bit_text b.last ++ 44 ∷ tag_text b.tag)))) (some_is made beat tag.2)
-    (record { lanes = lanes.1; strobe = strobe.1; tag = end.0 },
-     lanes.2 ∙ ap (λ (t : List ℕ). lanes_text bus lanes.0.0 ++ 44 ∷ t) (strobe.2 ∙ ap (λ (t : List ℕ). hexadecimal strobe.0.0 ++ 44 ∷ t) (last.2 ∙ ap (λ (t : List ℕ). bit_text last.0.0 ++ 44 ∷ t) end.1)))
+    subst (λ (b : WBeat). IsTraceWriteData bus b × (text ≡ lanes_text bus b.lanes ++ 44 ∷ (hexadecimal b.strobe ++ 44 ∷ (bit_text b.last ++ 44 ∷ tag_text b.tag)))) {x = made} (some_is made beat tag.2) (
+      record { lanes = lanes.1; strobe = strobe.1; tag = end.0 },
+      lanes.2 ∙ ap (λ (t : List ℕ). lanes_text bus lanes.0.0 ++ 44 ∷ t) (strobe.2 ∙ ap (λ (t : List ℕ). hexadecimal strobe.0.0 ++ 44 ∷ t) (last.2 ∙ ap (λ (t : List ℕ). bit_text last.0.0 ++ 44 ∷ t) end.1)),
+    )
 
 write_data_complete : (bus : ℕ) → bus ≤ 128 → (beat : WBeat) → IsTraceWriteData bus beat → write_data_of bus (write_data_text bus beat) ≡ Some beat
 unfolding write_data_of write_data_text
@@ -149,7 +150,7 @@ unfolding write_data_text
 Avoids-write_data bus within beat fits =
     Avoids-before _ _ (Avoids-lanes bus beat.lanes fits.lanes)
     (Avoids-before _ _ (Avoids-hexadecimal 32 beat.strobe (lit≤ tt) (omega (arith, fits.strobe, strobe_within bus within)))
-     (Avoids-before _ _ (Avoids-bit beat.last) (Avoids-tag beat.tag fits.tag)))
+    (Avoids-before _ _ (Avoids-bit beat.last) (Avoids-tag beat.tag fits.tag)))
 
 -- ---- responses
 
@@ -161,9 +162,10 @@ response_sound text beat e =
     let tag = bind_some (tag_of resp.0.1) _ beat resp.3 in
     let last = tag_form.sound resp.0.1 tag.0 tag.1 in
     let made : RawB = record { id = id.0.0; resp = resp.0.0; tag = tag.0 } in
-    subst (λ (b : RawB). IsTraceResponse b × (text ≡ decimal b.id ++ 44 ∷ (decimal b.resp ++ 44 ∷ tag_text b.tag))) (some_is made beat tag.2)
-    (record { id = id.1; resp = omega (arith, resp.1); tag = last.0 },
-     id.2 ∙ ap (λ (t : List ℕ). decimal id.0.0 ++ 44 ∷ t) (resp.2 ∙ ap (λ (t : List ℕ). decimal resp.0.0 ++ 44 ∷ t) last.1))
+    subst (λ (b : RawB). IsTraceResponse b × (text ≡ decimal b.id ++ 44 ∷ (decimal b.resp ++ 44 ∷ tag_text b.tag))) {x = made} (some_is made beat tag.2) (
+      record { id = id.1; resp = omega (arith, resp.1); tag = last.0 },
+      id.2 ∙ ap (λ (t : List ℕ). decimal id.0.0 ++ 44 ∷ t) (resp.2 ∙ ap (λ (t : List ℕ). decimal resp.0.0 ++ 44 ∷ t) last.1),
+    )
 
 response_complete : (beat : RawB) → IsTraceResponse beat → response_of (response_text beat) ≡ Some beat
 unfolding response_of response_text
@@ -191,9 +193,10 @@ read_data_sound bus within text beat e =
     let tag = bind_some (tag_of last.0.1) _ beat last.3 in
     let end = tag_form.sound last.0.1 tag.0 tag.1 in
     let made : RawR = record { id = id.0.0; lanes = lanes.0.0; resp = resp.0.0; last = last.0.0; tag = tag.0 } in
-    subst (λ (b : RawR). IsTraceReadData bus b × (text ≡ decimal b.id ++ 44 ∷ (lanes_text bus b.lanes ++ 44 ∷ (decimal b.resp ++ 44 ∷ (bit_text b.last ++ 44 ∷ tag_text b.tag))))) (some_is made beat tag.2)
-    (record { id = id.1; lanes = lanes.1; resp = omega (arith, resp.1); tag = end.0 },
-     id.2 ∙ ap (λ (t : List ℕ). decimal id.0.0 ++ 44 ∷ t) (lanes.2 ∙ ap (λ (t : List ℕ). lanes_text bus lanes.0.0 ++ 44 ∷ t) (resp.2 ∙ ap (λ (t : List ℕ). decimal resp.0.0 ++ 44 ∷ t) (last.2 ∙ ap (λ (t : List ℕ). bit_text last.0.0 ++ 44 ∷ t) end.1))))
+    subst (λ (b : RawR). IsTraceReadData bus b × (text ≡ decimal b.id ++ 44 ∷ (lanes_text bus b.lanes ++ 44 ∷ (decimal b.resp ++ 44 ∷ (bit_text b.last ++ 44 ∷ tag_text b.tag))))) {x = made} (some_is made beat tag.2) (
+      record { id = id.1; lanes = lanes.1; resp = omega (arith, resp.1); tag = end.0 },
+      id.2 ∙ ap (λ (t : List ℕ). decimal id.0.0 ++ 44 ∷ t) (lanes.2 ∙ ap (λ (t : List ℕ). lanes_text bus lanes.0.0 ++ 44 ∷ t) (resp.2 ∙ ap (λ (t : List ℕ). decimal resp.0.0 ++ 44 ∷ t) (last.2 ∙ ap (λ (t : List ℕ). bit_text last.0.0 ++ 44 ∷ t) end.1))),
+    )
 
 read_data_complete : (bus : ℕ) → bus ≤ 128 → (beat : RawR) → IsTraceReadData bus beat → read_data_of bus (read_data_text bus beat) ≡ Some beat
 unfolding read_data_of read_data_text

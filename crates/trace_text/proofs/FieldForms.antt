@@ -1,5 +1,5 @@
 -- The fields of a trace line are read as they are written.
-use Rattle.std.proofs.Common.{◌≡◌, ℕ, ◌+◌, ◌*◌, ◌^◌, ◌<◌, ◌≤◌, Bool, true, false, cond, eqb, leb, not, ◌||◌, List, [], ◌∷◌, ◌++◌, Option, Some, None, length, take, drop, refl, ap, sym, subst, ◌∙◌, arith, lit≤}
+use Rattle.std.proofs.Common.{◌≡◌, ℕ, ◌^◌, ◌<◌, ◌≤◌, Bool, true, false, cond, eqb, leb, not, ◌||◌, List, ◌∷◌, ◌++◌, Option, Some, None, refl, ap, subst, ◌∙◌, arith, lit≤}
 use Rattle.std.specs.Prelude.{IsTrue, codes}
 use Rattle.std.specs.Char.{digit_value}
 use Rattle.std.specs.Str.{bytes_eq}
@@ -169,9 +169,10 @@ tag_sound text tag e =
     let high = bind_some (decimal_below 128 low.0.1) _ tag low.3 in
     let last = (decimal_is_exact 128 (lit≤ tt)).sound low.0.1 high.0 high.1 in
     let made : Tag = record { txn = txn.0.0; low = low.0.0; high = high.0 } in
-    subst (λ (t : Tag). IsTraceTag t × (text ≡ decimal t.txn ++ 58 ∷ (decimal t.low ++ 58 ∷ decimal t.high))) (some_is made tag high.2)
-    (record { txn = txn.1; low = omega (arith, low.1); high = omega (arith, last.0) },
-     txn.2 ∙ ap (λ (t : List ℕ). decimal txn.0.0 ++ 58 ∷ t) (low.2 ∙ ap (λ (t : List ℕ). decimal low.0.0 ++ 58 ∷ t) last.1))
+    subst (λ (t : Tag). IsTraceTag t × (text ≡ decimal t.txn ++ 58 ∷ (decimal t.low ++ 58 ∷ decimal t.high))) (some_is made tag high.2) (
+      record { txn = txn.1; low = omega (arith, low.1); high = omega (arith, last.0) },
+      txn.2 ∙ ap (λ (t : List ℕ). decimal txn.0.0 ++ 58 ∷ t) (low.2 ∙ ap (λ (t : List ℕ). decimal low.0.0 ++ 58 ∷ t) last.1),
+    )
 
 tag_complete : (tag : Tag) → IsTraceTag tag → tag_of (tag_text tag) ≡ Some tag
 unfolding tag_of tag_text

@@ -1,19 +1,16 @@
 -- Trace lines worked by hand, written and read.
 use Rattle.std.proofs.Common.{◌≡◌, ◌++◌, true, false, [], ◌∷◌, Some, None, refl}
 use Rattle.std.specs.Prelude.{List, Bool, ℕ, Option, codes, replicate}
-use Rattle.std.specs.Fmt.{digits, decimal}
-use Rattle.plain_text.specs.Printing.{hexadecimal, pairs}
+use Rattle.std.specs.Fmt.{digits}
+use Rattle.plain_text.specs.Printing.{pairs}
 use Rattle.plain_text.specs.Numbers.{number_in, read_plain_decimal}
 use Rattle.plain_text.specs.Spelling.{read_glyph, read_pair, read_pairs, read_plain_hexadecimal}
 use Rattle.axi_beats.specs.declared.beat.Tag.{Tag}
-use Rattle.axi_beats.specs.declared.beat.WBeat.{WBeat}
 use Rattle.axi_history.specs.declared.port.RawAddr.{RawAddr}
-use Rattle.axi_history.specs.declared.port.RawB.{RawB}
-use Rattle.axi_history.specs.declared.port.RawR.{RawR}
 use Rattle.axi_history.specs.declared.port.Seen.{Seen}
 use Rattle.axi_history.specs.declared.port.PortRound.{PortRound}
 use Rattle.trace_text.specs.Form.{address_text, line_text, read_data_text, response_text, tag_text, write_data_text}
-use Rattle.trace_text.specs.Reading.{address_of, bit_before, bit_of, channel_before, decimal_before, hexadecimal_before, kind_before, lanes_before, lanes_of, line_of, lite_of, read_data_of, response_of, round_before, tag_of, write_data_of}
+use Rattle.trace_text.specs.Reading.{bit_before, bit_of, channel_before, decimal_before, hexadecimal_before, kind_before, lanes_before, lanes_of, line_of, lite_of, round_before, tag_of, write_data_of}
 
 abbrev tag : ℕ → ℕ → ℕ → Tag
 tag txn low high = record { txn = txn; low = low; high = high }

@@ -1,8 +1,8 @@
 -- A trace line is read as it was written, and written as it was read.
-use Rattle.std.proofs.Common.{◌≡◌, ℕ, ◌^◌, ◌<◌, ◌≤◌, List, [], ◌∷◌, ◌++◌, Option, Some, None, refl, ap, sym, subst, ◌∙◌, lit≤}
-use Rattle.std.specs.Prelude.{IfSome, IsTrue}
+use Rattle.std.proofs.Common.{◌≡◌, ℕ, ◌≤◌, List, ◌∷◌, ◌++◌, Some, refl, ap, sym, subst, ◌∙◌, lit≤}
+use Rattle.std.specs.Prelude.{IfSome}
 use Rattle.std.specs.Fmt.{decimal}
-use Rattle.plain_text.specs.Exact.{◌>>=◌, IsExact, IsExactBefore, write_before}
+use Rattle.plain_text.specs.Exact.{IsExact, IsExactBefore, write_before}
 use Rattle.plain_text.proofs.FieldLaws.{bind_some, some_is}
 use Rattle.axi_beats.specs.declared.beat.WBeat.{WBeat}
 use Rattle.axi_history.specs.declared.port.PortRound.{PortRound}
@@ -10,11 +10,11 @@ use Rattle.axi_history.specs.declared.port.RawAddr.{RawAddr}
 use Rattle.axi_history.specs.declared.port.RawB.{RawB}
 use Rattle.axi_history.specs.declared.port.RawR.{RawR}
 use Rattle.axi_history.specs.declared.port.Seen.{Seen}
-use Rattle.trace_text.specs.Form.{address_text, channel_text, kind_text, line_text, read_data_text, response_text, write_data_text}
+use Rattle.trace_text.specs.Form.{address_text, channel_text, line_text, read_data_text, response_text, write_data_text}
 use Rattle.trace_text.specs.Line.{Line}
 use Rattle.trace_text.specs.LineLaws.{LinesAreUnique}
 use Rattle.trace_text.specs.Ranges.{IsTraceAddress, IsTraceReadData, IsTraceResponse, IsTraceRound, IsTraceWriteData}
-use Rattle.trace_text.specs.Reading.{address_of, channel_before, channel_of, decimal_before, line_of, read_data_of, response_of, write_data_of}
+use Rattle.trace_text.specs.Reading.{address_of, channel_before, channel_of, line_of, read_data_of, response_of, write_data_of}
 use Rattle.trace_text.proofs.FieldForms.{step, decimal_form, kind_form, port_bus_within, round_form, write_kind}
 use Rattle.trace_text.proofs.BeatForms.{address_form, write_data_form, response_form, read_data_form, channel_form, channel_before_form, Avoids-address, Avoids-write_data, Avoids-response}
 
@@ -34,7 +34,7 @@ read_data bus within = channel_form (read_data_of bus) (read_data_text bus) (IsT
 
 -- ---- the line
 
-line_sound : (text : List ℕ) (r : PortRound) → line_of text ≡ Some r → Line r text
+pub line_sound : (text : List ℕ) (r : PortRound) → line_of text ≡ Some r → Line r text
 unfolding line_of line_text
 line_sound text r e =
     let round = step round_form text _ r e in
@@ -49,7 +49,7 @@ line_sound text r e =
     let end = (read_data kind.0.0.bus within).sound ar.0.1 last.0 last.1 in
     let made : PortRound = record { round = round.0.0; link = link.0.0; kind = kind.0.0; aw = aw.0.0; w = w.0.0; b = b.0.0; ar = ar.0.0; r = last.0 } in
     let whole : text ≡ line_text made =
-        round.2 ∙ ap (λ (t : List ℕ). decimal round.0.0 ++ 32 ∷ t) (link.2 ∙ ap (λ (t : List ℕ). decimal link.0.0 ++ 32 ∷ t) (kind.2 ∙ ap (λ (t : List ℕ). write_kind kind.0.0 t) (aw.2 ∙ ap (λ (t : List ℕ). channel_text address_text aw.0.0 ++ 32 ∷ t) (w.2 ∙ ap (λ (t : List ℕ). channel_text (write_data_text kind.0.0.bus) w.0.0 ++ 32 ∷ t) (b.2 ∙ ap (λ (t : List ℕ). channel_text response_text b.0.0 ++ 32 ∷ t) (ar.2 ∙ ap (λ (t : List ℕ). channel_text address_text ar.0.0 ++ 32 ∷ t) end.1))))))
+    round.2 ∙ ap (λ (t : List ℕ). decimal round.0.0 ++ 32 ∷ t) (link.2 ∙ ap (λ (t : List ℕ). decimal link.0.0 ++ 32 ∷ t) (kind.2 ∙ ap (λ (t : List ℕ). write_kind kind.0.0 t) (aw.2 ∙ ap (λ (t : List ℕ). channel_text address_text aw.0.0 ++ 32 ∷ t) (w.2 ∙ ap (λ (t : List ℕ). channel_text (write_data_text kind.0.0.bus) w.0.0 ++ 32 ∷ t) (b.2 ∙ ap (λ (t : List ℕ). channel_text response_text b.0.0 ++ 32 ∷ t) (ar.2 ∙ ap (λ (t : List ℕ). channel_text address_text ar.0.0 ++ 32 ∷ t) end.1))))))
     in
     subst (λ (x : PortRound). Line x text) {x = made} (some_is made r last.2)
     (record { ranges = record { first_round = round.1.0; last_round = round.1.1; link = link.1; kind = kind.1; aw = aw.1; w = w.1; b = b.1; ar = ar.1; r = end.0 }; text_is = whole })

@@ -67,12 +67,12 @@ unfoldable pub line_text : PortRound → List ℕ
 line_text r =
     by_spaces
     (decimal r.round
-     ∷ decimal r.link
-     ∷ kind_text r.kind.lite
-     ∷ decimal r.kind.bus
-     ∷ channel_text address_text r.aw
-     ∷ channel_text (write_data_text r.kind.bus) r.w
-     ∷ channel_text response_text r.b
-     ∷ channel_text address_text r.ar
-     ∷ channel_text (read_data_text r.kind.bus) r.r
-     ∷ [])
+    ∷ decimal r.link
+    ∷ kind_text r.kind.lite
+    ∷ decimal r.kind.bus
+    ∷ channel_text address_text r.aw
+    ∷ channel_text (write_data_text r.kind.bus) r.w
+    ∷ channel_text response_text r.b
+    ∷ channel_text address_text r.ar
+    ∷ channel_text (read_data_text r.kind.bus) r.r
+    ∷ [])

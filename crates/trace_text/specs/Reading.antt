@@ -1,7 +1,7 @@
 -- How a trace line is read: field by field, each up to the byte that ends it.
-use Rattle.std.specs.Prelude.{ℕ, ◌^◌, ◌+◌, ◌-◌, ◌*◌, ◌==◌, ◌++◌, nat_lt, nat_le, Bool, true, false, List, [], ◌∷◌, Option, Some, None, option_and_then, if◌then◌else◌, length, replicate, codes}
+use Rattle.std.specs.Prelude.{ℕ, ◌^◌, ◌-◌, ◌==◌, ◌++◌, Bool, true, false, List, [], ◌∷◌, Option, Some, None, if◌then◌else◌, length, replicate, codes}
 use Rattle.std.specs.Str.{bytes_eq}
-use Rattle.plain_text.specs.Exact.{◌>>=◌, read_before, read_both, read_where}
+use Rattle.plain_text.specs.Exact.{◌>>=◌, read_before}
 use Rattle.plain_text.specs.Numbers.{read_plain_decimal}
 use Rattle.plain_text.specs.Spelling.{read_pairs, read_plain_hexadecimal}
 use Rattle.axi_beats.specs.declared.beat.Tag.{Tag}

@@ -1,6 +1,8 @@
 //! A trace line is read, field by field.
 
-ghost use Rattle.std.specs.Prelude.{◌≡◌, ◌+◌, ◌<◌, ◌≤◌, ◌^◌, IfSome, IsTrue, option_map};
+ghost use Rattle.std.specs.Prelude.{◌≡◌, ◌+◌, ◌<◌, ◌≤◌, ◌^◌, IfOk, IfSome, IsErr, IsTrue, option_map};
+ghost use Rattle.std.specs.Option.{ok_or};
+ghost use Rattle.trace_text.specs.Line.{Line};
 ghost use Rattle.trace_text.specs.Ranges.{is_bus, is_port_kind};
 ghost use Rattle.trace_text.specs.Reading.{address_of, bit_before, bit_of, channel_of, decimal_before, hexadecimal_before, kind_before, lanes_of, line_of, lite_of, marked, read_data_of, response_of, round_before, tag_of, write_data_of};
 
@@ -11,9 +13,36 @@ use plain_text::numbers::read_plain_decimal;
 use plain_text::spelling::{read_pair, read_plain_hexadecimal};
 use plain_text::words::is_word;
 
+/// Why a line of a trace is refused.
+#[derive(Clone, Copy, Debug, PartialEq, Eq)]
+pub enum LineFault {
+    /// The text is the trace line of no round.
+    BadTraceLine,
+}
+
+/// The round whose trace line the text is. The text has no line feed.
+///
+/// A number that stands in another spelling, as with a zero at the front or a capital digit, is
+/// refused, and so is any other blank than the single spaces between the words.
+pub fn read_trace_line(line: &str) -> Result<PortRound, LineFault>
+    // What is read has this text as its trace line.
+    ensures found { IfOk result (λ r. Line r line.now) }
+    // A round's trace line is read as that round.
+    ensures only { (r : PortRound) → Line r line.now → result ≡ Ok r }
+    // What is refused is no round's trace line.
+    ensures refused { IsErr result → (r : PortRound) → Line r line.now → ⊥ }
+    // The answer as one definition.
+    ensures exact { result ≡ ok_or (line_of line.now) LineFault.BadTraceLine }
+{
+    match line_of(line.as_bytes()) {
+        Some(round) => Ok(round),
+        None => Err(LineFault::BadTraceLine),
+    }
+}
+
 // The round whose trace line the text is, if there is one.
 #[tactic(auto, unfolding(crate::specs::Reading::line_of, crate::specs::Reading::channel_before))]
-pub(crate) fn line_of(text: &[u8]) -> Option<PortRound>
+fn line_of(text: &[u8]) -> Option<PortRound>
     ensures { result ≡ line_of text.now }
 {
     let (round, rest) = round_before(text)?;
@@ -28,7 +57,16 @@ pub(crate) fn line_of(text: &[u8]) -> Option<PortRound>
     let (word, rest) = field_before(rest, b' ')?;
     let ar = address_channel(word)?;
     let r = read_data_channel(rest, kind.bus)?;
-    Some(PortRound { round, link: link as u32, kind, aw, w, b, ar, r })
+    Some(PortRound {
+        round,
+        link: link as u32,
+        kind,
+        aw,
+        w,
+        b,
+        ar,
+        r,
+    })
 }
 
 // A round from 1 on.
@@ -52,8 +90,15 @@ fn kind_before(text: &[u8]) -> Option<(PortKind, &[u8])>
     let (word, rest) = field_before(text, b' ')?;
     let lite = lite_of(word)?;
     let (bus, rest) = decimal_before(rest, b' ', 129)?;
-    let kind = PortKind { lite, bus: bus as u8 };
-    if is_port_kind(kind) { Some((kind, rest)) } else { None }
+    let kind = PortKind {
+        lite,
+        bus: bus as u8,
+    };
+    if is_port_kind(kind) {
+        Some((kind, rest))
+    } else {
+        None
+    }
 }
 
 #[tactic(auto, unfolding(crate::specs::Reading::lite_of))]
@@ -170,7 +215,12 @@ fn write_data_of(text: &[u8], bus: u8) -> Option<WBeat>
     let (strobe, rest) = hexadecimal_before(rest, b',', greatest_strobe(bus))?;
     let (last, rest) = bit_before(rest, b',')?;
     let tag = tag_of(rest)?;
-    Some(WBeat { lanes, strobe, last, tag })
+    Some(WBeat {
+        lanes,
+        strobe,
+        last,
+        tag,
+    })
 }
 
 #[tactic(auto, unfolding(crate::specs::Reading::response_of))]
@@ -180,7 +230,11 @@ fn response_of(text: &[u8]) -> Option<RawB>
     let (id, rest) = decimal_before(text, b',', 1 << 32)?;
     let (resp, rest) = decimal_before(rest, b',', 4)?;
     let tag = tag_of(rest)?;
-    Some(RawB { id: id as u32, resp: resp as u8, tag })
+    Some(RawB {
+        id: id as u32,
+        resp: resp as u8,
+        tag,
+    })
 }
 
 #[tactic(auto, unfolding(crate::specs::Reading::read_data_of, crate::specs::Reading::lanes_before))]
@@ -194,7 +248,13 @@ fn read_data_of(text: &[u8], bus: u8) -> Option<RawR>
     let (resp, rest) = decimal_before(rest, b',', 4)?;
     let (last, rest) = bit_before(rest, b',')?;
     let tag = tag_of(rest)?;
-    Some(RawR { id: id as u32, lanes, resp: resp as u8, last, tag })
+    Some(RawR {
+        id: id as u32,
+        lanes,
+        resp: resp as u8,
+        last,
+        tag,
+    })
 }
 
 #[tactic(auto, unfolding(crate::specs::Reading::tag_of))]
@@ -204,7 +264,11 @@ fn tag_of(text: &[u8]) -> Option<Tag>
     let (txn, rest) = decimal_before(text, b':', 1 << 32)?;
     let (low, rest) = decimal_before(rest, b':', 128)?;
     let high = read_plain_decimal(rest, 128)?;
-    Some(Tag { txn: txn as u32, low: low as u8, high: high as u8 })
+    Some(Tag {
+        txn: txn as u32,
+        low: low as u8,
+        high: high as u8,
+    })
 }
 
 // The strobe that has a bit for each lane of the bus.

@@ -1,6 +1,8 @@
 //! The text of a trace line is written.
 
-ghost use Rattle.std.specs.Prelude.{◌≡◌, ◌+◌, ◌≤◌, ◌++◌, ◌∷◌, [], codes, length};
+ghost use Rattle.std.specs.Prelude.{◌≡◌, ℕ, ◌+◌, ◌≤◌, List, ◌++◌, ◌∷◌, [], codes, length};
+ghost use Rattle.trace_text.specs.Line.{Line};
+ghost use Rattle.trace_text.specs.Ranges.{IsTraceRound};
 ghost use Rattle.std.specs.Fmt.{decimal};
 ghost use Rattle.plain_text.specs.Printing.{hexadecimal};
 ghost use Rattle.trace_text.specs.Form.{address_text, bit_text, channel_text, kind_text, lanes_text, line_text, mark, read_data_text, response_text, tag_text, write_data_text};
@@ -9,10 +11,12 @@ use axi_beats::{Lanes, Tag, WBeat};
 use axi_history::{PortKind, PortRound, RawAddr, RawB, RawR, Seen};
 use plain_text::line_buffer::LineBuffer;
 
-/// Replaces the bytes of the buffer by the trace line of the round and a line feed.
+/// Replaces the bytes of the buffer by the trace line of the round and a line feed. Takes no memory.
 pub fn render_round(line: &mut LineBuffer, r: &PortRound)
     requires { r.now.kind.bus ≤ 128 }
-    ensures { line.new ≡ line_text r.now ++ codes "\n" }
+    ensures text { line.new ≡ line_text r.now ++ codes "\n" }
+    // Within the ranges this is the trace line of the round.
+    ensures line { IsTraceRound r.now → (text : List ℕ) × Line r.now text × (line.new ≡ text ++ codes "\n") }
 {
     line.clear();
     push_place(line, r.round, r.link);

@@ -1,4 +1,4 @@
-use Rattle.std.proofs.Common.{◌≡◌, ℕ, ◌≤◌, ◌<◌, ◌+◌, ◌*◌, None, length, rules, arith, sym, subst}
+use Rattle.std.proofs.Common.{◌≡◌, ℕ, ◌<◌, ◌+◌, ◌*◌, None, length, rules, arith, sym, subst}
 use Rattle.trace_text.specs.Reading.{lanes_of}
 use Rattle.trace_text.proofs.LanesLaws.{IsReading, IsReading-none, IsReading-more, IsReading-fails, IsReading-ends, lanes_of-other_length, bus_within}
 use Rattle.trace_text.proofs.reading.lanes_of.Goals as goal

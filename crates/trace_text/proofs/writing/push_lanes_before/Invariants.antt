@@ -1,5 +1,5 @@
 -- The lanes so far are written.
-use Rattle.std.proofs.Common.{◌≡◌, ◌≤◌, ◌+◌, ◌*◌, ◌++◌, length, take}
+use Rattle.std.proofs.Common.{◌≡◌, ◌+◌, ◌*◌, ◌++◌, length, take}
 use Rattle.plain_text.specs.Printing.{pairs}
 use Rattle.trace_text.proofs.writing.push_lanes_before.Given as goal
 
