@@ -2,4 +2,6 @@ pub mod TransferLemmas
 pub mod TrafficLaws
 pub mod ScriptLaws
 pub mod DocumentLaws
+pub mod TextLaws
 mod KnownInputs
+mod KnownTexts

@@ -4,16 +4,20 @@
 //! of a phase pass, each with what it promises and with the implementations that stand in memory and over the
 //! runtime's streams. `status` has the answers of the top call.
 //!
-//! `document` reads the input, and its lines by `traffic`, to the manager's script. `texts` writes what the program
-//! says.
+//! `document` reads the input, and its lines by `traffic`, to the manager's script. `texts` and `answer_text` write
+//! what the program says.
 #![tactic(auto)]
 
+mod answer_text;
 mod document;
 mod outside;
 mod status;
+#[cfg(test)]
+mod tests;
 mod texts;
 mod traffic;
 
+pub use answer_text::render_answer;
 pub use document::{DocumentFault, INPUT_LIMIT, read_document};
 pub use outside::gate::{Gate, OpenGate};
 pub use outside::memory_sink::MemorySink;

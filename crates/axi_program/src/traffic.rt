@@ -168,7 +168,7 @@ pub fn read_line(line: &[u8]) -> Option<TrafficLine>
     if is_passed(line) {
         Some(TrafficLine::Passed)
     } else {
-        read_order(line)
+        parse_order(line)
     }
 }
 
@@ -184,17 +184,17 @@ fn is_passed(line: &[u8]) -> bool
 
 // What a line says that isn't passed over.
 #[tactic(auto, unfolding(crate::specs::Traffic::order_of))]
-fn read_order(line: &[u8]) -> Option<TrafficLine>
+fn parse_order(line: &[u8]) -> Option<TrafficLine>
     ensures said { result ≡ order_of (words line.now) }
     ensures range { IfSome result IsInRange }
 {
     let (verb, line) = next_word(line)?;
     if is_word(verb, b"write") {
-        read_write(line)
+        parse_write(line)
     } else if is_word(verb, b"read") {
-        read_read(line)
+        parse_read(line)
     } else if is_word(verb, b"wait") {
-        read_wait(line)
+        parse_wait(line)
     } else {
         None
     }
@@ -202,31 +202,31 @@ fn read_order(line: &[u8]) -> Option<TrafficLine>
 
 // The words after `write`.
 #[tactic(auto, unfolding(crate::specs::Traffic::write_of))]
-fn read_write(line: &[u8]) -> Option<TrafficLine>
+fn parse_write(line: &[u8]) -> Option<TrafficLine>
     ensures said { result ≡ write_of (words line.now) }
     ensures range { IfSome result IsInRange }
 {
-    let (access, line) = read_access(line)?;
+    let (access, line) = parse_access(line)?;
     let (word, line) = next_word(line)?;
-    let bytes = read_data(word)?;
+    let bytes = parse_data(word)?;
     at_end(TrafficLine::Write(access, bytes), line)
 }
 
 // The words after `read`.
 #[tactic(auto, unfolding(crate::specs::Traffic::read_of))]
-fn read_read(line: &[u8]) -> Option<TrafficLine>
+fn parse_read(line: &[u8]) -> Option<TrafficLine>
     ensures said { result ≡ read_of (words line.now) }
     ensures range { IfSome result IsInRange }
 {
-    let (access, line) = read_access(line)?;
+    let (access, line) = parse_access(line)?;
     let (word, line) = next_word(line)?;
-    let _beats = read_one_beat(word)?;
+    let _beats = parse_one_beat(word)?;
     at_end(TrafficLine::Read(access), line)
 }
 
 // The words after `wait`.
 #[tactic(auto, unfolding(crate::specs::Traffic::wait_of))]
-fn read_wait(line: &[u8]) -> Option<TrafficLine>
+fn parse_wait(line: &[u8]) -> Option<TrafficLine>
     ensures said { result ≡ wait_of (words line.now) }
     ensures range { IfSome result IsInRange }
 {
@@ -243,7 +243,7 @@ fn at_end(said: TrafficLine, line: &[u8]) -> Option<TrafficLine>
 
 // The access of a transaction, from the manager's name to the kind of burst, and the words behind it.
 #[tactic(auto, unfolding(crate::specs::Traffic::access_of))]
-fn read_access(line: &[u8]) -> Option<(Access, &[u8])>
+fn parse_access(line: &[u8]) -> Option<(Access, &[u8])>
     ensures said { option_map (λ found. (found.0, words found.1.now)) result ≡ access_of (words line.now) }
     ensures range { IfSome result (λ found. IsAccess found.0) }
 {
@@ -251,7 +251,7 @@ fn read_access(line: &[u8]) -> Option<(Access, &[u8])>
     let (word, line) = next_word(line)?;
     let id = read_decimal(word, 16)?;
     let (word, line) = next_word(line)?;
-    let addr = read_address(word)?;
+    let addr = parse_address(word)?;
     let line = after_word(line, b"4")?;
     let line = after_word(line, b"incr")?;
     let access = Access {
@@ -276,7 +276,7 @@ fn after_word<'a>(line: &'a [u8], text: &[u8]) -> Option<&'a [u8]>
 
 // An address below 8192 that is a multiple of 4.
 #[tactic(auto, unfolding(crate::specs::Traffic::address_of))]
-fn read_address(word: &[u8]) -> Option<u64>
+fn parse_address(word: &[u8]) -> Option<u64>
     ensures said { result ≡ address_of word.now }
     ensures below { IfSome result (λ addr. addr < 8192) }
     ensures aligned { IfSome result (λ addr. addr % 4 ≡ 0) }
@@ -286,12 +286,12 @@ fn read_address(word: &[u8]) -> Option<u64>
 }
 
 // A data word: four pairs of hexadecimal digits and nothing else.
-fn read_data(word: &[u8]) -> Option<[u8; 4]>
+fn parse_data(word: &[u8]) -> Option<[u8; 4]>
     ensures said { result ≡ data_of word.now }
     ensures four { IfSome result (λ bytes. length bytes ≡ 4) }
 {
     if word.len() == 8 {
-        read_four_bytes(word)
+        parse_four_bytes(word)
     } else {
         None
     }
@@ -299,7 +299,7 @@ fn read_data(word: &[u8]) -> Option<[u8; 4]>
 
 // The bytes that four pairs of hexadecimal digits spell.
 #[tactic(auto, unfolding(crate::specs::Traffic::four_bytes))]
-fn read_four_bytes(word: &[u8]) -> Option<[u8; 4]>
+fn parse_four_bytes(word: &[u8]) -> Option<[u8; 4]>
     requires { length word.now ≡ 8 }
     ensures said { result ≡ four_bytes word.now }
     ensures four { IfSome result (λ bytes. length bytes ≡ 4) }
@@ -313,7 +313,7 @@ fn read_four_bytes(word: &[u8]) -> Option<[u8; 4]>
 
 // A number of beats that is one.
 #[tactic(auto, unfolding(crate::specs::Traffic::one_beat))]
-fn read_one_beat(word: &[u8]) -> Option<u64>
+fn parse_one_beat(word: &[u8]) -> Option<u64>
     ensures { result ≡ one_beat word.now }
 {
     let count = read_decimal(word, 1 << 32)?;

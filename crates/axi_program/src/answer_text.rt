@@ -1,0 +1,120 @@
+//! The line of a transaction and its answer.
+//!
+//! The call replaces the bytes of a line buffer by one line with its line feed, and takes no memory.
+
+ghost use Rattle.std.specs.Prelude.{◌≡◌, ◌≤◌, ◌+◌, ◌*◌, ◌++◌, drop, length, take};
+ghost use Rattle.axi_program.specs.Text.{answer_line, beat_text, direction, outcome, read_outcome, response_name, write_outcome};
+
+use axi_beats::Resp;
+use manager_end::{Answer, Txn};
+use plain_text::line_buffer::LineBuffer;
+
+/// Writes the line of a transaction: its number, its direction, the name of its manager, which has at most 32
+/// bytes, the rounds of its issue and of its answer, and what came for it.
+///
+/// The transaction has beats of at most 128 bytes, and its answer at most 256 beats of 4096 bytes in all, as for any
+/// burst.
+#[tactic(auto, unfolding(crate::specs::Text::answer_line))]
+pub fn render_answer(line: &mut LineBuffer, manager: &str, txn: &Txn, answer: &Answer)
+    requires name { length manager.now ≤ 32 }
+    requires width { txn.now.request.size ≤ 7 }
+    requires beats { length answer.now.resps ≤ 256 }
+    requires bytes { length answer.now.bytes ≤ 4096 }
+    ensures { line.new ≡ answer_line manager.now txn.now answer.now }
+{
+    line.clear();
+    line.push_decimal(u64::from(txn.number));
+    line.push(direction(txn.write).as_bytes());
+    line.push(manager.as_bytes());
+    line.push(b" ");
+    line.push_decimal(answer.issued());
+    line.push(b" ");
+    line.push_decimal(answer.answered());
+    push_outcome(line, txn, answer);
+    line.push(b"\n");
+}
+
+// The word for a direction, between blanks.
+fn direction(write: bool) -> &'static str
+    ensures name { result.now ≡ direction write }
+    ensures short { length result.now ≤ 7 }
+{
+    if write { " write " } else { " read " }
+}
+
+// Writes what came for a transaction.
+fn push_outcome(line: &mut LineBuffer, txn: &Txn, answer: &Answer)
+    requires place { length line.old ≤ 200 }
+    requires width { txn.now.request.size ≤ 7 }
+    requires beats { length answer.now.resps ≤ 256 }
+    requires bytes { length answer.now.bytes ≤ 4096 }
+    ensures text { line.new ≡ line.old ++ outcome txn.now answer.now }
+    ensures room { length line.new ≤ length line.old + 8 * 256 + 2 * 4096 }
+{
+    if txn.write {
+        push_response(line, answer);
+    } else {
+        push_beats(line, 1 << txn.request.size, answer);
+    }
+}
+
+// Writes the one response to a write.
+fn push_response(line: &mut LineBuffer, answer: &Answer)
+    requires { length line.old ≤ 200 }
+    ensures text { line.new ≡ line.old ++ write_outcome answer.now.resps }
+    ensures room { length line.new ≤ length line.old + 7 }
+{
+    if answer.beats() > 0 {
+        line.push(b" ");
+        line.push(response_name(answer.resp(0)).as_bytes());
+    }
+}
+
+// Writes the beats of a read, each with `width` bytes.
+fn push_beats(line: &mut LineBuffer, width: usize, answer: &Answer)
+    requires place { length line.old ≤ 200 }
+    requires beats { length answer.now.resps ≤ 256 }
+    requires bytes { length answer.now.bytes ≤ 4096 }
+    ensures text { line.new ≡ line.old ++ read_outcome width answer.now.resps answer.now.bytes }
+    ensures room { length line.new ≤ length line.old + 8 * 256 + 2 * 4096 }
+{
+    let mut bytes = answer.bytes();
+    for beat in 0..answer.beats() {
+        let (front, rest) = split_front(bytes, width);
+        push_beat(line, answer.resp(beat), front);
+        bytes = rest;
+    }
+}
+
+// Writes one beat of a read.
+fn push_beat(line: &mut LineBuffer, resp: Resp, bytes: &[u8])
+    requires { length line.old + 8 + 2 * length bytes.now ≤ LineBuffer.ROOM }
+    ensures text { line.new ≡ line.old ++ beat_text resp bytes.now }
+    ensures room { length line.new ≤ length line.old + 8 + 2 * length bytes.now }
+{
+    line.push(b" ");
+    line.push(response_name(resp).as_bytes());
+    line.push(b":");
+    line.push_pairs(bytes);
+}
+
+// How a response is written.
+fn response_name(resp: Resp) -> &'static str
+    ensures name { result.now ≡ response_name resp }
+    ensures short { length result.now ≤ 6 }
+{
+    match resp {
+        Resp::Okay => "okay",
+        Resp::SlvErr => "slverr",
+        Resp::DecErr => "decerr",
+    }
+}
+
+// The first bytes, as many of `count` as there are, and those behind them.
+fn split_front(bytes: &[u8], count: usize) -> (&[u8], &[u8])
+    ensures front { result.0.now ≡ take count bytes.now }
+    ensures rest { result.1.now ≡ drop count bytes.now }
+{
+    let end = count.min(bytes.len());
+    (&bytes[..end], &bytes[end..])
+}
