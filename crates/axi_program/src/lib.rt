@@ -12,8 +12,6 @@ mod answer_text;
 mod document;
 mod outside;
 mod status;
-#[cfg(test)]
-mod tests;
 mod texts;
 mod traffic;
 
