@@ -1,10 +1,10 @@
 -- Fields that are read as they were written, and reading that is put together of exact parts.
-use Rattle.std.proofs.Common.{◌≡◌, ℕ, suc, ◌+◌, ◌<◌, ◌≤◌, Bool, true, false, cond, eqb, not, List, [], ◌∷◌, ◌++◌, Option, Some, None, length, take, drop, refl, ap, sym, subst, ◌∙◌, arith}
+use Rattle.std.proofs.Common.{◌≡◌, ℕ, suc, ◌+◌, ◌<◌, ◌≤◌, true, false, cond, eqb, not, List, [], ◌∷◌, ◌++◌, Option, Some, None, length, take, drop, refl, ap, subst, ◌∙◌, arith}
 use Rattle.std.specs.List.{position, position_or_len}
 use Rattle.std.proofs.lemmas.Bool.{eqb-true, eq-eqb}
 use Rattle.plain_text.specs.Separator.{put_before}
 use Rattle.plain_text.specs.Fields.{field_before}
-use Rattle.plain_text.specs.Exact.{◌>>=◌, IsExact, IsExactBefore, read_before, write_before, read_both, write_both, read_where}
+use Rattle.plain_text.specs.Exact.{◌>>=◌, IsExact, IsExactBefore, read_before, write_before}
 use Rattle.plain_text.proofs.Parts.{place_found, place_missing}
 
 -- none of the bytes is this one
@@ -89,41 +89,3 @@ module _ {A : Type 0} (read : List ℕ → Option A) (write : A → List ℕ) (F
         subst (λ (q : A × List ℕ). Fits q.0 × (text ≡ write q.0 ++ end ∷ q.1)) (some_is (v.0, p.0.1) out v.2) (s.0, whole ∙ ap (λ (t : List ℕ). t ++ end ∷ p.0.1) s.1);
     complete = λ value rest fits. rw (field_before-append end (write value) rest (avoids value fits), exact.complete value fits) refl;
   }
-
-  -- a value that passes a test
-  pub where_is_exact : (test : A → Bool) → IsExact (read_where test read) write (λ value. Fits value × (test value ≡ true))
-  where_is_exact test = record {
-    sound = λ text value e.
-        let v = bind_some (read text) (λ value. cond (test value) (Some value) None) value e in
-        let c = passed (test v.0) v.0 value v.2 in
-        let s = exact.sound text v.0 v.1 in
-        subst (λ (x : A). (Fits x × (test x ≡ true)) × (text ≡ write x)) c.1 ((s.0, c.0), s.1);
-    complete = λ value fits. rw (exact.complete value fits.0, fits.1) refl;
-  }
-    where
-      passed : (b : Bool) (x y : A) → cond b (Some x) None ≡ Some y → (b ≡ true) × (x ≡ y)
-      passed true x y e = (refl, cc)
-      passed false x y e = absurd cc
-
-  -- the same of values that are shown in another form
-  pub shown_is_exact : {B : Type 0} (to : A → B) (from : B → A) → ((value : A) → from (to value) ≡ value) → ((value : B) → to (from value) ≡ value) → IsExact (λ text. read text >>= λ value. Some (to value)) (λ value. write (from value)) (λ value. Fits (from value))
-  shown_is_exact {B} to from back forth = record {
-    sound = λ text value e.
-        let v = bind_some (read text) (λ value. Some (to value)) value e in
-        let s = exact.sound text v.0 v.1 in
-        let is : from value ≡ v.0 = sym (ap from (some_is (to v.0) value v.2)) ∙ back v.0 in
-        subst (λ (x : A). Fits x × (text ≡ write x)) (sym is) s;
-    complete = λ value fits. rw (exact.complete (from value) fits, forth value) refl;
-  }
-
--- a value and a second one
-pub both_is_exact : {A B : Type 0} (first : List ℕ → Option (A × List ℕ)) (write_first : A → List ℕ → List ℕ) (FitsFirst : A → Type 0) → IsExactBefore first write_first FitsFirst → (second : A → List ℕ → Option B) (write_second : A → B → List ℕ) (FitsSecond : A → B → Type 0) → ((a : A) → FitsFirst a → IsExact (second a) (write_second a) (FitsSecond a)) → IsExact (read_both first second) (write_both write_first write_second) (λ values. FitsFirst values.0 × FitsSecond values.0 values.1)
-both_is_exact {A} {B} first write_first FitsFirst exact_first second write_second FitsSecond exact_second = record {
-  sound = λ text out e.
-      let a = bind_some (first text) (λ a. second a.0 a.1 >>= λ b. Some (a.0, b)) out e in
-      let b = bind_some (second a.0.0 a.0.1) (λ b. Some (a.0.0, b)) out a.2 in
-      let s = exact_first.sound text a.0 a.1 in
-      let t = (exact_second a.0.0 s.0).sound a.0.1 b.0 b.1 in
-      subst (λ (q : A × B). (FitsFirst q.0 × FitsSecond q.0 q.1) × (text ≡ write_first q.0 (write_second q.0 q.1))) (some_is (a.0.0, b.0) out b.2) ((s.0, t.0), s.1 ∙ ap (λ (t : List ℕ). write_first a.0.0 t) t.1);
-  complete = λ values fits. rw (exact_first.complete values.0 (write_second values.0 values.1) fits.0, (exact_second values.0 fits.0).complete values.1 fits.1) refl;
-}

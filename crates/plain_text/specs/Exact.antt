@@ -1,5 +1,5 @@
--- Reading and writing that undo each other, and how such pairs are put together.
-use Rattle.std.specs.Prelude.{◌≡◌, ℕ, Bool, List, ◌∷◌, ◌++◌, Option, None, Some, option_and_then, if◌then◌else◌}
+-- Reading and writing that undo each other.
+use Rattle.std.specs.Prelude.{◌≡◌, ℕ, List, ◌∷◌, ◌++◌, Option, Some, option_and_then}
 use Rattle.plain_text.specs.Fields.{field_before}
 
 infixl 10 ◌>>=◌
@@ -27,19 +27,3 @@ read_before end read text = do
 
 abbrev pub write_before : {A : Type 0} → ℕ → (A → List ℕ) → A → List ℕ → List ℕ
 write_before end write value rest = write value ++ end ∷ rest
-
--- a value, and a second one that may be read by the first
-abbrev pub read_both : {A B : Type 0} → (List ℕ → Option (A × List ℕ)) → (A → List ℕ → Option B) → List ℕ → Option (A × B)
-read_both first second text = do
-  a ← first text
-  b ← second a.0 a.1
-  Some (a.0, b)
-
-abbrev pub write_both : {A B : Type 0} → (A → List ℕ → List ℕ) → (A → B → List ℕ) → A × B → List ℕ
-write_both first second values = first values.0 (second values.0 values.1)
-
--- a value that passes a test
-abbrev pub read_where : {A : Type 0} → (A → Bool) → (List ℕ → Option A) → List ℕ → Option A
-read_where test read text = do
-  value ← read text
-  if test value then Some value else None
