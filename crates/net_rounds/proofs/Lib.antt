@@ -2,6 +2,7 @@ pub mod BoundLemmas
 pub mod Choosing
 pub mod NetLemmas
 pub mod NetworkLemmas
+pub mod NotesLemmas
 pub mod Numbers
 pub mod Pair
 pub mod PairLemmas

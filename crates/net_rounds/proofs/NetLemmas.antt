@@ -21,6 +21,7 @@ use Rattle.net_nodes.specs.declared.node.Node.{Node}
 use Rattle.net_nodes.specs.declared.node.Node.TheVariants.{Manager, Memory}
 use Rattle.net_rounds.proofs.BoundLemmas.{bound-words}
 use Rattle.net_rounds.proofs.NetworkLemmas.{after_rounds-built_in, built_in_pair, network_of, round-network_of}
+use Rattle.net_rounds.proofs.NotesLemmas.{few-begins, notes-are}
 use Rattle.net_rounds.proofs.Pair.{Pair, decided, moved, pair_after}
 use Rattle.net_rounds.proofs.PairLemmas.{PairHolds, can-manager, can-memory, pair-holds}
 use Rattle.net_rounds.proofs.TouchedLemmas.{touched-ascending, touched-kept}
@@ -28,6 +29,7 @@ use Rattle.net_rounds.specs.BuiltIn.{IsTraffic, bound, built_in, first_manager, 
 use Rattle.net_rounds.specs.NetView.{IsNet, NetView}
 use Rattle.net_rounds.specs.Network.{CanLink, Network, after_commit, after_decide, after_rounds, link_moved}
 use Rattle.net_rounds.specs.declared.ends.Ends.{Ends}
+use Rattle.net_rounds.specs.Notes.{AreNotes}
 use Rattle.net_rounds.specs.Numbered.{AllNumbered, numbered}
 
 ram-config : IsMemoryConfig ram
@@ -44,6 +46,7 @@ built_in-holds script traffic =
       upper = refl;
       lines = touched-kept (new_manager script 0 4) manager refl;
       link = record { aw = All-nil (IsWholeWord 4); aw_lines = All-nil (AreLinesAmong ram (touched_lines script)); ar = All-nil (IsWholeWord 4); w = All-nil (λ (w : WBeat). w.strobe < 2 ^ 4) };
+      few = few-begins script 0 4;
     }
 
 pub rounds-hold : (script : List ScriptItem) → IsTraffic script → (n : ℕ) → PairHolds (pair_after n (built_in_pair script))
@@ -74,6 +77,7 @@ pub record HasManager (nodes : List Node) : Type 0 where
   pub manager : Acted ManagerState
   pub memory : Acted MemoryState
   pub nodes_are : nodes ≡ Manager manager ∷ Memory memory ∷ []
+  pub notes : AreNotes manager.state
 
 -- a network that runs is that of a pair for which all this holds
 module _ (v : NetView) (is : IsNet v) where
@@ -132,7 +136,12 @@ module _ (v : NetView) (is : IsNet v) where
   -- its nodes are a manager and a memory
   pub net-nodes : HasManager v.network.nodes
   unfolding stood
-  net-nodes = record { manager = stood.manager; memory = stood.memory; nodes_are = ap (λ net. net.nodes) net-is_pair }
+  net-nodes = record {
+    manager = stood.manager;
+    memory = stood.memory;
+    nodes_are = ap (λ net. net.nodes) net-is_pair;
+    notes = notes-are stood.manager.state stood-holds.manager stood-holds.few;
+  }
 
 -- the network after a round, from what the two phases leave
 pub network-after :
@@ -193,3 +202,12 @@ net-opens script traffic short =
     let all = bound-words script traffic.words in
     let little : bound script < 2 ^ 62 = omega arith in
     record { stands = refl; traffic = traffic; counted = lit< tt; bounded = refl; little = little }
+
+-- what a manager's node holds
+manager_in : Acted ManagerState → Node → Acted ManagerState
+manager_in other (Manager m) = m
+manager_in other (Memory r) = other
+
+pub inner_manager : (a b : Acted ManagerState) → Manager a ≡ Manager b → a ≡ b
+unfolding manager_in
+inner_manager a b same = ap (manager_in a) same

@@ -21,6 +21,7 @@ use Rattle.memory_end.specs.MemoryState.{IsMemory, AreLinesAmong}
 use Rattle.memory_end.specs.MemoryTable.{CanMemory, memory_out}
 use Rattle.memory_end.specs.declared.config.MemoryConfig.{MemoryConfig}
 use Rattle.net_rounds.proofs.StoreStays.{lines-stay}
+use Rattle.net_rounds.proofs.NotesLemmas.{AreFew, few-keeps}
 use Rattle.net_rounds.proofs.Choosing.{All-enumerated, All-slice_get, IfSome-map, passing-has}
 use Rattle.net_rounds.proofs.Pair.{Pair, decided, moved, pair_after}
 
@@ -128,6 +129,7 @@ pub record PairHolds (p : Pair) : Type 0 where
   pub upper : p.memory.state.upper ≡ 0
   pub lines : KeepsLines p.memory.state.config p.memory.state.store.lines p.manager.state.script
   pub link : LinkHolds p.memory.state.config p.memory.state.store.lines p.link
+  pub few : All AreFew p.manager.state.answers
 
 -- both nodes may decide
 pub can-manager : (p : Pair) (n : ℕ) → PairHolds p → CanManager (suc n) (p.link ∷ []) p.manager.state
@@ -190,6 +192,7 @@ pair-keeps p n holds =
       upper = holds.upper;
       lines = subst (λ (lines : List ℕ). KeepsLines p.memory.state.config lines p.manager.state.script) same holds.lines;
       link = subst (λ (lines : List ℕ). LinkHolds p.memory.state.config lines (moved (decided (suc n) p)).link) same (link-keeps p n holds);
+      few = few-keeps (suc n) (p.link ∷ []) p.manager.state holds.manager holds.few;
     }
 
 pub pair-holds : (p : Pair) → PairHolds p → (n : ℕ) → PairHolds (pair_after n p)

@@ -2,9 +2,11 @@
 //! of a run.
 
 ghost use Rattle.std.specs.Prelude.{◌≡◌, ◌<◌, ◌+◌, ◌-◌, ◌^◌, [], ◌∷◌, IfOk, Some};
+ghost use Rattle.manager_end.specs.ManagerState.{is_done};
 ghost use Rattle.net_rounds.specs.BuiltIn.{IsTraffic, bound, built_in, first_manager};
 ghost use Rattle.net_rounds.specs.Network.{after_commit, after_decide, after_rounds, is_finished};
 ghost use Rattle.net_rounds.specs.NetView.{NetView};
+ghost use Rattle.net_rounds.specs.Notes.{AreNotes};
 ghost use Rattle.net_rounds.specs.Run.{run_length};
 
 use crate::ends::Ends;
@@ -91,7 +93,9 @@ impl Net {
 
     /// The manager, with its script and the answers that it noted.
     pub fn manager(&self) -> &Manager
-        ensures { first_manager self.now.network.nodes ≡ Some result.now.state }
+        ensures manager { first_manager self.now.network.nodes ≡ Some result.now.state }
+        ensures notes { AreNotes result.now.state }
+        ensures done { is_finished self.now.network ≡ is_done result.now.state }
     {
         match &self.nodes[0] {
             Node::Manager(manager) => manager,
