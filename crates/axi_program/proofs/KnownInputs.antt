@@ -1,7 +1,6 @@
 -- Known values of what an input says, worked by hand.
-use Rattle.std.proofs.Common.{◌≡◌, ℕ, [], ◌∷◌, ◌++◌, Some, None, true, false, refl}
+use Rattle.std.proofs.Common.{◌≡◌, ℕ, [], ◌∷◌, Some, None, true, false, refl}
 use Rattle.std.specs.Prelude.{codes, map}
-use Rattle.manager_end.specs.Script.{ScriptItem}
 use Rattle.plain_text.specs.Numbers.{number_in, read_byte_pair, read_decimal, read_hexadecimal}
 use Rattle.plain_text.specs.Words.{words}
 use Rattle.axi_program.specs.Document.{refusal_of, script_of_input}

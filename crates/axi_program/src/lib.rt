@@ -12,6 +12,8 @@ mod answer_text;
 mod document;
 mod outside;
 mod status;
+#[cfg(test)]
+mod tests;
 mod texts;
 mod traffic;
 

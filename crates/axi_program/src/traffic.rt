@@ -57,7 +57,7 @@ pub fn read_traffic(alloc: Global, text: &[u8]) -> Result<Script, TrafficFault>
 {
     let mut script = Script::new(alloc);
     let mut after = 0;
-    let mut number = 1;
+    let mut number: u32 = 1;
     let mut rest = text;
     while !rest.is_empty() {
         let (line, more) = next_line(rest);

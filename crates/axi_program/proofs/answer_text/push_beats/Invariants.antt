@@ -1,6 +1,4 @@
 -- What is written, and what the beats that are left add to it.
-use Rattle.std.proofs.Common.{◌≡◌, ℕ, ◌+◌, ◌*◌, ◌≤◌, ◌++◌, length, drop}
-use Rattle.axi_program.specs.Text.{read_outcome}
 use Rattle.axi_program.proofs.TextLaws.{IsWrittenTo}
 use Rattle.axi_program.proofs.answer_text.push_beats.Given as goal
 

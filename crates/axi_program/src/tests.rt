@@ -1,0 +1,22 @@
+//! Known inputs, and what is written of them.
+
+use super::*;
+use plain_text::line_buffer::LineBuffer;
+use std::test::Fail;
+
+#[test]
+fn inputs_are_read_or_refused(rt: HostRuntime) -> Result<(), Fail> {
+    let alloc = rt.alloc();
+    let mut line = LineBuffer::new(alloc)?;
+    match read_document(alloc, b"%%\nwait m\nread m 02 0x1f 4 incr 1\n") {
+        Err(DocumentFault::Refused(refusal)) => render_refusal(&mut line, &refusal),
+        _ => render_rounds(&mut line, 0),
+    }
+    assert_eq!(rt; line.bytes(), b"refused 23 NotBuilt 2\n".as_slice());
+    match read_document(alloc, b"%%\n\twrite m 1 0x10 4 incr 0aF03344\n#\nwait m\n") {
+        Ok(script) => render_rounds(&mut line, u64::from(script.len())),
+        Err(_) => {}
+    }
+    assert_eq!(rt; line.bytes(), b"rounds 1\n".as_slice());
+    Ok(())
+}
