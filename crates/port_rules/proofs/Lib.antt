@@ -1,0 +1,11 @@
+pub mod AddressLemmas
+pub mod BeatLemmas
+pub mod HeldLemmas
+pub mod PartingLemmas
+pub mod PayloadLemmas
+pub mod PlaceLemmas
+pub mod ReadLemmas
+pub mod RoundLemmas
+pub mod StandsLemmas
+pub mod StrobeLemmas
+pub mod WriteLemmas

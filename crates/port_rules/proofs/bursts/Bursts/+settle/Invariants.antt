@@ -1,0 +1,5 @@
+use Rattle.std.specs.VecDeque.{deque_len}
+use Rattle.port_rules.proofs.bursts.Bursts.+settle.Given as goal
+
+abbrev pub decreases-settle : goal.decreases-settle
+decreases-settle l = deque_len l.self.now.beats

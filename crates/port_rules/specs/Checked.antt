@@ -1,0 +1,75 @@
+-- What a checker keeps, how it judges a round by it, and what it keeps after a round that breaks no rule.
+use Rattle.std.specs.Prelude.{ℕ, ◌++◌, ◌<◌, ◌^◌, List, Option}
+use Rattle.std.specs.Option.{option_map, ForSome}
+use Rattle.axi_beats.specs.declared.beat.WBeat.{WBeat}
+use Rattle.axi_history.specs.declared.port.PortRound.{PortRound}
+use Rattle.axi_history.specs.declared.port.RawAddr.{RawAddr}
+use Rattle.axi_history.specs.PortHistory.{offer_of, transfer_of, wait_of}
+use Rattle.axi_history.specs.PortRules.{same_address, same_data, same_response, same_read, handshake_rules, rules_of_offer, address_rules, least_broken, or_else}
+use Rattle.port_rules.specs.declared.outstanding.Waits.{Waits}
+use Rattle.port_rules.specs.declared.reads.Read.{Read}
+use Rattle.port_rules.specs.Kept.{response_fault}
+use Rattle.port_rules.specs.Reads.{read_fault}
+use Rattle.port_rules.specs.Offers.{new_offer, fault_of_offer}
+use Rattle.port_rules.specs.Transfers.{Open, add_aw, add_last, add_b, add_ar, add_r}
+use Rattle.port_rules.specs.Judged.{data_fault, addresses_then, passed_then, beats_then, addresses_done, passed_done, beats_done}
+
+pub record Kept : Type 0 where
+  pub waits : Waits
+  pub addresses : List RawAddr
+  pub passed : ℕ
+  pub beats : List WBeat
+  pub writes : Open
+  pub reads : List Read
+
+-- a rule that is broken on a channel
+abbrev pub on_fault : ℕ → Option ℕ → Option (ℕ × ℕ)
+on_fault channel rule = option_map (λ r. (channel, r)) rule
+
+abbrev pub new_aw : Kept → PortRound → Option RawAddr
+new_aw k r = new_offer k.waits.aw (offer_of r.aw)
+
+abbrev pub new_w : Kept → PortRound → Option WBeat
+new_w k r = new_offer k.waits.w (offer_of r.w)
+
+abbrev pub aw_fault : ℕ → Kept → PortRound → Option ℕ
+aw_fault bus k r = least_broken (handshake_rules same_address k.waits.aw (offer_of r.aw) ++ rules_of_offer (offer_of r.aw) (address_rules bus))
+
+abbrev pub w_fault : ℕ → Kept → PortRound → Option ℕ
+w_fault bus k r =
+    or_else (least_broken (handshake_rules same_data k.waits.w (offer_of r.w))) (data_fault bus (new_aw k r) (new_w k r) k.addresses k.passed k.beats)
+
+abbrev pub b_fault : Kept → PortRound → Option ℕ
+b_fault k r = or_else (least_broken (handshake_rules same_response k.waits.b (offer_of r.b))) (fault_of_offer (offer_of r.b) (response_fault k.writes.whole))
+
+abbrev pub ar_fault : ℕ → Kept → PortRound → Option ℕ
+ar_fault bus k r = least_broken (handshake_rules same_address k.waits.ar (offer_of r.ar) ++ rules_of_offer (offer_of r.ar) (address_rules bus))
+
+abbrev pub r_fault : Kept → PortRound → Option ℕ
+r_fault k r = or_else (least_broken (handshake_rules same_read k.waits.r (offer_of r.r))) (fault_of_offer (offer_of r.r) (read_fault k.reads))
+
+abbrev pub kept_fault : ℕ → Kept → PortRound → Option (ℕ × ℕ)
+kept_fault bus k r =
+    or_else (on_fault 1 (aw_fault bus k r))
+    (or_else (on_fault 2 (w_fault bus k r))
+    (or_else (on_fault 3 (b_fault k r))
+    (or_else (on_fault 4 (ar_fault bus k r))
+    (on_fault 5 (r_fault k r)))))
+
+abbrev pub waits_after : PortRound → Waits
+waits_after r = record { aw = wait_of r.aw; w = wait_of r.w; b = wait_of r.b; ar = wait_of r.ar; r = wait_of r.r }
+
+abbrev pub kept_after : Kept → PortRound → Kept
+kept_after k r = record {
+  waits = waits_after r;
+  addresses = addresses_done (new_w k r) (addresses_then (new_aw k r) k.addresses k.beats);
+  passed = passed_done (new_w k r) (addresses_then (new_aw k r) k.addresses k.beats) (passed_then (new_aw k r) k.addresses k.beats k.passed);
+  beats = beats_done (new_w k r) (addresses_then (new_aw k r) k.addresses k.beats) (beats_then (new_aw k r) k.addresses k.beats);
+  writes = add_aw (transfer_of r.aw) (add_last (transfer_of r.w) (add_b (transfer_of r.b) k.writes));
+  reads = add_ar (transfer_of r.ar) (add_r (transfer_of r.r) k.reads);
+}
+
+-- the addresses that a round offers are below 2 ^ 63
+pub record HasSmallAddresses (r : PortRound) : Type 0 where
+  pub aw : ForSome (offer_of r.aw) (λ a. a.addr < 2 ^ 63)
+  pub ar : ForSome (offer_of r.ar) (λ a. a.addr < 2 ^ 63)

@@ -1,0 +1,10 @@
+pub mod Checked
+pub mod Judged
+pub mod Kept
+pub mod Offers
+pub mod Parting
+pub mod Reads
+pub mod ReadsHeld
+pub mod StandsFor
+pub mod Transfers
+pub mod WritesHeld

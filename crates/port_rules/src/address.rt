@@ -1,0 +1,74 @@
+//! The rules of one address.
+ghost use Rattle.std.specs.Prelude.{◌≡◌, ◌<◌, ◌≤◌, ◌^◌, true, IsTrue, Option, None};
+ghost use Rattle.axi_beats.specs.Word.{IsBusWidth};
+ghost use Rattle.axi_history.specs.PortRules.{request_of, address_rules, least_broken, keeps_address_rules, has_last_where_due, has_strobes_on_valid_lanes, strobes_within};
+
+use axi_beats::{Addr, Burst, WBeat};
+use axi_history::RawAddr;
+use burst_address::{BurstRule, lanes, legal};
+
+/// The request that an address makes. The kind of the reserved burst code doesn't count.
+fn request(a: &RawAddr) -> Addr
+    ensures { result ≡ request_of a.now }
+{
+    Addr {
+        id: a.id,
+        addr: a.addr,
+        len: a.len,
+        size: a.size,
+        burst: match a.burst {
+            0 => Burst::Fixed,
+            1 => Burst::Incr,
+            _ => Burst::Wrap,
+        },
+        tag: a.tag,
+    }
+}
+
+/// The first rule of 3 to 8 that an address breaks on a bus.
+pub(crate) fn address_fault(a: &RawAddr, bus: u8) -> Option<u8>
+    requires { IsBusWidth bus }
+    ensures { result ≡ least_broken (address_rules bus a.now) }
+{
+    if a.burst == 3 {
+        return Some(3);
+    }
+    match legal(&request(a), bus) {
+        Err(BurstRule::Size) => Some(4),
+        Err(BurstRule::Length) => Some(5),
+        Err(BurstRule::WrapAlign) => Some(6),
+        Err(BurstRule::Page) => Some(7),
+        Ok(()) if a.lock => Some(8),
+        Ok(()) => None,
+    }
+}
+
+/// Whether beat `n` of an address has `last` where it is due.
+pub(crate) fn last_fits(a: &RawAddr, n: u32, w: &WBeat) -> bool
+    ensures value { result ≡ has_last_where_due a.now n w.now }
+    ensures beat { IsTrue result → n ≤ a.now.len }
+    ensures len { a.now.len < 256 }
+{
+    let len = u32::from(a.len);
+    n <= len && w.last == (n == len)
+}
+
+/// Whether the strobes of beat `n` of an address stand on its valid lanes alone.
+pub(crate) fn strobes_fit(a: &RawAddr, n: u32, w: &WBeat, bus: u8) -> bool
+    requires beat { n ≤ a.now.len }
+    requires start { a.now.addr < 2 ^ 63 }
+    requires bus { IsBusWidth bus }
+    requires legal { keeps_address_rules bus a.now ≡ true }
+    ensures { result ≡ has_strobes_on_valid_lanes bus a.now n w.now }
+{
+    let (lower, upper) = lanes(&request(a), n, bus);
+    are_within(lower, upper, w.strobe)
+}
+
+fn are_within(lower: u8, upper: u8, strobe: u128) -> bool
+    requires lower { lower < 128 }
+    requires upper { upper < 128 }
+    ensures { result ≡ strobes_within lower upper strobe }
+{
+    strobe >> lower << lower == strobe && strobe >> upper <= 1
+}

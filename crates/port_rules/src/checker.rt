@@ -1,0 +1,153 @@
+//! `PortChecker`, which stands for the history of a port.
+ghost use Rattle.std.specs.Prelude.{◌≡◌, ◌≢◌, ◌+◌, ◌<◌, ◌≤◌, ◌^◌, ◌∷◌, ◌++◌, [], ℕ, false, List, length, Option, None, Some, IsOk, IfNone, OnOk, Err, vec_len, vec_capacity};
+ghost use Rattle.std.specs.Option.{ForSome};
+ghost use Rattle.std.specs.VecDeque.{deque_len, deque_capacity};
+ghost use Rattle.axi_beats.specs.Word.{IsBusWidth};
+ghost use Rattle.axi_history.specs.PortRules.{axi4_history_fault};
+ghost use Rattle.axi_history.specs.declared.port.PortRound.{PortRound as Round};
+ghost use Rattle.port_rules.specs.Checked.{kept_fault, kept_after, HasSmallAddresses};
+ghost use Rattle.port_rules.specs.StandsFor.{StandsFor, kept_of, port_of, rounds_of};
+
+use crate::bursts::Bursts;
+use crate::outstanding::{
+    Waits, address_channel_fault, data_channel_fault, read_channel_fault, response_channel_fault,
+    transfer_reads, transfer_writes,
+};
+use crate::reads::Reads;
+use crate::state::{PortChecker, RuleFault};
+use crate::writes::Writes;
+use axi_beats::NoMemory;
+use axi_history::{PortKind, PortRound};
+use std::alloc::Global;
+
+impl PortChecker {
+    /// A checker of an AXI4 port, which was given no round. It takes no memory.
+    pub fn new(alloc: Global, port: PortKind) -> PortChecker
+        requires kind { port.lite ≡ false }
+        requires bus { IsBusWidth port.bus }
+        ensures stands { StandsFor result [] }
+        ensures port { port_of result ≡ port }
+        ensures rounds { rounds_of result ≡ 0 }
+    {
+        PortChecker {
+            port,
+            rounds: 0,
+            fault: None,
+            waits: Waits::none(),
+            bursts: Bursts::new(alloc, port.bus),
+            writes: Writes::new(alloc),
+            reads: Reads::new(alloc),
+        }
+    }
+
+    /// Makes room for one round.
+    fn reserve(&mut self) -> Result<(), NoMemory>
+        ensures port { self.new.port ≡ self.old.port }
+        ensures rounds { self.new.rounds ≡ self.old.rounds }
+        ensures fault { self.new.fault ≡ self.old.fault }
+        ensures kept { kept_of self.new ≡ kept_of self.old }
+        ensures addresses { OnOk result (deque_len self.new.bursts.addresses < deque_capacity self.new.bursts.addresses) }
+        ensures beats { OnOk result (deque_len self.new.bursts.beats < deque_capacity self.new.bursts.beats) }
+        ensures issued { OnOk result (deque_len self.new.writes.issued < deque_capacity self.new.writes.issued) }
+        ensures whole { OnOk result (vec_len self.new.writes.whole + 2 ≤ vec_capacity self.new.writes.whole) }
+        ensures reads { OnOk result (vec_len self.new.reads.reads < vec_capacity self.new.reads.reads) }
+    {
+        self.bursts.reserve()?;
+        self.writes.reserve()?;
+        self.reads.reserve()?;
+        Ok(())
+    }
+
+    /// The least channel on which a round breaks a rule, and the least such rule. Where it breaks none, its addresses
+    /// and W beats are added.
+    #[tactic(auto, using(crate::proofs::AddressLemmas::new_usable))]
+    fn judge(&mut self, r: &PortRound) -> Option<(u8, u8)>
+        requires small { HasSmallAddresses r.now }
+        requires addresses { deque_len self.old.bursts.addresses < deque_capacity self.old.bursts.addresses }
+        requires beats { deque_len self.old.bursts.beats < deque_capacity self.old.bursts.beats }
+        ensures port { self.new.port ≡ self.old.port }
+        ensures rounds { self.new.rounds ≡ self.old.rounds }
+        ensures same_fault { self.new.fault ≡ self.old.fault }
+        ensures waits { self.new.waits ≡ self.old.waits }
+        ensures writes { self.new.writes ≡ self.old.writes }
+        ensures reads { self.new.reads ≡ self.old.reads }
+        ensures fault { result ≡ kept_fault self.old.port.bus (kept_of self.old) r.now }
+        ensures addresses { IfNone result (self.new.bursts.addresses.items ≡ (kept_after (kept_of self.old) r.now).addresses) }
+        ensures passed { IfNone result (self.new.bursts.passed ≡ (kept_after (kept_of self.old) r.now).passed) }
+        ensures beats { IfNone result (self.new.bursts.beats.items ≡ (kept_after (kept_of self.old) r.now).beats) }
+    {
+        if let Some(rule) = address_channel_fault(&self.waits.aw, &r.aw, self.port.bus) {
+            return Some((1, rule));
+        }
+        if let Some(rule) = data_channel_fault(&mut self.bursts, &self.waits, r) {
+            return Some((2, rule));
+        }
+        if let Some(rule) = response_channel_fault(&self.writes, &self.waits.b, &r.b) {
+            return Some((3, rule));
+        }
+        if let Some(rule) = address_channel_fault(&self.waits.ar, &r.ar, self.port.bus) {
+            return Some((4, rule));
+        }
+        match read_channel_fault(&self.reads, &self.waits.r, &r.r) {
+            Some(rule) => Some((5, rule)),
+            None => None,
+        }
+    }
+
+    /// Judges a round, and counts what it transfers where it breaks no rule.
+    fn add(&mut self, r: &PortRound) -> Option<(u8, u8)>
+        requires small { HasSmallAddresses r.now }
+        requires rounds { self.old.rounds < 2 ^ 31 }
+        requires addresses { deque_len self.old.bursts.addresses < deque_capacity self.old.bursts.addresses }
+        requires beats { deque_len self.old.bursts.beats < deque_capacity self.old.bursts.beats }
+        requires issued { deque_len self.old.writes.issued < deque_capacity self.old.writes.issued }
+        requires whole { vec_len self.old.writes.whole + 2 ≤ vec_capacity self.old.writes.whole }
+        requires reads { vec_len self.old.reads.reads < vec_capacity self.old.reads.reads }
+        ensures port { self.new.port ≡ self.old.port }
+        ensures rounds { self.new.rounds ≡ self.old.rounds + 1 }
+        ensures same_fault { self.new.fault ≡ self.old.fault }
+        ensures fault { result ≡ kept_fault self.old.port.bus (kept_of self.old) r.now }
+        ensures kept { IfNone result (kept_of self.new ≡ kept_after (kept_of self.old) r.now) }
+    {
+        self.rounds += 1;
+        let fault = self.judge(r);
+        if fault.is_none() {
+            transfer_writes(&mut self.writes, r);
+            transfer_reads(&mut self.reads, r);
+            self.waits = Waits::after(r);
+        }
+        fault
+    }
+
+    /// Adds the next round of the port.
+    pub fn round(&mut self, r: &PortRound) -> Result<(), RuleFault>
+        requires kind { r.now.kind ≡ port_of self.old }
+        requires addresses { HasSmallAddresses r.now }
+        requires rounds { rounds_of self.old < 2 ^ 31 }
+        ensures port { port_of self.new ≡ port_of self.old }
+        ensures rounds { rounds_of self.new ≤ rounds_of self.old + 1 }
+
+        // What it stands for: the longer history, and without memory the same one.
+        ensures added { result ≢ Err RuleFault.NoMemory → (h : List Round) → StandsFor self.old h → StandsFor self.new (h ++ r.now ∷ []) }
+        ensures unchanged { result ≡ Err RuleFault.NoMemory → (h : List Round) → StandsFor self.old h → StandsFor self.new h }
+
+        // Each answer says what the history breaks first.
+        ensures legal { IsOk result → (h : List Round) → StandsFor self.old h → axi4_history_fault (port_of self.old).bus (h ++ r.now ∷ []) ≡ None }
+        ensures broken { (rule channel : ℕ) → result ≡ Err (RuleFault.Broken rule channel) → (h : List Round) → StandsFor self.old h → axi4_history_fault (port_of self.old).bus (h ++ r.now ∷ []) ≡ Some (channel, rule) }
+    {
+        if let Some((channel, rule)) = self.fault {
+            self.rounds += 1;
+            return Err(RuleFault::Broken { rule, channel });
+        }
+        if self.reserve().is_err() {
+            return Err(RuleFault::NoMemory);
+        }
+        match self.add(r) {
+            Some((channel, rule)) => {
+                self.fault = Some((channel, rule));
+                Err(RuleFault::Broken { rule, channel })
+            }
+            None => Ok(()),
+        }
+    }
+}

@@ -1,0 +1,36 @@
+//! What a channel offers in a round, beside what waits since the round before.
+ghost use Rattle.std.specs.Prelude.{◌≡◌, Option};
+ghost use Rattle.axi_history.specs.PortHistory.{offer_of, transfer_of, wait_of};
+ghost use Rattle.port_rules.specs.Offers.{new_offer};
+
+use axi_history::Seen;
+
+/// The beat that a channel offers and that didn't wait since the round before.
+pub(crate) fn new_offer<T: Copy>(waits: &Option<T>, offer: &Option<Seen<T>>) -> Option<T>
+    ensures { result ≡ new_offer waits.now (offer_of offer.now) }
+{
+    match (waits, offer) {
+        (None, Some(seen)) => Some(seen.beat),
+        _ => None,
+    }
+}
+
+/// The beat that a channel transfers.
+pub(crate) fn transferred<T: Copy>(offer: &Option<Seen<T>>) -> Option<T>
+    ensures { result ≡ transfer_of offer.now }
+{
+    match offer {
+        Some(seen) if seen.taken => Some(seen.beat),
+        _ => None,
+    }
+}
+
+/// The beat that a channel offers without a transfer.
+pub(crate) fn waiting<T: Copy>(offer: &Option<Seen<T>>) -> Option<T>
+    ensures { result ≡ wait_of offer.now }
+{
+    match offer {
+        Some(seen) if !seen.taken => Some(seen.beat),
+        _ => None,
+    }
+}

@@ -1,0 +1,32 @@
+//! What a checker is.
+ghost use Rattle.std.specs.Prelude.{◌≡◌, ◌≤◌};
+
+use crate::bursts::Bursts;
+use crate::outstanding::Waits;
+use crate::reads::Reads;
+use crate::writes::Writes;
+use axi_history::PortKind;
+
+/// Why a round isn't accepted.
+#[derive(Clone, Copy, Debug, PartialEq, Eq)]
+pub enum RuleFault {
+    /// The rounds break a rule: the least channel (1 AW, 2 W, 3 B, 4 AR, 5 R) and its least rule.
+    Broken { rule: u8, channel: u8 },
+    /// There was no memory for the round, which wasn't added.
+    NoMemory,
+}
+
+/// A checker that was given the rounds of one port.
+#[derive(Drop)]
+pub struct PortChecker {
+    pub(crate) port: PortKind,
+    pub(crate) rounds: u32,
+    /// The channel and the rule that were broken first.
+    pub(crate) fault: Option<(u8, u8)>,
+    pub(crate) waits: Waits,
+    pub(crate) bursts: Bursts,
+    pub(crate) writes: Writes,
+    pub(crate) reads: Reads,
+    ghost bus: { bursts.bus ≡ port.bus },
+    ghost surplus: { writes.surplus ≤ rounds },
+}
