@@ -62,17 +62,17 @@ channel_text beat_text (Some seen) = mark seen.taken ∷ beat_text seen.beat
 abbrev pub kind_text : Bool → List ℕ
 kind_text lite = if lite then codes "lite" else codes "axi"
 
--- the round, the link, the kind and the bus of its port, and the channels AW, W, B, AR and R
-unfoldable pub line_text : PortRound → List ℕ
-line_text r =
+-- what the channels AW, W, B, AR and R offer
+abbrev pub channels_text : PortRound → List ℕ
+channels_text r =
     by_spaces
-    (decimal r.round
-    ∷ decimal r.link
-    ∷ kind_text r.kind.lite
-    ∷ decimal r.kind.bus
-    ∷ channel_text address_text r.aw
+    (channel_text address_text r.aw
     ∷ channel_text (write_data_text r.kind.bus) r.w
     ∷ channel_text response_text r.b
     ∷ channel_text address_text r.ar
     ∷ channel_text (read_data_text r.kind.bus) r.r
     ∷ [])
+
+-- the round, the link, the kind and the bus of its port, and the five channels
+unfoldable pub line_text : PortRound → List ℕ
+line_text r = by_spaces (decimal r.round ∷ decimal r.link ∷ kind_text r.kind.lite ∷ decimal r.kind.bus ∷ channels_text r ∷ [])

@@ -289,7 +289,8 @@ fn greatest_strobe(bus: u8) -> u128
 // A decimal below the limit, and the text behind the byte that ends it.
 #[tactic(auto, unfolding(crate::specs::Reading::decimal_before))]
 fn decimal_before(text: &[u8], end: u8, limit: u64) -> Option<(u64, &[u8])>
-    ensures number { option_map (λ found. (found.0, found.1.now)) result ≡ decimal_before end limit text.now }
+    ensures number { option_map (λ found. (found.0, found.1.now)) result
+        ≡ decimal_before end limit text.now }
     ensures below { IfSome result (λ found. found.0 < limit) }
 {
     let (word, rest) = field_before(text, end)?;
@@ -299,7 +300,8 @@ fn decimal_before(text: &[u8], end: u8, limit: u64) -> Option<(u64, &[u8])>
 // A hexadecimal of at most `most`, and the text behind the byte that ends it.
 #[tactic(auto, unfolding(crate::specs::Reading::hexadecimal_before))]
 fn hexadecimal_before(text: &[u8], end: u8, most: u128) -> Option<(u128, &[u8])>
-    ensures number { option_map (λ found. (found.0, found.1.now)) result ≡ hexadecimal_before end (most + 1) text.now }
+    ensures number { option_map (λ found. (found.0, found.1.now)) result
+        ≡ hexadecimal_before end (most + 1) text.now }
     ensures within { IfSome result (λ found. found.0 ≤ most) }
 {
     let (word, rest) = field_before(text, end)?;

@@ -5,7 +5,7 @@ ghost use Rattle.trace_text.specs.Line.{Line};
 ghost use Rattle.trace_text.specs.Ranges.{IsTraceRound};
 ghost use Rattle.std.specs.Fmt.{decimal};
 ghost use Rattle.plain_text.specs.Printing.{hexadecimal};
-ghost use Rattle.trace_text.specs.Form.{address_text, bit_text, channel_text, kind_text, lanes_text, line_text, mark, read_data_text, response_text, tag_text, write_data_text};
+ghost use Rattle.trace_text.specs.Form.{address_text, bit_text, channel_text, channels_text, kind_text, lanes_text, line_text, mark, read_data_text, response_text, tag_text, write_data_text};
 
 use axi_beats::{Lanes, Tag, WBeat};
 use axi_history::{PortKind, PortRound, RawAddr, RawB, RawR, Seen};
@@ -16,7 +16,8 @@ pub fn render_round(line: &mut LineBuffer, r: &PortRound)
     requires { r.now.kind.bus ≤ 128 }
     ensures text { line.new ≡ line_text r.now ++ codes "\n" }
     // Within the ranges this is the trace line of the round.
-    ensures line { IsTraceRound r.now → (text : List ℕ) × Line r.now text × (line.new ≡ text ++ codes "\n") }
+    ensures line { IsTraceRound r.now
+        → (text : List ℕ) × Line r.now text × (line.new ≡ text ++ codes "\n") }
 {
     line.clear();
     push_place(line, r.round, r.link);
@@ -38,7 +39,8 @@ fn push_place(line: &mut LineBuffer, round: u64, link: u32)
 // The kind and the bus of the port, each before a space.
 fn push_kind(line: &mut LineBuffer, kind: PortKind)
     requires { length line.old + 26 ≤ LineBuffer.ROOM }
-    ensures text { line.new ≡ line.old ++ (kind_text kind.lite ++ 32 ∷ (decimal kind.bus ++ 32 ∷ [])) }
+    ensures text { line.new
+        ≡ line.old ++ (kind_text kind.lite ++ 32 ∷ (decimal kind.bus ++ 32 ∷ [])) }
     ensures room { length line.new ≤ length line.old + 26 }
 {
     if kind.lite {
@@ -53,7 +55,7 @@ fn push_kind(line: &mut LineBuffer, kind: PortKind)
 fn push_channels(line: &mut LineBuffer, r: &PortRound)
     requires bus { r.now.kind.bus ≤ 128 }
     requires space { length line.old + 2600 ≤ LineBuffer.ROOM }
-    ensures text { line.new ≡ line.old ++ (channel_text address_text r.now.aw ++ 32 ∷ (channel_text (write_data_text r.now.kind.bus) r.now.w ++ 32 ∷ (channel_text response_text r.now.b ++ 32 ∷ (channel_text address_text r.now.ar ++ 32 ∷ channel_text (read_data_text r.now.kind.bus) r.now.r)))) }
+    ensures text { line.new ≡ line.old ++ channels_text r.now }
     ensures room { length line.new ≤ length line.old + 2600 }
 {
     push_address_channel(line, &r.aw);
