@@ -5,3 +5,4 @@ pub mod DocumentLaws
 pub mod TextLaws
 mod KnownInputs
 mod KnownTexts
+pub mod RunLaws

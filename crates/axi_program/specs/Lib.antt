@@ -6,3 +6,5 @@ pub mod Refusals
 pub mod Traffic
 pub mod Document
 pub mod Text
+pub mod Words
+pub mod Outcome

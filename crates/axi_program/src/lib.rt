@@ -11,11 +11,13 @@
 mod answer_text;
 mod document;
 mod outside;
+mod run;
 mod status;
 #[cfg(test)]
 mod tests;
 mod texts;
 mod traffic;
+mod words;
 
 pub use answer_text::render_answer;
 pub use document::{DocumentFault, INPUT_LIMIT, read_document};
@@ -29,4 +31,5 @@ pub use outside::standard::{StdinSource, StdoutSink};
 pub use outside::write_all::write_piece;
 pub use status::{Refusal, Status};
 pub use texts::{render_refusal, render_rounds};
+pub use words::are_taken;
 pub use traffic::{Access, TrafficFault, TrafficLine, read_line, read_traffic};

@@ -1,0 +1,176 @@
+-- The lines of a run, one after the other.
+use Rattle.std.proofs.Common.{◌≡◌, ◌<◌, ◌≤◌, ◌+◌, ◌^◌, ◌-◌, ◌∷◌, [], ◌++◌, ℕ, zero, suc, List, Option, Some, None, Bool, true, false, cond, min, length, take, drop, get_or, refl, sym, ap, ◌∙◌, subst, arith, append_assoc, length-append, IsTrue}
+use Rattle.std.specs.Prelude.{All, Err, IfSome, Ok, OnErr, OnOk, Result, option_map, slice_get, unwrap_or}
+use Rattle.std.specs.Option.{option_map_or}
+use Rattle.std.specs.Io.KnownBytes.{Appends}
+use Rattle.std.proofs.KnownBytes.{Appends-trans}
+use Rattle.std.proofs.lemmas.List.{take-append-le, take_all}
+use Rattle.std.proofs.lemmas.Option.{get_or_from_slice_get, slice_get-get_or, slice_get_within}
+use Rattle.std.proofs.Math.Seq.{take-append-add}
+use Rattle.manager_end.specs.Answer.{AnswerView}
+use Rattle.manager_end.specs.ManagerState.{ManagerState, answered_one, is_answered}
+use Rattle.manager_end.specs.Script.{CanPush, IsScript, ScriptItem}
+use Rattle.manager_end.specs.declared.script.Txn.{Txn}
+use Rattle.net_rounds.proofs.NetworkLemmas.{after_rounds-built_in, built_in_pair, pair_after-script}
+use Rattle.net_rounds.specs.BuiltIn.{bound, built_in, first_manager, script_of}
+use Rattle.net_rounds.specs.NetView.{NetView}
+use Rattle.net_rounds.specs.Network.{Network, after_rounds, is_finished}
+use Rattle.net_rounds.specs.Notes.{IsShort}
+use Rattle.net_rounds.specs.Run.{run_length}
+use Rattle.axi_program.proofs.TextLaws.{answer_lines-next}
+use Rattle.axi_program.specs.Faults.{Rose}
+use Rattle.axi_program.specs.Outcome.{Answers, Stalls, line_at, noted_answers, run_end, run_outcome, run_rounds, text_of_net}
+use Rattle.axi_program.specs.Text.{answer_line, answer_lines, rounds_line, run_text}
+use Rattle.axi_program.specs.Traffic.{manager_name}
+use Rattle.axi_program.specs.Transfers.{AppendsPrefix}
+
+-- the item of a transaction that is told
+pub item-at : (script : List ScriptItem) (place : ℕ) (txn : Txn) → option_map (λ (item : ScriptItem). item.txn) (slice_get script place) ≡ Some txn → (item : ScriptItem) × (slice_get script place ≡ Some item) × (item.txn ≡ txn)
+item-at script place txn told =
+    let go : (o : Option ScriptItem) → slice_get script place ≡ o → option_map (λ (item : ScriptItem). item.txn) o ≡ Some txn → (item : ScriptItem) × (slice_get script place ≡ Some item) × (item.txn ≡ txn) =
+        λ o. elim o as (λ o. slice_get script place ≡ o → option_map (λ (item : ScriptItem). item.txn) o ≡ Some txn → (item : ScriptItem) × (slice_get script place ≡ Some item) × (item.txn ≡ txn)) [
+          None ↦ λ found none. absurd (cc)
+        | Some item ↦ λ found same. (item, found, ap (λ t. unwrap_or t txn) same)
+        ]
+    in go (slice_get script place) refl told
+
+pub size-at : (script : List ScriptItem) (place : ℕ) (txn : Txn) → IsScript script → option_map (λ (item : ScriptItem). item.txn) (slice_get script place) ≡ Some txn → txn.request.size ≤ 7
+size-at script place txn pushed told =
+    let at = item-at script place txn told in
+    let can : CanPush (take place script) (at.0).txn (at.0).bytes = subst (λ (o : Option ScriptItem). IfSome o (λ item. CanPush (take place script) item.txn item.bytes)) at.1 (pushed place) in
+    subst (λ (t : Txn). t.request.size ≤ 7) at.2 can.size
+
+-- an answer that came is what is noted
+pub noted-at : (o : Option AnswerView) (a : AnswerView) → answered_one o ≡ Some a → o ≡ Some a
+noted-at None a came = absurd (cc)
+noted-at (Some b) a came =
+    let go : (has : Bool) → cond has (Some b) None ≡ Some a → Some b ≡ Some a = λ has. elim has as (λ has. cond has (Some b) None ≡ Some a → Some b ≡ Some a) [ true ↦ λ same. same | false ↦ λ none. absurd (cc) ]
+    in go (is_answered b) came
+
+pub short-at : (answers : List AnswerView) (place : ℕ) (a : AnswerView) → All IsShort answers → slice_get answers place ≡ Some a → IsShort a
+short-at answers place a short is = subst IsShort (get_or_from_slice_get answers place a a is) (short place a (slice_get_within answers place a is))
+
+-- where all answers came, none is missing
+pub not-missing : (answers : List AnswerView) (place : ℕ) → All (λ (a : AnswerView). is_answered a ≡ true) answers → place < length answers → answered_one (slice_get answers place) ≡ None → ⊥
+not-missing [] place all within missing = absurd (omega arith)
+not-missing (b ∷ answers) place all within missing =
+    let a = get_or (b ∷ answers) place b in
+    let found = slice_get-get_or (b ∷ answers) place b within in
+    let here : answered_one (Some a) ≡ None = ap answered_one (sym found) ∙ missing in
+    let came : cond true (Some a) None ≡ None = ap (λ (has : Bool). cond has (Some a) None) (sym (all place b within)) ∙ here in
+    cc
+
+-- the line at a place
+pub line_at-is :
+  (script : List ScriptItem) (answers : List AnswerView) (place : ℕ) (item : ScriptItem) (a : AnswerView) → slice_get script place ≡ Some item → slice_get answers place ≡ Some a →
+  line_at script answers place ≡ answer_line manager_name item.txn a
+unfolding line_at
+line_at-is [] answers place item a is told = absurd (cc)
+line_at-is (i ∷ script) [] place item a is told = absurd (cc)
+line_at-is (i ∷ script) (b ∷ answers) zero item a is told = answer_lines-next (i ∷ script) (b ∷ answers) zero item a is told
+line_at-is (i ∷ script) (b ∷ answers) (suc place) item a is told = line_at-is script answers place item a is told
+
+pub lines-next :
+  (script : List ScriptItem) (answers : List AnswerView) (place : ℕ) → place < length script → place < length answers →
+  answer_lines (take (place + 1) script) (take (place + 1) answers) ≡ answer_lines (take place script) (take place answers) ++ line_at script answers place
+lines-next [] answers place within there = absurd (omega arith)
+lines-next (i ∷ script) [] place within there = absurd (omega arith)
+lines-next (i ∷ script) (b ∷ answers) place within there =
+    let is = slice_get-get_or (i ∷ script) place i within in
+    let told = slice_get-get_or (b ∷ answers) place b there in
+    answer_lines-next (i ∷ script) (b ∷ answers) place _ _ is told
+    ∙ ap (λ (line : List ℕ). answer_lines (take place (i ∷ script)) (take place (b ∷ answers)) ++ line) (sym (line_at-is (i ∷ script) (b ∷ answers) place _ _ is told))
+
+-- the first lines are the front of all lines
+pub lines-front : (script : List ScriptItem) (answers : List AnswerView) (n : ℕ) → (rest : List ℕ) × (answer_lines script answers ≡ answer_lines (take n script) (take n answers) ++ rest)
+lines-front script answers zero = (answer_lines script answers, refl)
+lines-front [] answers (suc n) = ([], refl)
+lines-front (i ∷ script) [] (suc n) = ([], refl)
+lines-front (i ∷ script) (b ∷ answers) (suc n) =
+    let later = lines-front script answers n in
+    (later.0, ap (λ (text : List ℕ). answer_line manager_name i.txn b ++ text) later.1
+      ∙ sym (append_assoc (answer_line manager_name i.txn b) (answer_lines (take n script) (take n answers)) later.0))
+
+-- a part of what comes next is a part of the whole
+pub prefix-later :
+  (first then last : Option (List ℕ)) (front next rest whole : List ℕ) → Appends first then front → AppendsPrefix then last next → whole ≡ (front ++ next) ++ rest → AppendsPrefix first last whole
+prefix-later first then last front next rest whole before part is =
+    let parts : whole ≡ front ++ (next ++ rest) = is ∙ append_assoc front next rest in
+    let long : length whole ≡ length front + (length next + length rest) = ap length parts ∙ length-append front (next ++ rest) ∙ ap (λ (n : ℕ). length front + n) (length-append next rest) in
+    let taken : take (length front + part.count) whole ≡ front ++ take part.count next =
+        ap (take (length front + part.count)) parts ∙ take-append-add front (next ++ rest) part.count
+        ∙ ap (λ (bytes : List ℕ). front ++ bytes) (take-append-le part.count next rest (omega (arith, part.proper))) in
+    record {
+      count = length front + part.count;
+      proper = omega (arith, part.proper);
+      appends = subst (λ (bytes : List ℕ). Appends first last bytes) (sym taken) (Appends-trans first then last front (take part.count next) before part.appends);
+    }
+
+pub prefix-whole : (first last : Option (List ℕ)) (front rest whole : List ℕ) → AppendsPrefix first last front → whole ≡ front ++ rest → AppendsPrefix first last whole
+prefix-whole first last front rest whole part is =
+    let long : length whole ≡ length front + length rest = ap length is ∙ length-append front rest in
+    record {
+      count = part.count;
+      proper = omega (arith, part.proper);
+      appends = subst (λ (bytes : List ℕ). Appends first last bytes) (sym (ap (take part.count) is ∙ take-append-le part.count front rest (omega (arith, part.proper)))) part.appends;
+    }
+
+-- a count that rose later rose from before
+pub Rose-later : (before then now : ℕ) → before ≤ then → Rose then now → Rose before now
+Rose-later before then now stays rose = omega arith
+
+pub on-err : {X E : Type 0} (r : Result X E) (P : Type 0) → P → OnErr r P
+on-err (Ok x) P holds = tt
+on-err (Err e) P holds = holds
+
+pub on-ok-map : {X E : Type 0} (r : Result X E) (P Q : Type 0) → (P → Q) → OnOk r P → OnOk r Q
+on-ok-map (Ok x) P Q step holds = step holds
+on-ok-map (Err e) P Q step holds = tt
+
+pub on-err-map : {X E : Type 0} (r : Result X E) (P Q : Type 0) → (P → Q) → OnErr r P → OnErr r Q
+on-err-map (Ok x) P Q step holds = tt
+on-err-map (Err e) P Q step holds = step holds
+
+-- the text of a network by its manager
+pub text-by_manager : (net : NetView) (s : ManagerState) → first_manager net.network.nodes ≡ Some s → text_of_net net ≡ answer_lines s.script s.answers ++ rounds_line net.rounds
+unfolding text_of_net noted_answers
+text-by_manager net s is = ap (λ (o : Option ManagerState). answer_lines (script_of o) (option_map_or (λ state. state.answers) o []) ++ rounds_line net.rounds) is
+
+run-script : (script : List ScriptItem) (n : ℕ) → script_of (first_manager (after_rounds n (built_in script)).nodes) ≡ script
+run-script script n = ap (λ net. script_of (first_manager net.nodes)) (after_rounds-built_in script n) ∙ pair_after-script (built_in_pair script) n
+
+-- a network after its run
+pub record HasRun (script : List ScriptItem) (net : NetView) : Type 0 where
+  pub rounds : net.rounds ≡ run_length (built_in script) (bound script)
+  pub network : net.network ≡ after_rounds net.rounds (built_in script)
+
+run-end : (script : List ScriptItem) (net : NetView) → HasRun script net → net.network ≡ run_end script
+unfolding run_end run_rounds
+run-end script net has = has.network ∙ ap (λ (n : ℕ). after_rounds n (built_in script)) has.rounds
+
+pub outcome-stalls : (script : List ScriptItem) (net : NetView) → HasRun script net → is_finished net.network ≡ false → run_outcome script ≡ Stalls
+unfolding run_outcome
+outcome-stalls script net has running =
+    ap (λ (b : Bool). cond b (Answers (run_text script (noted_answers (run_end script)) (run_rounds script))) Stalls) (ap is_finished (sym (run-end script net has)) ∙ running)
+
+run-text : (script : List ScriptItem) (net : NetView) → HasRun script net → run_text script (noted_answers (run_end script)) (run_rounds script) ≡ text_of_net net
+unfolding run_rounds text_of_net
+run-text script net has =
+    let same = run-end script net has in
+    let own : script_of (first_manager net.network.nodes) ≡ script = ap (λ (now : Network). script_of (first_manager now.nodes)) has.network ∙ run-script script net.rounds in
+    ap (λ (s : List ScriptItem). run_text s (noted_answers (run_end script)) (run_length (built_in script) (bound script))) (sym own)
+    ∙ ap (λ (now : Network). run_text (script_of (first_manager net.network.nodes)) (noted_answers now) (run_length (built_in script) (bound script))) (sym same)
+    ∙ ap (λ (n : ℕ). run_text (script_of (first_manager net.network.nodes)) (noted_answers net.network) n) (sym has.rounds)
+
+pub outcome-answers : (script : List ScriptItem) (net : NetView) → HasRun script net → is_finished net.network ≡ true → run_outcome script ≡ Answers (text_of_net net)
+unfolding run_outcome
+outcome-answers script net has finished =
+    ap (λ (b : Bool). cond b (Answers (run_text script (noted_answers (run_end script)) (run_rounds script))) Stalls) (ap is_finished (sym (run-end script net has)) ∙ finished)
+    ∙ ap Answers (run-text script net has)
+
+-- what building and running gives
+pub has-run : (script : List ScriptItem) (built ran : NetView) → built ≡ record { network = built_in script; rounds = 0; most = bound script } → ran.rounds ≡ run_length built.network built.most → ran.network ≡ after_rounds ran.rounds built.network → HasRun script ran
+has-run script built ran is rounds network = record {
+  rounds = rounds ∙ ap (λ (v : NetView). run_length v.network v.most) is;
+  network = network ∙ ap (λ (v : NetView). after_rounds ran.rounds v.network) is;
+}

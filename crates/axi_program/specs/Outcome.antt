@@ -1,0 +1,79 @@
+-- What an input comes to, and what a call that writes it has written.
+use Rattle.std.specs.Prelude.{◌≡◌, ℕ, [], List, Option, Some, None, drop, take, if◌then◌else◌}
+use Rattle.std.specs.Option.{option_map_or}
+use Rattle.std.specs.Io.KnownBytes.{Appends}
+use Rattle.manager_end.specs.Answer.{AnswerView}
+use Rattle.manager_end.specs.Script.{ScriptItem}
+use Rattle.net_rounds.specs.BuiltIn.{bound, built_in, first_manager, script_of}
+use Rattle.net_rounds.specs.NetView.{NetView}
+use Rattle.net_rounds.specs.Network.{Network, after_rounds, is_finished}
+use Rattle.net_rounds.specs.Run.{run_length}
+use Rattle.axi_program.specs.Document.{refusal_of, script_of_input}
+use Rattle.axi_program.specs.Faults.{Rose}
+use Rattle.axi_program.specs.Text.{answer_lines, refusal_line, run_text}
+use Rattle.axi_program.specs.Transfers.{AppendsPrefix}
+use Rattle.axi_program.specs.declared.status.Refusal.{Refusal}
+use Rattle.axi_program.specs.declared.status.Status.{Status}
+use Rattle.axi_program.specs.declared.status.Status.TheVariants.{Done, Usage, Refused, ReadFault, WriteFault, NoMemory, Unfinished}
+
+-- the rounds of the run of a script: up to the first state in which all is answered, at most as many as the bound
+unfoldable pub run_rounds : List ScriptItem → ℕ
+run_rounds script = run_length (built_in script) (bound script)
+
+-- the network after the run
+unfoldable pub run_end : List ScriptItem → Network
+run_end script = after_rounds (run_rounds script) (built_in script)
+
+-- what its manager noted
+unfoldable pub noted_answers : Network → List AnswerView
+noted_answers net = option_map_or (λ state. state.answers) (first_manager net.nodes) []
+
+-- An input is refused; or its run ends, and has a text; or a transaction is unanswered after the bound's rounds.
+pub data Outcome : Type 0 where
+  Refuses : Refusal → Outcome
+  Answers : List ℕ → Outcome
+  Stalls : Outcome
+
+-- what the run of a script comes to
+unfoldable pub run_outcome : List ScriptItem → Outcome
+run_outcome script = if is_finished (run_end script) then Answers (run_text script (noted_answers (run_end script)) (run_rounds script)) else Stalls
+
+abbrev pub outcome_by : Option Refusal → List ScriptItem → Outcome
+outcome_by (Some refusal) script = Refuses refusal
+outcome_by None script = run_outcome script
+
+-- what an input comes to
+unfoldable pub input_outcome : List ℕ → Outcome
+input_outcome input = outcome_by (refusal_of input) (script_of_input input)
+
+-- the text of an outcome, which is all that is written
+abbrev pub text_of : Outcome → List ℕ
+text_of (Refuses refusal) = refusal_line refusal
+text_of (Answers text) = text
+text_of Stalls = []
+
+-- its status
+abbrev pub status_of : Outcome → Status
+status_of (Refuses refusal) = Refused refusal
+status_of (Answers text) = Done
+status_of Stalls = Unfinished
+
+-- How a call ends that writes the text of an outcome: with its status, and the whole text is written; or the sink's
+-- count of faults rose, and only a part of the text is written; or memory was wanting, and the sink is untouched.
+module _ {K : Type 0} (written : K → Option (List ℕ)) (faults : K → ℕ) (outcome : Outcome) (before after : K) where
+  abbrev pub Concludes : Status → Type 0
+  Concludes Done = (Done ≡ status_of outcome) × Appends (written before) (written after) (text_of outcome)
+  Concludes Usage = ⊥
+  Concludes (Refused refusal) = (Refused refusal ≡ status_of outcome) × Appends (written before) (written after) (text_of outcome)
+  Concludes ReadFault = ⊥
+  Concludes WriteFault = Rose (faults before) (faults after) × AppendsPrefix (written before) (written after) (text_of outcome)
+  Concludes NoMemory = after ≡ before
+  Concludes Unfinished = (Unfinished ≡ status_of outcome) × (after ≡ before)
+
+-- the line of the answer at a place
+unfoldable pub line_at : List ScriptItem → List AnswerView → ℕ → List ℕ
+line_at script answers place = answer_lines (take 1 (drop place script)) (take 1 (drop place answers))
+
+-- the text of a network that answered everything
+unfoldable pub text_of_net : NetView → List ℕ
+text_of_net net = run_text (script_of (first_manager net.network.nodes)) (noted_answers net.network) net.rounds

@@ -1,0 +1,98 @@
+//! The run of a script, and its text.
+
+ghost use Rattle.std.specs.Prelude.{◌≡◌, ◌<◌, ◌≤◌, true, OnOk, OnErr, length};
+ghost use Rattle.std.specs.Io.KnownBytes.{Appends};
+ghost use Rattle.manager_end.specs.ManagerState.{is_done};
+ghost use Rattle.manager_end.specs.Script.{IsScript};
+ghost use Rattle.net_rounds.specs.BuiltIn.{IsTraffic};
+ghost use Rattle.net_rounds.specs.Network.{is_finished};
+ghost use Rattle.net_rounds.specs.Notes.{AreNotes};
+ghost use Rattle.axi_program.specs.Faults.{HasCause};
+ghost use Rattle.axi_program.specs.Outcome.{Concludes, line_at, run_outcome, text_of_net};
+ghost use Rattle.axi_program.specs.Text.{answer_lines};
+ghost use Rattle.axi_program.specs.Transfers.{AppendsPrefix};
+
+use std::alloc::Global;
+
+use manager_end::{Manager, Script};
+use net_rounds::Net;
+use plain_text::line_buffer::LineBuffer;
+
+use crate::answer_text::render_answer;
+use crate::outside::sink::Sink;
+use crate::outside::source::Failed;
+use crate::outside::write_all::write_piece;
+use crate::status::Status;
+use crate::texts::render_rounds;
+
+/// The name of the built-in manager.
+const MANAGER: &str = "m";
+
+/// Runs a script on the built-in network and writes the run's text. All memory is taken before the
+/// first round, so none is wanting after the first write.
+pub fn run<K: Sink>(alloc: Global, script: Script, sink: &mut K) -> Status
+    requires { IsTraffic script }
+    ensures concludes { Concludes K.written K.faults (run_outcome script) sink.old sink.new result }
+    ensures count { K.faults sink.old ≤ K.faults sink.new }
+{
+    let mut line = match LineBuffer::new(alloc) {
+        Ok(line) => line,
+        Err(_) => return Status::NoMemory,
+    };
+    let mut net = match Net::build(alloc, script) {
+        Ok(net) => net,
+        Err(_) => return Status::NoMemory,
+    };
+    if !net.run() {
+        return Status::Unfinished;
+    }
+    match write_run(&net, &mut line, sink) {
+        Ok(()) => Status::Done,
+        Err(_) => Status::WriteFault,
+    }
+}
+
+/// Writes the text of a run that answered everything.
+fn write_run<K: Sink>(net: &Net, line: &mut LineBuffer, sink: &mut K) -> Result<(), Failed>
+    requires { is_finished net.now.network ≡ true }
+    ensures ok { OnOk result (Appends (K.written sink.old) (K.written sink.new) (text_of_net net.now)) }
+    ensures err { OnErr result (AppendsPrefix (K.written sink.old) (K.written sink.new) (text_of_net net.now)) }
+    ensures cause { HasCause (K.faults sink.old) (K.faults sink.new) result }
+{
+    write_answers(net.manager(), line, sink)?;
+    render_rounds(line, net.rounds());
+    write_piece(sink, line.bytes())
+}
+
+/// Writes the lines of a manager's answers, which are all there.
+fn write_answers<K: Sink>(
+    manager: &Manager,
+    line: &mut LineBuffer,
+    sink: &mut K,
+) -> Result<(), Failed>
+    requires notes { AreNotes manager.now.state }
+    requires done { is_done manager.now.state ≡ true }
+    ensures ok { OnOk result (Appends (K.written sink.old) (K.written sink.new) (answer_lines manager.now.state.script manager.now.state.answers)) }
+    ensures err { OnErr result (AppendsPrefix (K.written sink.old) (K.written sink.new) (answer_lines manager.now.state.script manager.now.state.answers)) }
+    ensures cause { HasCause (K.faults sink.old) (K.faults sink.new) result }
+{
+    for place in 0..manager.script().len() {
+        render_place(line, manager, place);
+        write_piece(sink, line.bytes())?;
+    }
+    Ok(())
+}
+
+/// The line of the answer at a place of the script, which is there.
+fn render_place(line: &mut LineBuffer, manager: &Manager, place: u32)
+    requires notes { AreNotes manager.now.state }
+    requires done { is_done manager.now.state ≡ true }
+    requires within { place < length manager.now.state.script }
+    requires script { IsScript manager.now.state.script }
+    ensures { line.new ≡ line_at manager.now.state.script manager.now.state.answers place }
+{
+    match manager.answer(place) {
+        Some(answer) => render_answer(line, MANAGER, manager.script().txn(place), answer),
+        None => unreachable!(),
+    }
+}
