@@ -6,3 +6,4 @@ pub mod TextLaws
 mod KnownInputs
 mod KnownTexts
 pub mod RunLaws
+pub mod CallLaws

@@ -8,3 +8,4 @@ pub mod Document
 pub mod Text
 pub mod Words
 pub mod Outcome
+pub mod Call

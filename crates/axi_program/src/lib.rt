@@ -16,6 +16,7 @@ mod status;
 #[cfg(test)]
 mod tests;
 mod texts;
+mod top;
 mod traffic;
 mod words;
 
@@ -32,4 +33,5 @@ pub use outside::write_all::write_piece;
 pub use status::{Refusal, Status};
 pub use texts::{render_refusal, render_rounds};
 pub use words::are_taken;
+pub use top::axinet;
 pub use traffic::{Access, TrafficFault, TrafficLine, read_line, read_traffic};
