@@ -27,32 +27,32 @@ outcome-refuses input refusal refused = ap (λ (o : Option Refusal). outcome_by 
 module _ {S K : Type 0} (left : S → Option (List ℕ)) (reading : S → ℕ) (written : K → Option (List ℕ)) (writing : K → ℕ) (source source' : S) (sink sink' : K) where
   -- what is said of an outcome that every told input has
   came-by :
-    (outcome : Outcome) (status : Status) → IfSome (left source) (λ input. outcome ≡ input_outcome input) → Concludes written writing outcome sink sink' status →
-    Came left reading written writing source source' sink sink' status
+      (outcome : Outcome) (status : Status) → IfSome (left source) (λ input. outcome ≡ input_outcome input) → Concludes written writing outcome sink sink' status →
+      Came left reading written writing source source' sink sink' status
   came-by outcome status is concludes =
       let go : (o : Option (List ℕ)) → IfSome o (λ input. outcome ≡ input_outcome input) → IfSome o (λ input. Concludes written writing (input_outcome input) sink sink' status) =
-          λ o. elim o as (λ o. IfSome o (λ input. outcome ≡ input_outcome input) → IfSome o (λ input. Concludes written writing (input_outcome input) sink sink' status)) [
-            None ↦ λ same. tt
-          | Some input ↦ λ same. subst (λ (w : Outcome). Concludes written writing w sink sink' status) same concludes
-          ]
+      λ o. elim o as (λ o. IfSome o (λ input. outcome ≡ input_outcome input) → IfSome o (λ input. Concludes written writing (input_outcome input) sink sink' status)) [
+        | None ↦ λ same. tt
+        | Some input ↦ λ same. subst (λ (w : Outcome). Concludes written writing w sink sink' status) same concludes
+      ]
       in go (left source) is
 
   pub whole-outcome : (text : List ℕ) → IsWhole (left source) (left source') text → IfSome (left source) (λ input. input_outcome text ≡ input_outcome input)
   whole-outcome text whole =
       let go : (o : Option (List ℕ)) → IsWhole o (left source') text → IfSome o (λ input. input_outcome text ≡ input_outcome input) =
-          λ o. elim o as (λ o. IsWhole o (left source') text → IfSome o (λ input. input_outcome text ≡ input_outcome input)) [ None ↦ λ w. tt | Some input ↦ λ w. ap input_outcome w.0 ]
+      λ o. elim o as (λ o. IsWhole o (left source') text → IfSome o (λ input. input_outcome text ≡ input_outcome input)) [ None ↦ λ w. tt | Some input ↦ λ w. ap input_outcome w.0 ]
       in go (left source) whole
 
   pub over-outcome : IsOver 65536 (left source) → IfSome (left source) (λ input. Refuses (not_built 0) ≡ input_outcome input)
   over-outcome over =
       let go : (o : Option (List ℕ)) → IsOver 65536 o → IfSome o (λ input. Refuses (not_built 0) ≡ input_outcome input) =
-          λ o. elim o as (λ o. IsOver 65536 o → IfSome o (λ input. Refuses (not_built 0) ≡ input_outcome input)) [ None ↦ λ w. tt | Some input ↦ λ w. outcome-refuses input (not_built 0) (refusal-over input w) ]
+      λ o. elim o as (λ o. IsOver 65536 o → IfSome o (λ input. Refuses (not_built 0) ≡ input_outcome input)) [ None ↦ λ w. tt | Some input ↦ λ w. outcome-refuses input (not_built 0) (refusal-over input w) ]
       in go (left source) over
 
   -- a call that concludes tells what it has to
   pub tells-by :
-    (outcome : Outcome) (status : Status) → IfSome (left source) (λ input. outcome ≡ input_outcome input) → Concludes written writing outcome sink sink' status →
-    Tells left reading written writing source source' sink sink' status
+      (outcome : Outcome) (status : Status) → IfSome (left source) (λ input. outcome ≡ input_outcome input) → Concludes written writing outcome sink sink' status →
+      Tells left reading written writing source source' sink sink' status
   tells-by outcome Done is concludes = came-by outcome Done is concludes
   tells-by outcome Usage is concludes = absurd concludes
   tells-by outcome (Refused refusal) is concludes = came-by outcome (Refused refusal) is concludes
@@ -65,20 +65,20 @@ module _ {S K : Type 0} (left : S → Option (List ℕ)) (reading : S → ℕ) (
   never-usage outcome status concludes is = subst (λ (s : Status). Concludes written writing outcome sink sink' s) is concludes
 
   complete-came :
-    (status : Status) → ((outcome : Outcome) → Concludes written writing outcome sink sink' status → status ≡ status_of outcome) → Came left reading written writing source source' sink sink' status →
-    IfSome (left source) (λ input. status ≡ status_of (input_outcome input))
+      (status : Status) → ((outcome : Outcome) → Concludes written writing outcome sink sink' status → status ≡ status_of outcome) → Came left reading written writing source source' sink sink' status →
+      IfSome (left source) (λ input. status ≡ status_of (input_outcome input))
   complete-came status own came =
       let go : (o : Option (List ℕ)) → IfSome o (λ input. Concludes written writing (input_outcome input) sink sink' status) → IfSome o (λ input. status ≡ status_of (input_outcome input)) =
-          λ o. elim o as (λ o. IfSome o (λ input. Concludes written writing (input_outcome input) sink sink' status) → IfSome o (λ input. status ≡ status_of (input_outcome input))) [
-            None ↦ λ c. tt
-          | Some input ↦ λ c. own (input_outcome input) c
-          ]
+      λ o. elim o as (λ o. IfSome o (λ input. Concludes written writing (input_outcome input) sink sink' status) → IfSome o (λ input. status ≡ status_of (input_outcome input))) [
+        | None ↦ λ c. tt
+        | Some input ↦ λ c. own (input_outcome input) c
+      ]
       in go (left source) came
 
   -- where no count rises, the status is the outcome's, or memory was wanting
   pub complete-by :
-    (status : Status) → Tells left reading written writing source source' sink sink' status → (status ≡ Usage → ⊥) → (Rose (reading source) (reading source') → ⊥) → (Rose (writing sink) (writing sink') → ⊥) →
-    IsComplete (left source) status
+      (status : Status) → Tells left reading written writing source source' sink sink' status → (status ≡ Usage → ⊥) → (Rose (reading source) (reading source') → ⊥) → (Rose (writing sink) (writing sink') → ⊥) →
+      IsComplete (left source) status
   complete-by Done tells used reads writes = inr (complete-came Done (λ outcome c. c.0) tells)
   complete-by Usage tells used reads writes = absurd (used refl)
   complete-by (Refused refusal) tells used reads writes = inr (complete-came (Refused refusal) (λ outcome c. c.0) tells)
@@ -91,13 +91,13 @@ module _ {S : Type 0} (left : S → Option (List ℕ)) (source source' : S) wher
   pub whole-read : (text : List ℕ) → IsWhole (left source) (left source') text → IsReadWhole left source source'
   whole-read text whole =
       let go : (o : Option (List ℕ)) → IsWhole o (left source') text → IfSome o (λ input. (left source' ≡ Some []) ⊎ (65536 < length input)) =
-          λ o. elim o as (λ o. IsWhole o (left source') text → IfSome o (λ input. (left source' ≡ Some []) ⊎ (65536 < length input))) [ None ↦ λ w. tt | Some input ↦ λ w. inl w.1 ]
+      λ o. elim o as (λ o. IsWhole o (left source') text → IfSome o (λ input. (left source' ≡ Some []) ⊎ (65536 < length input))) [ None ↦ λ w. tt | Some input ↦ λ w. inl w.1 ]
       in go (left source) whole
 
   pub over-read : IsOver 65536 (left source) → IsReadWhole left source source'
   over-read over =
       let go : (o : Option (List ℕ)) → IsOver 65536 o → IfSome o (λ input. (left source' ≡ Some []) ⊎ (65536 < length input)) =
-          λ o. elim o as (λ o. IsOver 65536 o → IfSome o (λ input. (left source' ≡ Some []) ⊎ (65536 < length input))) [ None ↦ λ w. tt | Some input ↦ λ w. inr w ]
+      λ o. elim o as (λ o. IsOver 65536 o → IfSome o (λ input. (left source' ≡ Some []) ⊎ (65536 < length input))) [ None ↦ λ w. tt | Some input ↦ λ w. inr w ]
       in go (left source) over
 
   pub reads-by : (status : Status) → IsReadWhole left source source' → ReadsWhole left source source' status

@@ -28,10 +28,10 @@ use Rattle.axi_program.specs.Transfers.{AppendsPrefix}
 pub item-at : (script : List ScriptItem) (place : ℕ) (txn : Txn) → option_map (λ (item : ScriptItem). item.txn) (slice_get script place) ≡ Some txn → (item : ScriptItem) × (slice_get script place ≡ Some item) × (item.txn ≡ txn)
 item-at script place txn told =
     let go : (o : Option ScriptItem) → slice_get script place ≡ o → option_map (λ (item : ScriptItem). item.txn) o ≡ Some txn → (item : ScriptItem) × (slice_get script place ≡ Some item) × (item.txn ≡ txn) =
-        λ o. elim o as (λ o. slice_get script place ≡ o → option_map (λ (item : ScriptItem). item.txn) o ≡ Some txn → (item : ScriptItem) × (slice_get script place ≡ Some item) × (item.txn ≡ txn)) [
-          None ↦ λ found none. absurd (cc)
-        | Some item ↦ λ found same. (item, found, ap (λ t. unwrap_or t txn) same)
-        ]
+    λ o. elim o as (λ o. slice_get script place ≡ o → option_map (λ (item : ScriptItem). item.txn) o ≡ Some txn → (item : ScriptItem) × (slice_get script place ≡ Some item) × (item.txn ≡ txn)) [
+      | None ↦ λ found none. absurd (cc)
+      | Some item ↦ λ found same. (item, found, ap (λ t. unwrap_or t txn) same)
+    ]
     in go (slice_get script place) refl told
 
 pub size-at : (script : List ScriptItem) (place : ℕ) (txn : Txn) → IsScript script → option_map (λ (item : ScriptItem). item.txn) (slice_get script place) ≡ Some txn → txn.request.size ≤ 7
@@ -62,8 +62,8 @@ not-missing (b ∷ answers) place all within missing =
 
 -- the line at a place
 pub line_at-is :
-  (script : List ScriptItem) (answers : List AnswerView) (place : ℕ) (item : ScriptItem) (a : AnswerView) → slice_get script place ≡ Some item → slice_get answers place ≡ Some a →
-  line_at script answers place ≡ answer_line manager_name item.txn a
+    (script : List ScriptItem) (answers : List AnswerView) (place : ℕ) (item : ScriptItem) (a : AnswerView) → slice_get script place ≡ Some item → slice_get answers place ≡ Some a →
+    line_at script answers place ≡ answer_line manager_name item.txn a
 unfolding line_at
 line_at-is [] answers place item a is told = absurd (cc)
 line_at-is (i ∷ script) [] place item a is told = absurd (cc)
@@ -71,8 +71,8 @@ line_at-is (i ∷ script) (b ∷ answers) zero item a is told = answer_lines-nex
 line_at-is (i ∷ script) (b ∷ answers) (suc place) item a is told = line_at-is script answers place item a is told
 
 pub lines-next :
-  (script : List ScriptItem) (answers : List AnswerView) (place : ℕ) → place < length script → place < length answers →
-  answer_lines (take (place + 1) script) (take (place + 1) answers) ≡ answer_lines (take place script) (take place answers) ++ line_at script answers place
+    (script : List ScriptItem) (answers : List AnswerView) (place : ℕ) → place < length script → place < length answers →
+    answer_lines (take (place + 1) script) (take (place + 1) answers) ≡ answer_lines (take place script) (take place answers) ++ line_at script answers place
 lines-next [] answers place within there = absurd (omega arith)
 lines-next (i ∷ script) [] place within there = absurd (omega arith)
 lines-next (i ∷ script) (b ∷ answers) place within there =
@@ -87,19 +87,21 @@ lines-front script answers zero = (answer_lines script answers, refl)
 lines-front [] answers (suc n) = ([], refl)
 lines-front (i ∷ script) [] (suc n) = ([], refl)
 lines-front (i ∷ script) (b ∷ answers) (suc n) =
-    let later = lines-front script answers n in
-    (later.0, ap (λ (text : List ℕ). answer_line manager_name i.txn b ++ text) later.1
-      ∙ sym (append_assoc (answer_line manager_name i.txn b) (answer_lines (take n script) (take n answers)) later.0))
+    let later = lines-front script answers n in (
+      later.0,
+      ap (λ (text : List ℕ). answer_line manager_name i.txn b ++ text) later.1
+          ∙ sym (append_assoc (answer_line manager_name i.txn b) (answer_lines (take n script) (take n answers)) later.0),
+    )
 
 -- a part of what comes next is a part of the whole
 pub prefix-later :
-  (first then last : Option (List ℕ)) (front next rest whole : List ℕ) → Appends first then front → AppendsPrefix then last next → whole ≡ (front ++ next) ++ rest → AppendsPrefix first last whole
+    (first then last : Option (List ℕ)) (front next rest whole : List ℕ) → Appends first then front → AppendsPrefix then last next → whole ≡ (front ++ next) ++ rest → AppendsPrefix first last whole
 prefix-later first then last front next rest whole before part is =
     let parts : whole ≡ front ++ (next ++ rest) = is ∙ append_assoc front next rest in
     let long : length whole ≡ length front + (length next + length rest) = ap length parts ∙ length-append front (next ++ rest) ∙ ap (λ (n : ℕ). length front + n) (length-append next rest) in
     let taken : take (length front + part.count) whole ≡ front ++ take part.count next =
-        ap (take (length front + part.count)) parts ∙ take-append-add front (next ++ rest) part.count
-        ∙ ap (λ (bytes : List ℕ). front ++ bytes) (take-append-le part.count next rest (omega (arith, part.proper))) in
+    ap (take (length front + part.count)) parts ∙ take-append-add front (next ++ rest) part.count
+    ∙ ap (λ (bytes : List ℕ). front ++ bytes) (take-append-le part.count next rest (omega (arith, part.proper))) in
     record {
       count = length front + part.count;
       proper = omega (arith, part.proper);

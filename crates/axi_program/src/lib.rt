@@ -32,6 +32,6 @@ pub use outside::standard::{StdinSource, StdoutSink};
 pub use outside::write_all::write_piece;
 pub use status::{Refusal, Status};
 pub use texts::{render_refusal, render_rounds};
-pub use words::are_taken;
 pub use top::axinet;
 pub use traffic::{Access, TrafficFault, TrafficLine, read_line, read_traffic};
+pub use words::are_taken;

@@ -12,18 +12,16 @@ ghost use Rattle.axi_program.specs.Outcome.{Concludes, line_at, run_outcome, tex
 ghost use Rattle.axi_program.specs.Text.{answer_lines};
 ghost use Rattle.axi_program.specs.Transfers.{AppendsPrefix};
 
-use std::alloc::Global;
-
-use manager_end::{Manager, Script};
-use net_rounds::Net;
-use plain_text::line_buffer::LineBuffer;
-
 use crate::answer_text::render_answer;
 use crate::outside::sink::Sink;
 use crate::outside::source::Failed;
 use crate::outside::write_all::write_piece;
 use crate::status::Status;
 use crate::texts::render_rounds;
+use manager_end::{Manager, Script};
+use net_rounds::Net;
+use plain_text::line_buffer::LineBuffer;
+use std::alloc::Global;
 
 /// The name of the built-in manager.
 const MANAGER: &str = "m";

@@ -20,3 +20,23 @@ fn inputs_are_read_or_refused(rt: HostRuntime) -> Result<(), Fail> {
     assert_eq!(rt; line.bytes(), b"rounds 1\n".as_slice());
     Ok(())
 }
+
+#[test]
+fn the_top_call_answers(rt: HostRuntime) -> Result<(), Fail> {
+    let alloc = rt.alloc();
+    let input = b"%%\nread m 1 0x10 4 incr 1\n".as_slice().to_vec(alloc)?;
+    let mut source = MemorySource::new(input, Vec::new(alloc), 5);
+    let mut sink = MemorySink::new(alloc, 100, Vec::new(alloc), 7)?;
+    let mut words = Vec::new(alloc);
+    words.push(String::from_str(alloc, "axinet")?)?;
+    let usage = axinet(alloc, &words, &mut source, &mut sink, &OpenGate);
+    assert_eq!(rt; usage, Status::Usage);
+    words.push(String::from_str(alloc, "run")?)?;
+    let done = axinet(alloc, &words, &mut source, &mut sink, &OpenGate);
+    assert_eq!(rt; done, Status::Done);
+    assert_eq!(rt;
+        sink.bytes(),
+        b"1 read m 1 4 okay:00000000\nrounds 4\n".as_slice()
+    );
+    Ok(())
+}

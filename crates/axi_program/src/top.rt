@@ -7,10 +7,6 @@ ghost use Rattle.axi_program.specs.Faults.{Rose};
 ghost use Rattle.axi_program.specs.Outcome.{Concludes, Outcome, Refuses, input_outcome};
 ghost use Rattle.axi_program.specs.Words.{are_taken as takes_words};
 
-use std::alloc::Global;
-
-use plain_text::line_buffer::LineBuffer;
-
 use crate::document::{DocumentFault, INPUT_LIMIT, read_document};
 use crate::outside::gate::Gate;
 use crate::outside::read_all::{InputFault, read_all};
@@ -21,6 +17,8 @@ use crate::run::run;
 use crate::status::{Refusal, Status};
 use crate::texts::render_refusal;
 use crate::words::are_taken;
+use plain_text::line_buffer::LineBuffer;
+use std::alloc::Global;
 
 /// Runs the document that the source holds and writes its answers to the sink, or the one line of
 /// its refusal. `words` are the program's name and `run`. The gate is for the parts of a phase,
@@ -44,10 +42,8 @@ pub fn axinet<S: Source, K: Sink, G: Gate>(
 
     // Where the words are taken and no count of faults rises, the status is that of the input's
     // outcome, or memory was wanting.
-    ensures complete {
-      takes_words (map string_bytes words.now) ≡ true → ¬ Rose (S.faults source.old) (S.faults source.new) → ¬ Rose (K.faults sink.old) (K.faults sink.new) →
-      IsComplete (S.left source.old) result
-    }
+    ensures complete { takes_words (map string_bytes words.now) ≡ true → ¬ Rose (S.faults source.old) (S.faults source.new) → ¬ Rose (K.faults sink.old) (K.faults sink.new) →
+        IsComplete (S.left source.old) result }
 
     // The counts of faults never fall.
     ensures reading { S.faults source.old ≤ S.faults source.new }

@@ -11,7 +11,7 @@ use Rattle.axi_program.proofs.run.render_place.Goals as goal
 
 -- the transaction's item, by the manager's own script
 told :
-  (c : goal.After-txn) → option_map (λ (item : ScriptItem). item.txn) (slice_get c.args.manager.now.state.script c.args.place) ≡ Some c.txn.result.now
+    (c : goal.After-txn) → option_map (λ (item : ScriptItem). item.txn) (slice_get c.args.manager.now.state.script c.args.place) ≡ Some c.txn.result.now
 told c = ap (λ script. option_map (λ (item : ScriptItem). item.txn) (slice_get script c.args.place)) (sym c.script.ensures) ∙ c.txn.ensures
 
 -- the answer, as it is noted

@@ -14,17 +14,15 @@ returns-then-not-run-clause-concludes g c =
 pub returns-in-Ok-write_run-clause-concludes : goal.returns-in-Ok-write_run-clause-concludes
 returns-in-Ok-write_run-clause-concludes g c =
     let ran = has-run c.args.script c.in-Ok-build.net c.run.new.self c.in-Ok-build.ensures c.run.ensures.rounds c.run.ensures.network in
-    let answers = outcome-answers c.args.script c.run.new.self ran (sym c.run.ensures.finished ∙ c.if-not-run.false) in
-    (
+    let answers = outcome-answers c.args.script c.run.new.self ran (sym c.run.ensures.finished ∙ c.if-not-run.false) in (
       ap status_of (sym answers),
-      subst (λ (text : List ℕ). Appends (g.K.Sink.written c.args.sink.now) (g.K.Sink.written c.write_run.new.sink) text) (ap text_of (sym answers)) c.in-Ok-write_run.ensures.ok
+      subst (λ (text : List ℕ). Appends (g.K.Sink.written c.args.sink.now) (g.K.Sink.written c.write_run.new.sink) text) (ap text_of (sym answers)) c.in-Ok-write_run.ensures.ok,
     )
 
 pub returns-clause-concludes : goal.returns-clause-concludes
 returns-clause-concludes g c =
     let ran = has-run c.args.script c.in-Ok-build.net c.run.new.self c.in-Ok-build.ensures c.run.ensures.rounds c.run.ensures.network in
-    let answers = outcome-answers c.args.script c.run.new.self ran (sym c.run.ensures.finished ∙ c.if-not-run.false) in
-    (
+    let answers = outcome-answers c.args.script c.run.new.self ran (sym c.run.ensures.finished ∙ c.if-not-run.false) in (
       c.in-Err-write_run.ensures.cause.failed,
-      subst (λ (text : List ℕ). AppendsPrefix (g.K.Sink.written c.args.sink.now) (g.K.Sink.written c.write_run.new.sink) text) (ap text_of (sym answers)) c.in-Err-write_run.ensures.err
+      subst (λ (text : List ℕ). AppendsPrefix (g.K.Sink.written c.args.sink.now) (g.K.Sink.written c.write_run.new.sink) text) (ap text_of (sym answers)) c.in-Err-write_run.ensures.err,
     )

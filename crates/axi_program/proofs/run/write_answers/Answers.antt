@@ -19,8 +19,8 @@ returns-in_err-write_piece-clause-err g c =
     let piece : c.bytes.result.now ≡ line_at s.script s.answers n = c.bytes.ensures ∙ c.render_place.ensures in
     let part = subst (λ (bytes : List ℕ). AppendsPrefix (g.K.Sink.written c.loop-place.sink) (g.K.Sink.written c.write_piece.new.sink) bytes) piece c.in_err-write_piece.ensures.err in
     on-err c.from_residual.result _
-      (prefix-later (g.K.Sink.written c.args.sink.now) (g.K.Sink.written c.loop-place.sink) (g.K.Sink.written c.write_piece.new.sink)
-        (answer_lines (take n s.script) (take n s.answers)) (line_at s.script s.answers n) front.0 (answer_lines s.script s.answers) c.loop-place.invariant.0 part whole)
+    (prefix-later (g.K.Sink.written c.args.sink.now) (g.K.Sink.written c.loop-place.sink) (g.K.Sink.written c.write_piece.new.sink)
+    (answer_lines (take n s.script) (take n s.answers)) (line_at s.script s.answers n) front.0 (answer_lines s.script s.answers) c.loop-place.invariant.0 part whole)
 
 pub loop-place-preserved : goal.loop-place-preserved
 loop-place-preserved g c =
@@ -32,10 +32,9 @@ loop-place-preserved g c =
     let piece : c.bytes.result.now ≡ line_at s.script s.answers n = c.bytes.ensures ∙ c.render_place.ensures in
     let line = subst (λ (bytes : List ℕ). Appends (g.K.Sink.written c.loop-place.sink) (g.K.Sink.written c.write_piece.new.sink) bytes) piece c.in_ok-write_piece.ensures.ok in
     let all = Appends-trans (g.K.Sink.written c.args.sink.now) (g.K.Sink.written c.loop-place.sink) (g.K.Sink.written c.write_piece.new.sink)
-        (answer_lines (take n s.script) (take n s.answers)) (line_at s.script s.answers n) c.loop-place.invariant.0 line in
+    (answer_lines (take n s.script) (take n s.answers)) (line_at s.script s.answers n) c.loop-place.invariant.0 line in
     let faults = c.loop-place.invariant.1 in
-    let stays = c.in_ok-write_piece.ensures.cause.stays in
-    (
+    let stays = c.in_ok-write_piece.ensures.cause.stays in (
       subst (λ (text : List ℕ). Appends (g.K.Sink.written c.args.sink.now) (g.K.Sink.written c.write_piece.new.sink) text) (sym (lines-next s.script s.answers n within there)) all,
-      omega arith
+      omega arith,
     )

@@ -12,13 +12,13 @@ concludes-over : (g : given.Over) (c : goal.After-refuse g) → Concludes g.K.Si
 concludes-over g c = subst (λ (r : Refusal). Concludes g.K.Sink.written g.K.Sink.faults (Refuses r) c.args.sink.now c.refuse.new.sink c.refuse.result) c.not_built.ensures c.refuse.ensures.concludes
 
 tells-over :
-  (g : given.Over) (c : goal.After-refuse g) →
-  Tells g.S.Source.left g.S.Source.faults g.K.Sink.written g.K.Sink.faults c.args.source.now c.read_all.new.source c.args.sink.now c.refuse.new.sink c.refuse.result
+    (g : given.Over) (c : goal.After-refuse g) →
+    Tells g.S.Source.left g.S.Source.faults g.K.Sink.written g.K.Sink.faults c.args.source.now c.read_all.new.source c.args.sink.now c.refuse.new.sink c.refuse.result
 tells-over g c =
     tells-by g.S.Source.left g.S.Source.faults g.K.Sink.written g.K.Sink.faults c.args.source.now c.read_all.new.source c.args.sink.now c.refuse.new.sink (Refuses (not_built 0)) c.refuse.result
-      (over-outcome g.S.Source.left g.S.Source.faults g.K.Sink.written g.K.Sink.faults c.args.source.now c.read_all.new.source c.args.sink.now c.refuse.new.sink
-        (c.in-Err-TooLong.ensures.too_long (ap Err c.in-Err-TooLong.field-0-is)))
-      (concludes-over g c)
+    (over-outcome g.S.Source.left g.S.Source.faults g.K.Sink.written g.K.Sink.faults c.args.source.now c.read_all.new.source c.args.sink.now c.refuse.new.sink
+    (c.in-Err-TooLong.ensures.too_long (ap Err c.in-Err-TooLong.field-0-is)))
+    (concludes-over g c)
 
 pub returns-in-Err-TooLong-clause-tells : goal.returns-in-Err-TooLong-clause-tells
 returns-in-Err-TooLong-clause-tells g c = tells-over g c
@@ -27,5 +27,5 @@ pub returns-in-Err-TooLong-clause-complete : goal.returns-in-Err-TooLong-clause-
 returns-in-Err-TooLong-clause-complete g c =
     λ takes reads writes.
     complete-by g.S.Source.left g.S.Source.faults g.K.Sink.written g.K.Sink.faults c.args.source.now c.read_all.new.source c.args.sink.now c.refuse.new.sink c.refuse.result (tells-over g c)
-      (never-usage g.S.Source.left g.S.Source.faults g.K.Sink.written g.K.Sink.faults c.args.source.now c.read_all.new.source c.args.sink.now c.refuse.new.sink (Refuses (not_built 0)) c.refuse.result (concludes-over g c))
-      reads writes
+    (never-usage g.S.Source.left g.S.Source.faults g.K.Sink.written g.K.Sink.faults c.args.source.now c.read_all.new.source c.args.sink.now c.refuse.new.sink (Refuses (not_built 0)) c.refuse.result (concludes-over g c))
+    reads writes

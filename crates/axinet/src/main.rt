@@ -1,0 +1,44 @@
+//! The program: the words, the streams and the exit code of the process around the top call.
+#![tactic(auto)]
+
+use std::env::{self, Env};
+use std::io;
+use std::process::ExitCode;
+
+use axi_program::{OpenGate, Status, StdinSource, StdoutSink, axinet};
+
+/// What the top call answers of this process's words and streams. Words that can't be had as text
+/// are none that the program takes.
+fn call(rt: &(impl Alloc<A = std::alloc::Global> + Env + Input + Print)) -> Status {
+    let words = match env::args(rt) {
+        Ok(words) => words,
+        Err(_) => return Status::Usage,
+    };
+    let words = match words.collect::<Vec<String>>(rt.alloc()) {
+        Ok(words) => words,
+        Err(_) => return Status::NoMemory,
+    };
+    let mut source = StdinSource::new(rt.reader());
+    let mut sink = StdoutSink::new(io::writer(rt));
+    axinet(rt.alloc(), &words, &mut source, &mut sink, &OpenGate)
+}
+
+/// The line that a status has on standard error, where it has one.
+fn complaint(status: &Status) -> Option<&'static str> {
+    match status {
+        Status::Usage => Some("usage: axinet run"),
+        Status::ReadFault => Some("axinet: read failed"),
+        Status::WriteFault => Some("axinet: write failed"),
+        Status::NoMemory => Some("axinet: out of memory"),
+        Status::Done | Status::Refused(_) | Status::Unfinished => None,
+    }
+}
+
+fn main(rt: HostRuntime) -> ExitCode {
+    let status = call(&rt);
+    if let Some(line) = complaint(&status) {
+        // Where standard error fails there is nobody left to tell.
+        let _ = rt.eprintln(line);
+    }
+    ExitCode::from(status.code())
+}
