@@ -1,11 +1,10 @@
 //! The program: the words, the streams and the exit code of the process around the top call.
 #![tactic(auto)]
 
+use axi_program::{OpenGate, Status, StdinSource, StdoutSink, axinet};
 use std::env::{self, Env};
 use std::io;
 use std::process::ExitCode;
-
-use axi_program::{OpenGate, Status, StdinSource, StdoutSink, axinet};
 
 /// What the top call answers of this process's words and streams. Words that can't be had as text
 /// are none that the program takes.
