@@ -2,6 +2,7 @@
 
 use super::*;
 use plain_text::line_buffer::LineBuffer;
+use std::process::Abort;
 use std::test::Fail;
 
 #[test]
@@ -21,22 +22,66 @@ fn inputs_are_read_or_refused(rt: HostRuntime) -> Result<(), Fail> {
     Ok(())
 }
 
-#[test]
-fn the_top_call_answers(rt: HostRuntime) -> Result<(), Fail> {
+/// An input of the program, what the top call answers of it, and what it writes.
+#[derive(Clone, Copy)]
+struct Row {
+    input: &'static [u8],
+    status: Status,
+    written: &'static [u8],
+}
+
+fn a_write_and_a_read() -> Row {
+    Row {
+        input: b"%%\nwrite m 1 0x10 4 incr 11223344\nwait m\nread m 2 0x10 4 incr 1\n",
+        status: Status::Done,
+        written: b"1 write m 1 5 okay\n2 read m 6 9 okay:11223344\nrounds 9\n",
+    }
+}
+
+fn no_traffic() -> Row {
+    Row {
+        input: b"%%",
+        status: Status::Done,
+        written: b"rounds 0\n",
+    }
+}
+
+fn a_longer_burst() -> Row {
+    Row {
+        input: b"%%\nread m 1 0x10 4 incr 2\n",
+        status: Status::Refused(Refusal::not_built(1)),
+        written: b"refused 23 NotBuilt 1\n",
+    }
+}
+
+fn no_separator() -> Row {
+    Row {
+        input: b"read m 1 0x10 4 incr 1\n",
+        status: Status::Refused(Refusal::no_separator()),
+        written: b"refused 3 NoSeparator\n",
+    }
+}
+
+/// Fails where the top call answers or writes anything else than a row has.
+fn compare(rt: &(impl Alloc<A = std::alloc::Global> + Abort), row: &Row) -> Result<(), Fail> {
     let alloc = rt.alloc();
-    let input = b"%%\nread m 1 0x10 4 incr 1\n".as_slice().to_vec(alloc)?;
-    let mut source = MemorySource::new(input, Vec::new(alloc), 5);
+    let mut source = MemorySource::new(row.input.to_vec(alloc)?, Vec::new(alloc), 5);
     let mut sink = MemorySink::new(alloc, 100, Vec::new(alloc), 7)?;
     let mut words = Vec::new(alloc);
     words.push(String::from_str(alloc, "axinet")?)?;
     let usage = axinet(alloc, &words, &mut source, &mut sink, &OpenGate);
     assert_eq!(rt; usage, Status::Usage);
     words.push(String::from_str(alloc, "run")?)?;
-    let done = axinet(alloc, &words, &mut source, &mut sink, &OpenGate);
-    assert_eq!(rt; done, Status::Done);
-    assert_eq!(rt;
-        sink.bytes(),
-        b"1 read m 1 4 okay:00000000\nrounds 4\n".as_slice()
-    );
+    let status = axinet(alloc, &words, &mut source, &mut sink, &OpenGate);
+    assert_eq!(rt; status, row.status);
+    assert_eq!(rt; sink.bytes(), row.written);
     Ok(())
+}
+
+#[test]
+fn the_top_call_answers(rt: HostRuntime) -> Result<(), Fail> {
+    compare(&rt, &a_write_and_a_read())?;
+    compare(&rt, &no_traffic())?;
+    compare(&rt, &a_longer_burst())?;
+    compare(&rt, &no_separator())
 }
