@@ -3,8 +3,10 @@ pub mod AnswerInside
 pub mod Beats
 pub mod Laws
 pub mod ManagerInside
+pub mod ManagerOrder
 pub mod ManagerState
 pub mod ManagerTable
+pub mod ManagerTrail
 pub mod Placed
 pub mod Script
 pub mod ScriptInside

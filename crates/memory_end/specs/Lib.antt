@@ -1,9 +1,11 @@
+pub mod Accesses
 pub mod Beats
 pub mod Events
 pub mod Laws
 pub mod MemoryInside
 pub mod MemoryState
 pub mod MemoryTable
+pub mod MemoryTrail
 pub mod Status
 pub mod Store
 pub mod StoreInside

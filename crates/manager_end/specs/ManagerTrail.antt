@@ -1,0 +1,112 @@
+-- What a manager has passed on its link, and what its state has to do with it (Arm IHI 0022, ordering model).
+use Rattle.std.specs.Prelude.{◌≡◌, ◌↔◌, ◌<◌, ◌-◌, ◌^◌, ◌∷◌, [], ℕ, suc, List, Bool, true, false, IsTrue, All, AllPairs, Contains, length, map, take, if◌then◌else◌}
+use Rattle.axi_beats.specs.Word.{IsBusWidth, IsWholeWord}
+use Rattle.axi_link.specs.LinkView.{LinkView}
+use Rattle.axi_trail.specs.LinkContracts.{Asks, Answers, without_id}
+use Rattle.axi_trail.specs.Schedule.{Schedule, Share, Progress, SameChain, bytes_on}
+use Rattle.axi_trail.specs.Trail.{Beats, no_beats, joined, moved_above}
+use Rattle.axi_trail.specs.Waiting.{held, request_of}
+use Rattle.axi_trail.specs.Words.{number_of_address, number_of_response, number_of_read_data}
+use Rattle.flight.specs.Entries.{of_key}
+use Rattle.manager_end.specs.Beats.{data_of, request_of as request_of_item}
+use Rattle.manager_end.specs.ManagerOrder.{AreInOrder, IsAt, note_at}
+use Rattle.manager_end.specs.ManagerState.{ManagerState, IsManager, new_manager, writes_of, reads_of}
+use Rattle.manager_end.specs.ManagerTable.{manager_next, manager_out}
+use Rattle.manager_end.specs.Script.{ScriptItem, IsScript}
+use Rattle.manager_end.specs.declared.entry.Entry.{Entry}
+
+-- the shares of a direction
+abbrev pub shares_of : Schedule → Bool → ℕ → Share
+shares_of plan write = if write then plan.writes else plan.reads
+
+-- The schedule of the link below a manager has this transaction as it is: as one request, with its own data, one
+-- response for each beat that is answered, and all lanes of the bus wanted.
+pub record HasItem (plan : Schedule) (bus : ℕ) (item : ScriptItem) : Type 0 where
+  pub parts : (shares_of plan item.txn.write item.txn.number).parts ≡ without_id (request_of_item item) ∷ []
+  pub write_data : item.txn.write ≡ true → (plan.writes item.txn.number).write_data ≡ (data_of item ∷ []) ∷ []
+  pub lanes : item.txn.write ≡ false → (plan.reads item.txn.number).lanes ≡ record { low = 0; high = bus - 1 } ∷ []
+  pub id_fits : item.txn.request.id < 2 ^ plan.id_width
+
+-- a transaction of this script, direction and ID
+pub record IsItsOwn (script : List ScriptItem) (write : Bool) (id number : ℕ) : Type 0 where
+  pub item : ScriptItem
+  pub among : Contains script item
+  pub direction : item.txn.write ≡ write
+  pub same_id : item.txn.request.id ≡ id
+  pub same_number : item.txn.number ≡ number
+
+-- The schedule of the link below a manager is that of its script: the transactions are numbered in their order, each
+-- is there as it is, and the chain of a transaction has the others of its direction and ID, and none from elsewhere.
+pub record IsPlanOf (plan : Schedule) (bus : ℕ) (script : List ScriptItem) : Type 0 where
+  pub numbered : AllPairs (λ (a b : ScriptItem). a.txn.number < b.txn.number) script
+  pub items : All (HasItem plan bus) script
+  pub chains :
+      All (λ (item : ScriptItem). (number : ℕ) → SameChain (shares_of plan item.txn.write) number item.txn.number →
+      IsItsOwn script item.txn.write item.txn.request.id number) script
+
+-- the requests that are held, where these transactions were issued and answers with these IDs have come
+abbrev pub held_items : List (ℕ × ScriptItem) → List ℕ → List (ℕ × ScriptItem)
+held_items issued ids = map request_of (held (λ (p : ℕ × ScriptItem). p.1.txn.request.len) (λ (p : ℕ × ScriptItem). p.1.txn.request.id) issued ids)
+
+-- the entry of an issued transaction
+abbrev pub entry_of : ℕ × ScriptItem → Entry
+entry_of p = record { place = p.0; id = p.1.txn.request.id }
+
+-- What is noted of a write: the responses that came for it, and nothing else.
+pub record IsWriteNote (s : ManagerState) (trail : Beats) (place : ℕ) (item : ScriptItem) : Type 0 where
+  pub issued : (0 < (note_at s place).issued) ↔ Contains (map number_of_address trail.aw) item.txn.number
+  pub responses : (note_at s place).resps ≡ map (λ b. b.resp) (of_key number_of_response item.txn.number trail.b)
+  pub bytes : (note_at s place).bytes ≡ []
+  pub answered : (0 < (note_at s place).answered) ↔ (length (of_key number_of_response item.txn.number trail.b) ≡ 1)
+
+-- What is noted of a read: the responses and the bytes of the beats that came for it. It is answered when all have
+-- come.
+pub record IsReadNote (plan : Schedule) (s : ManagerState) (trail : Beats) (place : ℕ) (item : ScriptItem) : Type 0 where
+  pub issued : (0 < (note_at s place).issued) ↔ Contains (map number_of_address trail.ar) item.txn.number
+  pub responses : (note_at s place).resps ≡ map (λ r. r.resp) (of_key number_of_read_data item.txn.number trail.r)
+  pub bytes : (note_at s place).bytes ≡ bytes_on (of_key number_of_read_data item.txn.number trail.r) (plan.reads item.txn.number).lanes
+  pub answered : (0 < (note_at s place).answered) ↔ (length (of_key number_of_read_data item.txn.number trail.r) ≡ suc item.txn.request.len)
+
+-- What a manager's state has to do with its trail.
+pub record HasPassed (plan : Schedule) (s : ManagerState) (trail : Beats) : Type 0 where
+  -- it has put the first requests of each direction, and the data of the first writes
+  pub aw : trail.aw ≡ map (λ (p : ℕ × ScriptItem). request_of_item p.1) (take s.issued_writes (writes_of s.script))
+  pub w : trail.w ≡ map (λ (p : ℕ × ScriptItem). data_of p.1) (take s.sent_writes (writes_of s.script))
+  pub ar : trail.ar ≡ map (λ (p : ℕ × ScriptItem). request_of_item p.1) (take s.issued_reads (reads_of s.script))
+  -- those wait that are held
+  pub write_entries : s.write_entries ≡ map entry_of (held_items (take s.issued_writes (writes_of s.script)) (map (λ b. b.id) trail.b))
+  pub read_entries : s.read_entries ≡ map entry_of (held_items (take s.issued_reads (reads_of s.script)) (map (λ r. r.id) trail.r))
+  -- what is noted has come
+  pub write_notes : (place : ℕ) (item : ScriptItem) → IsAt s place item → item.txn.write ≡ true → IsWriteNote s trail place item
+  pub read_notes : (place : ℕ) (item : ScriptItem) → IsAt s place item → item.txn.write ≡ false → IsReadNote plan s trail place item
+
+-- What holds of a manager over its rounds and its trail.
+pub record ManagerKeeps (plan : Schedule) (rounds : ℕ) (s : ManagerState) (trail : Beats) : Type 0 where
+  pub is_manager : IsManager s
+  pub planned : IsPlanOf plan s.bus s.script
+  pub in_order : AreInOrder rounds s
+  pub passed : HasPassed plan s trail
+
+-- it holds of a manager that has issued nothing
+abbrev pub ManagerOpens : Type 0
+ManagerOpens =
+    (plan : Schedule) (script : List ScriptItem) (lower bus : ℕ) → IsScript script → IsBusWidth bus → All (λ (item : ScriptItem). IsWholeWord bus item.txn.request) script →
+    IsPlanOf plan bus script → ManagerKeeps plan 0 (new_manager script lower bus) no_beats
+
+-- the trail after a round
+abbrev pub manager_trail : List LinkView → ManagerState → Beats → Beats
+manager_trail links s trail = joined trail (moved_above (manager_out links s) links s.lower)
+
+-- it holds after one more round, where the link answers as it should
+abbrev pub ManagerSteps : Type 0
+ManagerSteps =
+    (plan : Schedule) (now : Progress) (rounds : ℕ) (links : List LinkView) (s : ManagerState) (trail : Beats) → ManagerKeeps plan rounds s trail →
+    Answers plan now (manager_trail links s trail) →
+    ManagerKeeps plan (suc rounds) (manager_next (suc rounds) links s) (manager_trail links s trail)
+
+-- a manager that keeps it asks as it should, where the issued ones are known to be issued
+abbrev pub ManagerAsks : Type 0
+ManagerAsks =
+    (plan : Schedule) (now : Progress) (rounds : ℕ) (s : ManagerState) (trail : Beats) → ManagerKeeps plan rounds s trail →
+    ((place : ℕ) (item : ScriptItem) → IsAt s place item → 0 < (note_at s place).issued → IsTrue (now.issued item.txn.number)) →
+    Asks plan now trail
