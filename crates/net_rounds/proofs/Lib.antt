@@ -1,4 +1,5 @@
 pub mod BoundLemmas
+pub mod BuiltInPlan
 pub mod Choosing
 pub mod NetLemmas
 pub mod NetworkLemmas
@@ -6,6 +7,7 @@ pub mod NotesLemmas
 pub mod Numbers
 pub mod Pair
 pub mod PairLemmas
+pub mod RunKeeps
 pub mod RunLemmas
 pub mod ScriptLemmas
 pub mod StoreStays

@@ -1,7 +1,10 @@
 pub mod BuiltIn
+pub mod Due
+pub mod History
 pub mod NetInside
 pub mod NetView
 pub mod Network
 pub mod Notes
 pub mod Numbered
+pub mod Right
 pub mod Run
