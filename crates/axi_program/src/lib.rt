@@ -9,6 +9,8 @@
 #![tactic(auto)]
 
 mod answer_text;
+#[cfg(test)]
+mod device_tests;
 mod document;
 mod outside;
 mod run;

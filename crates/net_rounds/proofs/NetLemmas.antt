@@ -1,5 +1,5 @@
 -- In every round of the built-in network both nodes may decide, and the link can make their moves.
-use Rattle.std.proofs.Common.{◌≡◌, ◌<◌, ◌+◌, ◌∷◌, [], ℕ, suc, List, length, take, drop, ◌++◌, refl, sym, ap, ap₂, ◌∙◌, subst, arith, lit<, lit≤, map, ◌^◌, ◌-◌}
+use Rattle.std.proofs.Common.{◌≡◌, ◌<◌, ◌+◌, ◌∷◌, [], ℕ, suc, List, length, take, drop, ◌++◌, Bool, true, false, refl, sym, ap, ap₂, ◌∙◌, subst, arith, lit<, lit≤, map, ◌^◌, ◌-◌}
 use Rattle.std.specs.Prelude.{All}
 use Rattle.std.proofs.lemmas.List.{take_at}
 use Rattle.std.proofs.lemmas.List.Elements.{All-from_recursion, All-nil}
@@ -9,7 +9,7 @@ use Rattle.axi_link.proofs.MovesLemmas.{fitting_moves}
 use Rattle.axi_link.specs.Acted.{Acted, opened}
 use Rattle.axi_link.specs.LinkView.{LinkView, empty_link}
 use Rattle.manager_end.proofs.ManagerLaws.{manager-begins, manager-fits}
-use Rattle.manager_end.specs.ManagerState.{ManagerState, new_manager}
+use Rattle.manager_end.specs.ManagerState.{IsManager, ManagerState, new_manager}
 use Rattle.manager_end.specs.ManagerTable.{manager_out}
 use Rattle.manager_end.specs.Script.{ScriptItem}
 use Rattle.memory_end.proofs.FitLemmas.{memory-fits}
@@ -20,13 +20,13 @@ use Rattle.net_nodes.specs.NodeTable.{CanNode, node_table}
 use Rattle.net_nodes.specs.declared.node.Node.{Node}
 use Rattle.net_nodes.specs.declared.node.Node.TheVariants.{Manager, Memory}
 use Rattle.net_rounds.proofs.BoundLemmas.{bound-words}
-use Rattle.net_rounds.proofs.NetworkLemmas.{after_rounds-built_in, built_in_pair, network_of, round-network_of}
-use Rattle.net_rounds.proofs.NotesLemmas.{few-begins, notes-are}
+use Rattle.net_rounds.proofs.NetworkLemmas.{after_rounds-built_in, built_in_pair, decide-network_of, network_of, pair_after-script}
+use Rattle.net_rounds.proofs.NotesLemmas.{AreFew, few-begins, notes-are}
 use Rattle.net_rounds.proofs.Pair.{Pair, decided, moved, pair_after}
 use Rattle.net_rounds.proofs.PairLemmas.{PairHolds, can-manager, can-memory, pair-holds}
 use Rattle.net_rounds.proofs.TouchedLemmas.{touched-ascending, touched-kept}
 use Rattle.net_rounds.specs.BuiltIn.{IsTraffic, bound, built_in, first_manager, ram, script_of, touched_lines}
-use Rattle.net_rounds.specs.NetView.{IsNet, NetView}
+use Rattle.net_rounds.specs.NetView.{IsNet, NetView, standing}
 use Rattle.net_rounds.specs.Network.{CanLink, Network, after_commit, after_decide, after_rounds, link_moved}
 use Rattle.net_rounds.specs.declared.ends.Ends.{Ends}
 use Rattle.net_rounds.specs.Notes.{AreNotes}
@@ -72,6 +72,10 @@ pair-can-commit p n holds =
       tt,
     )
 
+-- the number of the next round
+suc-is : (n : ℕ) → suc n ≡ n + 1
+suc-is n = omega arith
+
 -- a manager, and a memory below it
 pub record HasManager (nodes : List Node) : Type 0 where
   pub manager : Acted ManagerState
@@ -79,54 +83,91 @@ pub record HasManager (nodes : List Node) : Type 0 where
   pub nodes_are : nodes ≡ Manager manager ∷ Memory memory ∷ []
   pub notes : AreNotes manager.state
 
+-- the pair of a network: as its rounds left it, or with what its nodes have decided
+abbrev standing_pair : Bool → ℕ → Pair → Pair
+standing_pair false rounds p = pair_after rounds p
+standing_pair true rounds p = decided (suc rounds) (pair_after rounds p)
+
+standing-network : (script : List ScriptItem) (b : Bool) (rounds : ℕ) → standing b rounds (built_in script) ≡ network_of (standing_pair b rounds (built_in_pair script))
+standing-network script false rounds = after_rounds-built_in script rounds
+standing-network script true rounds = ap (after_decide (suc rounds)) (after_rounds-built_in script rounds) ∙ decide-network_of (pair_after rounds (built_in_pair script)) (suc rounds)
+
+-- the manager of a pair is one, whether the nodes have decided or not
+record HasGoodManager (p : Pair) : Type 0 where
+  manager : IsManager p.manager.state
+  few : All AreFew p.manager.state.answers
+
+standing-manager : (script : List ScriptItem) → IsTraffic script → (b : Bool) (rounds : ℕ) → HasGoodManager (standing_pair b rounds (built_in_pair script))
+standing-manager script traffic false rounds = let holds = rounds-hold script traffic rounds in record { manager = holds.manager; few = holds.few }
+standing-manager script traffic true rounds = let holds = rounds-hold script traffic (suc rounds) in record { manager = holds.manager; few = holds.few }
+
+standing-script : (script : List ScriptItem) (b : Bool) (rounds : ℕ) → (standing_pair b rounds (built_in_pair script)).manager.state.script ≡ script
+standing-script script false rounds = pair_after-script (built_in_pair script) rounds
+standing-script script true rounds = pair_after-script (built_in_pair script) (suc rounds)
+
 -- a network that runs is that of a pair for which all this holds
 module _ (v : NetView) (is : IsNet v) where
+  abbrev own_script : List ScriptItem
+  own_script = script_of (first_manager v.network.nodes)
+
   stood : Pair
-  stood = pair_after v.rounds (built_in_pair (script_of (first_manager v.network.nodes)))
+  stood = standing_pair v.decided v.rounds (built_in_pair own_script)
 
   net-is_pair : v.network ≡ network_of stood
   unfolding stood
-  net-is_pair = is.stands ∙ after_rounds-built_in (script_of (first_manager v.network.nodes)) v.rounds
+  net-is_pair = is.stands ∙ standing-network own_script v.decided v.rounds
 
-  stood-holds : PairHolds stood
+  -- where the nodes haven't decided, they may
+  pub net-can-decide : v.decided ≡ false → All (CanNode (v.rounds + 1) v.network.links) v.network.nodes
   unfolding stood
-  stood-holds = rounds-hold (script_of (first_manager v.network.nodes)) is.traffic v.rounds
+  net-can-decide open_yet =
+      let p = pair_after v.rounds (built_in_pair own_script) in
+      let same : v.network ≡ network_of p = net-is_pair ∙ ap (λ (b : Bool). network_of (standing_pair b v.rounds (built_in_pair own_script))) open_yet in
+      subst (λ (round : ℕ). All (CanNode round v.network.links) v.network.nodes) (suc-is v.rounds)
+      (subst (λ (net : Network). All (CanNode (suc v.rounds) net.links) net.nodes) (sym same) (pair-can-decide p v.rounds (rounds-hold own_script is.traffic v.rounds)))
 
-  next : v.rounds + 1 ≡ suc v.rounds
-  next = omega arith
-
-  pub net-can-decide : All (CanNode (v.rounds + 1) v.network.links) v.network.nodes
-  net-can-decide =
-      subst (λ (round : ℕ). All (CanNode round v.network.links) v.network.nodes) (sym next)
-      (subst (λ (net : Network). All (CanNode (suc v.rounds) net.links) net.nodes) (sym net-is_pair) (pair-can-decide stood v.rounds stood-holds))
-
-  pub net-can-commit : AllNumbered (CanLink v.network.ends (map (node_table (v.rounds + 1) v.network.links) v.network.nodes)) 0 v.network.links
-  net-can-commit =
-      subst (λ (round : ℕ). AllNumbered (CanLink v.network.ends (map (node_table round v.network.links) v.network.nodes)) 0 v.network.links) (sym next)
-      (subst (λ (net : Network). AllNumbered (CanLink net.ends (map (node_table (suc v.rounds) net.links) net.nodes)) 0 net.links) (sym net-is_pair) (pair-can-commit stood v.rounds stood-holds))
-
-  -- the script stays
-  after-script : script_of (first_manager (after_commit (after_decide (v.rounds + 1) v.network)).nodes) ≡ script_of (first_manager v.network.nodes)
+  -- where they have decided, the link can make their moves
+  pub net-can-commit : v.decided ≡ true → AllNumbered (CanLink v.network.ends v.network.nodes) 0 v.network.links
   unfolding stood
-  after-script =
-      ap (λ net. script_of (first_manager (after_commit (after_decide (v.rounds + 1) net)).nodes)) net-is_pair
-      ∙ ap (λ net. script_of (first_manager net.nodes)) (round-network_of stood (v.rounds + 1))
-      ∙ ap (λ net. script_of (first_manager net.nodes)) (sym net-is_pair)
+  net-can-commit begun =
+      let p = pair_after v.rounds (built_in_pair own_script) in
+      let same : v.network ≡ network_of (decided (suc v.rounds) p) = net-is_pair ∙ ap (λ (b : Bool). network_of (standing_pair b v.rounds (built_in_pair own_script))) begun in
+      subst (λ (net : Network). AllNumbered (CanLink net.ends net.nodes) 0 net.links) (sym same) (pair-can-commit p v.rounds (rounds-hold own_script is.traffic v.rounds))
 
-  pub net-steps : v.rounds < 2 ^ 63 - 1 → IsNet (record { network = after_commit (after_decide (v.rounds + 1) v.network); rounds = v.rounds + 1; most = v.most })
-  net-steps room =
-      let counted : v.rounds + 1 < 2 ^ 63 = omega arith in
-      let again = sym after-script in
+  -- the script is that of each state of the run
+  script-of : (b : Bool) (rounds : ℕ) → script_of (first_manager (standing b rounds (built_in own_script)).nodes) ≡ own_script
+  script-of b rounds = ap (λ (net : Network). script_of (first_manager net.nodes)) (standing-network own_script b rounds) ∙ standing-script own_script b rounds
+
+  -- it is a network that runs at each state of its run
+  pub net-stands : (b : Bool) (rounds : ℕ) → rounds < 2 ^ 63 → (b ≡ true → rounds < 2 ^ 63 - 1) → IsNet (record { network = standing b rounds (built_in own_script); rounds = rounds; decided = b; most = v.most })
+  net-stands b rounds counted begun =
+      let again = sym (script-of b rounds) in
       record {
-        stands =
-            ap (λ net. after_commit (after_decide (v.rounds + 1) net)) is.stands
-            ∙ subst (λ (round : ℕ). after_commit (after_decide round (after_rounds v.rounds (built_in (script_of (first_manager v.network.nodes))))) ≡ after_rounds round (built_in (script_of (first_manager v.network.nodes)))) (sym next) refl
-            ∙ ap (λ s. after_rounds (v.rounds + 1) (built_in s)) again;
+        stands = ap (λ (s : List ScriptItem). standing b rounds (built_in s)) again;
         traffic = subst (λ (s : List ScriptItem). IsTraffic s) again is.traffic;
         counted = counted;
+        begun = begun;
         bounded = is.bounded ∙ ap bound again;
         little = is.little;
       }
+
+  -- it is one after phase one
+  pub net-decides : v.decided ≡ false → v.rounds < 2 ^ 63 - 1 → IsNet (record { network = after_decide (v.rounds + 1) v.network; rounds = v.rounds; decided = true; most = v.most })
+  net-decides open_yet room =
+      let before : v.network ≡ after_rounds v.rounds (built_in own_script) = is.stands ∙ ap (λ (b : Bool). standing b v.rounds (built_in own_script)) open_yet in
+      let now : standing true v.rounds (built_in own_script) ≡ after_decide (v.rounds + 1) v.network =
+      ap (λ (round : ℕ). after_decide round (after_rounds v.rounds (built_in own_script))) (suc-is v.rounds) ∙ ap (after_decide (v.rounds + 1)) (sym before) in
+      subst (λ (net : Network). IsNet (record { network = net; rounds = v.rounds; decided = true; most = v.most })) now (net-stands true v.rounds is.counted (λ same. room))
+
+  -- and after phase two
+  pub net-commits : v.decided ≡ true → IsNet (record { network = after_commit v.network; rounds = v.rounds + 1; decided = false; most = v.most })
+  net-commits begun =
+      let room = is.begun begun in
+      let counted : v.rounds + 1 < 2 ^ 63 = omega arith in
+      let before : v.network ≡ after_decide (suc v.rounds) (after_rounds v.rounds (built_in own_script)) = is.stands ∙ ap (λ (b : Bool). standing b v.rounds (built_in own_script)) begun in
+      let now : standing false (v.rounds + 1) (built_in own_script) ≡ after_commit v.network =
+      ap (λ (round : ℕ). after_rounds round (built_in own_script)) (sym (suc-is v.rounds)) ∙ ap after_commit (sym before) in
+      subst (λ (net : Network). IsNet (record { network = net; rounds = v.rounds + 1; decided = false; most = v.most })) now (net-stands false (v.rounds + 1) counted (λ never. absurd (cc)))
 
   -- there is one link
   pub net-one_link : length v.network.links ≡ 1
@@ -136,23 +177,27 @@ module _ (v : NetView) (is : IsNet v) where
   -- its nodes are a manager and a memory
   pub net-nodes : HasManager v.network.nodes
   unfolding stood
-  net-nodes = record {
-    manager = stood.manager;
-    memory = stood.memory;
-    nodes_are = ap (λ net. net.nodes) net-is_pair;
-    notes = notes-are stood.manager.state stood-holds.manager stood-holds.few;
-  }
+  net-nodes =
+      let good = standing-manager own_script is.traffic v.decided v.rounds in
+      record {
+        manager = stood.manager;
+        memory = stood.memory;
+        nodes_are = ap (λ net. net.nodes) net-is_pair;
+        notes = notes-are stood.manager.state good.manager good.few;
+      }
 
--- the network after a round, from what the two phases leave
-pub network-after :
-    (net : Network) (round : ℕ) (nodes : List Node) (links : List LinkView) →
-    nodes ≡ map (node_table round net.links) net.nodes → links ≡ numbered (link_moved net.ends nodes) 0 net.links →
-    record { nodes = nodes; links = links; ends = net.ends } ≡ after_commit (after_decide round net)
-unfolding after_commit after_decide
-network-after net round nodes links decided moved =
-    let step : links ≡ numbered (link_moved net.ends (map (node_table round net.links) net.nodes)) 0 net.links =
-    moved ∙ ap (λ (ns : List Node). numbered (link_moved net.ends ns) 0 net.links) decided in
-    ap₂ (λ (ns : List Node) (ls : List LinkView). record { nodes = ns; links = ls; ends = net.ends }) decided step
+-- the network after a phase, from what it leaves
+pub network-decided :
+    (net : Network) (round : ℕ) (nodes : List Node) → nodes ≡ map (node_table round net.links) net.nodes →
+    record { nodes = nodes; links = net.links; ends = net.ends } ≡ after_decide round net
+unfolding after_decide
+network-decided net round nodes decided = ap (λ (ns : List Node). record { nodes = ns; links = net.links; ends = net.ends }) decided
+
+pub network-committed :
+    (net : Network) (links : List LinkView) → links ≡ numbered (link_moved net.ends net.nodes) 0 net.links →
+    record { nodes = net.nodes; links = links; ends = net.ends } ≡ after_commit net
+unfolding after_commit
+network-committed net links moved = ap (λ (ls : List LinkView). record { nodes = net.nodes; links = ls; ends = net.ends }) moved
 
 -- a list that was lent whole and is given back
 pub taken-back : {X : Type 0} (now before : List X) (count : ℕ) → length now ≡ count → take count (now ++ drop (length now) before) ≡ now
@@ -174,10 +219,10 @@ moved-by now lent links seen_ends ends seen_nodes nodes moved ends_are nodes_are
 
 -- a network before its first round
 abbrev pub made : List Node → List LinkView → List Ends → ℕ → NetView
-made nodes links ends most = record { network = record { nodes = nodes; links = links; ends = ends }; rounds = 0; most = most }
+made nodes links ends most = record { network = record { nodes = nodes; links = links; ends = ends }; rounds = 0; decided = false; most = most }
 
 abbrev pub made_of : Network → ℕ → NetView
-made_of net most = record { network = net; rounds = 0; most = most }
+made_of net most = record { network = net; rounds = 0; decided = false; most = most }
 
 -- the built-in network, from what it is made of
 pub net-made :
@@ -196,12 +241,12 @@ net-made script nodes links ends most m r l lines nodes_are m_is r_is lines_are 
     ∙ ap (made (Manager (opened (new_manager script 0 4)) ∷ Memory (opened (new_memory ram 0 (touched_lines script))) ∷ []) (empty_link 2 ∷ []) (record { upper = 0; lower = 1 } ∷ [])) most_is
 
 -- it stands at its opening state
-pub net-opens : (script : List ScriptItem) → IsTraffic script → length script < 2 ^ 32 → IsNet (record { network = built_in script; rounds = 0; most = bound script })
+pub net-opens : (script : List ScriptItem) → IsTraffic script → length script < 2 ^ 32 → IsNet (record { network = built_in script; rounds = 0; decided = false; most = bound script })
 unfolding built_in
 net-opens script traffic short =
     let all = bound-words script traffic.words in
     let little : bound script < 2 ^ 62 = omega arith in
-    record { stands = refl; traffic = traffic; counted = lit< tt; bounded = refl; little = little }
+    record { stands = refl; traffic = traffic; counted = lit< tt; begun = λ never. absurd (cc); bounded = refl; little = little }
 
 -- what a manager's node holds
 manager_in : Acted ManagerState → Node → Acted ManagerState

@@ -29,20 +29,29 @@ built_in_pair script = record {
   link = empty_link 2;
 }
 
--- two nodes over one link, of whatever kinds they are
-pair-round :
+-- two nodes over one link, of whatever kinds they are: what they decide, and what the link then moves
+pair-decided :
     (a b : Node) (l : LinkView) (round : ℕ) →
-    after_commit (after_decide round (record { nodes = a ∷ b ∷ []; links = l ∷ []; ends = record { upper = 0; lower = 1 } ∷ [] }))
-    ≡ record {
-      nodes = node_table round (l ∷ []) a ∷ node_table round (l ∷ []) b ∷ [];
-      links = link_after 0 l (node_out (node_table round (l ∷ []) a)) (node_out (node_table round (l ∷ []) b)) ∷ [];
-      ends = record { upper = 0; lower = 1 } ∷ [];
-    }
-unfolding after_commit after_decide link_moved
-pair-round a b l round = refl
+    after_decide round (record { nodes = a ∷ b ∷ []; links = l ∷ []; ends = record { upper = 0; lower = 1 } ∷ [] })
+    ≡ record { nodes = node_table round (l ∷ []) a ∷ node_table round (l ∷ []) b ∷ []; links = l ∷ []; ends = record { upper = 0; lower = 1 } ∷ [] }
+unfolding after_decide
+pair-decided a b l round = refl
+
+pair-committed :
+    (a b : Node) (l : LinkView) →
+    after_commit (record { nodes = a ∷ b ∷ []; links = l ∷ []; ends = record { upper = 0; lower = 1 } ∷ [] })
+    ≡ record { nodes = a ∷ b ∷ []; links = link_after 0 l (node_out a) (node_out b) ∷ []; ends = record { upper = 0; lower = 1 } ∷ [] }
+unfolding after_commit link_moved
+pair-committed a b l = refl
+
+pub decide-network_of : (p : Pair) (round : ℕ) → after_decide round (network_of p) ≡ network_of (decided round p)
+decide-network_of p round = pair-decided (Manager p.manager) (Memory p.memory) p.link round
+
+pub commit-network_of : (p : Pair) → after_commit (network_of p) ≡ network_of (moved p)
+commit-network_of p = pair-committed (Manager p.manager) (Memory p.memory) p.link
 
 pub round-network_of : (p : Pair) (round : ℕ) → after_commit (after_decide round (network_of p)) ≡ network_of (moved (decided round p))
-round-network_of p round = pair-round (Manager p.manager) (Memory p.memory) p.link round
+round-network_of p round = ap after_commit (decide-network_of p round) ∙ commit-network_of (decided round p)
 
 pub after_rounds-network_of : (p : Pair) (n : ℕ) → after_rounds n (network_of p) ≡ network_of (pair_after n p)
 after_rounds-network_of p zero = refl

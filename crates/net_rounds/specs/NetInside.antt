@@ -6,5 +6,6 @@ abbrev pub net_view : Inside → NetView
 net_view n = record {
   network = record { nodes = n.nodes.items; links = n.links.items; ends = n.ends.items };
   rounds = n.rounds;
+  decided = n.decided;
   most = n.most;
 }

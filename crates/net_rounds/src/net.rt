@@ -1,7 +1,7 @@
-//! `Net`, seen in clauses as the network as it stands, the rounds that led there and the most rounds
-//! of a run.
+//! `Net`, seen in clauses as the network as it stands, the rounds that led there, whether the nodes
+//! have decided in the next one, and the most rounds of a run.
 
-ghost use Rattle.std.specs.Prelude.{◌≡◌, ◌<◌, ◌+◌, ◌-◌, ◌^◌, [], ◌∷◌, IfOk, Some};
+ghost use Rattle.std.specs.Prelude.{◌≡◌, ◌<◌, ◌+◌, ◌-◌, ◌^◌, [], ◌∷◌, IfOk, Some, true, false};
 ghost use Rattle.manager_end.specs.ManagerState.{is_done};
 ghost use Rattle.net_rounds.specs.BuiltIn.{IsTraffic, bound, built_in, first_manager};
 ghost use Rattle.net_rounds.specs.Network.{after_commit, after_decide, after_rounds, is_finished};
@@ -36,6 +36,7 @@ pub struct Net {
     links: Vec<Link>,
     ends: Vec<Ends>,
     rounds: u64,
+    decided: bool,
     most: u64,
 }
 
@@ -55,7 +56,7 @@ impl Net {
     /// The built-in network with the transactions of `script`, before its first round.
     pub fn build(alloc: Global, script: Script) -> Result<Net, NoMemory>
         requires { IsTraffic script }
-        ensures { IfOk result (λ net. net ≡ record { network = built_in script; rounds = 0; most = bound script }) }
+        ensures { IfOk result (λ net. net ≡ record { network = built_in script; rounds = 0; decided = false; most = bound script }) }
     {
         let most = 12 * u64::from(script.len());
         let touched = touched_lines(alloc, &script)?;
@@ -73,6 +74,7 @@ impl Net {
             links: links_of(alloc, link)?,
             ends: ends_of(alloc)?,
             rounds: 0,
+            decided: false,
             most,
         })
     }
@@ -82,6 +84,13 @@ impl Net {
         ensures { result ≡ self.now.rounds }
     {
         self.rounds
+    }
+
+    /// Whether the nodes have decided in the round after these, whose moves aren't made yet.
+    pub fn decided(&self) -> bool
+        ensures { result ≡ self.now.decided }
+    {
+        self.decided
     }
 
     /// Whether every transaction is answered.
@@ -103,23 +112,50 @@ impl Net {
         }
     }
 
-    /// One round: every node decides, then every link moves.
-    pub fn round(&mut self)
-        requires { self.old.rounds < 2 ^ 63 - 1 }
-        ensures network { self.new.network ≡ after_commit (after_decide (self.old.rounds + 1) self.old.network) }
-        ensures rounds { self.new.rounds ≡ self.old.rounds + 1 }
+    /// Phase one of a round: every node decides, on the links as they stand.
+    pub fn decide(&mut self)
+        requires open { self.old.decided ≡ false }
+        requires room { self.old.rounds < 2 ^ 63 - 1 }
+        ensures network { self.new.network ≡ after_decide (self.old.rounds + 1) self.old.network }
+        ensures rounds { self.new.rounds ≡ self.old.rounds }
+        ensures decided { self.new.decided ≡ true }
         ensures most { self.new.most ≡ self.old.most }
     {
-        let round = self.rounds + 1;
-        decide_each(&mut self.nodes, round, &self.links);
+        decide_each(&mut self.nodes, self.rounds + 1, &self.links);
+        self.decided = true;
+    }
+
+    /// Phase two: every link makes the moves that its two nodes decided.
+    pub fn commit(&mut self)
+        requires { self.old.decided ≡ true }
+        ensures network { self.new.network ≡ after_commit self.old.network }
+        ensures rounds { self.new.rounds ≡ self.old.rounds + 1 }
+        ensures decided { self.new.decided ≡ false }
+        ensures most { self.new.most ≡ self.old.most }
+    {
         commit_each(&mut self.links, 0, &self.ends, &self.nodes);
-        self.rounds = round;
+        self.rounds += 1;
+        self.decided = false;
+    }
+
+    /// One round: every node decides, then every link moves.
+    pub fn round(&mut self)
+        requires open { self.old.decided ≡ false }
+        requires room { self.old.rounds < 2 ^ 63 - 1 }
+        ensures network { self.new.network ≡ after_commit (after_decide (self.old.rounds + 1) self.old.network) }
+        ensures rounds { self.new.rounds ≡ self.old.rounds + 1 }
+        ensures decided { self.new.decided ≡ false }
+        ensures most { self.new.most ≡ self.old.most }
+    {
+        self.decide();
+        self.commit();
     }
 
     /// Rounds up to the first state in which every transaction is answered, and at most as many as
     /// the bound; whether every transaction is answered then.
     pub fn run(&mut self) -> bool
-        requires { self.old.rounds ≡ 0 }
+        requires rounds { self.old.rounds ≡ 0 }
+        requires open { self.old.decided ≡ false }
         ensures rounds { self.new.rounds ≡ run_length self.old.network self.old.most }
         ensures network { self.new.network ≡ after_rounds self.new.rounds self.old.network }
         ensures finished { result ≡ is_finished self.new.network }

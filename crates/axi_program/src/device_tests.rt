@@ -1,0 +1,87 @@
+//! A run over sources and sinks that fail, or that move one byte a call.
+
+use super::*;
+use std::alloc::Global;
+use std::process::Abort;
+use std::test::Fail;
+
+/// The input: a write, and a read of what it wrote.
+const INPUT: &[u8] = b"%%\nwrite m 1 0x10 4 incr 11223344\nwait m\nread m 2 0x10 4 incr 1\n";
+
+/// The lines of its run, and how many bytes of them stand after each line.
+const TEXT: &[u8] = b"1 write m 1 5 okay\n2 read m 6 9 okay:11223344\nrounds 9\n";
+
+const ENDS: [usize; 4] = [0, 19, 46, 55];
+
+/// What the top call answers over this source and this sink, and what it writes.
+fn compare(
+    rt: &(impl Alloc<A = Global> + Abort),
+    source: &mut MemorySource,
+    sink: &mut MemorySink,
+    status: Status,
+    written: usize,
+) -> Result<(), Fail> {
+    let alloc = rt.alloc();
+    let mut words = Vec::new(alloc);
+    words.push(String::from_str(alloc, "axinet")?)?;
+    words.push(String::from_str(alloc, "run")?)?;
+    assert_eq!(rt; axinet(alloc, &words, source, sink, &OpenGate), status);
+    assert_eq!(rt; sink.bytes(), &TEXT[..written]);
+    Ok(())
+}
+
+/// The call of this number fails of a source that moves 16 bytes a call.
+fn source_that_fails(
+    rt: &(impl Alloc<A = Global> + Abort),
+    call: u64,
+    status: Status,
+    written: usize,
+) -> Result<(), Fail> {
+    let alloc = rt.alloc();
+    let mut source = MemorySource::new(INPUT.to_vec(alloc)?, [call].to_vec(alloc)?, 16);
+    let mut sink = MemorySink::new(alloc, 100, Vec::new(alloc), 100)?;
+    compare(rt, &mut source, &mut sink, status, written)
+}
+
+/// The call of this number fails of a sink that takes each piece whole.
+fn sink_that_fails(
+    rt: &(impl Alloc<A = Global> + Abort),
+    call: u64,
+    status: Status,
+    written: usize,
+) -> Result<(), Fail> {
+    let alloc = rt.alloc();
+    let mut source = MemorySource::new(INPUT.to_vec(alloc)?, Vec::new(alloc), 100);
+    let mut sink = MemorySink::new(alloc, 100, [call].to_vec(alloc)?, 100)?;
+    compare(rt, &mut source, &mut sink, status, written)
+}
+
+#[test]
+fn a_failing_source_is_a_read_fault(rt: HostRuntime) -> Result<(), Fail> {
+    // 64 bytes come in four calls, and the fifth one tells the end.
+    for call in 1..6 {
+        source_that_fails(&rt, call, Status::ReadFault, 0)?;
+    }
+    source_that_fails(&rt, 6, Status::Done, ENDS[3])
+}
+
+#[test]
+fn a_failing_sink_is_a_write_fault(rt: HostRuntime) -> Result<(), Fail> {
+    for call in 1..4 {
+        sink_that_fails(
+            &rt,
+            call,
+            Status::WriteFault,
+            ENDS[usize::from(call as u8) - 1],
+        )?;
+    }
+    sink_that_fails(&rt, 4, Status::Done, ENDS[3])
+}
+
+#[test]
+fn devices_of_one_byte_make_the_same_text(rt: HostRuntime) -> Result<(), Fail> {
+    let alloc = rt.alloc();
+    let mut source = MemorySource::new(INPUT.to_vec(alloc)?, Vec::new(alloc), 1);
+    let mut sink = MemorySink::new(alloc, 100, Vec::new(alloc), 1)?;
+    compare(&rt, &mut source, &mut sink, Status::Done, ENDS[3])
+}
