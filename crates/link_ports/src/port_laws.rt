@@ -1,0 +1,15 @@
+//! The port of a link breaks none of the rules of an AXI4 port.
+
+ghost use Rattle.link_ports.specs.Example.{ExamplePort};
+ghost use Rattle.link_ports.specs.PortLaws.{RoundsAreLegal, LinksAreLegal};
+
+/// A round, and the whole history of a link whose two nodes keep their contracts.
+pub fn laws_of_ports()
+    ensures round { RoundsAreLegal }
+    ensures history { LinksAreLegal }
+{}
+
+/// The port of a link through which a write goes.
+pub fn example_of_ports()
+    ensures { ExamplePort }
+{}
