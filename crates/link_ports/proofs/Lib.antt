@@ -1,1 +1,2 @@
 pub mod ExampleFacts
+pub mod ViewFacts
