@@ -1,2 +1,5 @@
+pub mod AddressFacts
+pub mod ChannelFacts
 pub mod ExampleFacts
+pub mod HandshakeFacts
 pub mod ViewFacts
