@@ -1,27 +1,34 @@
 -- Each channel keeps its rules.
-use Rattle.std.proofs.Common.{◌≡◌, ℕ, Bool, true, List, [], ◌∷◌, ◌++◌, Option, Some, None, take, refl, sym, ap, ◌∙◌, subst}
-use Rattle.axi_history.specs.PortHistory.{offer_of, waiting, on_aw, on_ar}
-use Rattle.axi_history.specs.declared.port.PortKind.{PortKind}
-use Rattle.axi_history.specs.declared.port.RawAddr.{RawAddr}
-use Rattle.axi_history.specs.PortRules.{same_address, handshake_rules, least_broken, rules_of_offer, address_rules}
+use Rattle.std.proofs.Common.{◌≡◌, ℕ, Bool, true, false, List, [], ◌∷◌, ◌++◌, Option, Some, None, map, take, refl, sym, ap, ◌∙◌, subst, lt-ltb}
+use Rattle.std.specs.Bool.{beq}
+use Rattle.std.specs.Prelude.{All, count_by, length, sum}
 use Rattle.axi_beats.specs.declared.beat.Addr.{Addr}
+use Rattle.axi_beats.specs.declared.beat.WBeat.{WBeat}
+use Rattle.axi_beats.specs.declared.beat.BBeat.{BBeat}
+use Rattle.axi_beats.specs.declared.beat.RBeat.{RBeat}
+use Rattle.axi_history.specs.PortHistory.{offer_of, waiting, transferred, on_aw, on_w, on_b, on_ar, on_r, ends_a_request}
+use Rattle.axi_history.specs.declared.port.PortKind.{PortKind}
+use Rattle.axi_history.specs.declared.port.PortRound.{PortRound}
+use Rattle.axi_history.specs.declared.port.RawAddr.{RawAddr}
+use Rattle.axi_history.specs.PortRules.{same_address, same_response, same_read, handshake_rules, least_broken, rules_of_offer, address_rules, response_rules, read_beat_rules, response_follows_write, read_beat_follows_address, read_last_is_on_the_last_beat, writes_of, responses_of, reads_of, read_beats_of}
 use Rattle.axi_link.specs.LinkView.{LinkView}
 use Rattle.axi_link.specs.Moves.{takes_from}
 use Rattle.axi_link.specs.Table.{link_of}
 use Rattle.axi_link.specs.declared.out.Out.{Out}
 use Rattle.axi_trail.specs.LinkContracts.{Asks, Requests}
 use Rattle.axi_trail.specs.Schedule.{Share, Schedule, Progress, Grows}
-use Rattle.axi_trail.specs.Trail.{IsLinkRun, seen_below, trail_above, trail_below}
-use Rattle.axi_trail.specs.Words.{Asked, Reply, write_asked, burst_asked, write_replies, read_replies}
+use Rattle.axi_trail.specs.Trail.{IsLinkRun, IsFifo, seen_below, trail_above, trail_below}
+use Rattle.axi_trail.specs.Words.{Asked, Reply, InOrderOfId, completed, mark_of_data, write_asked, burst_asked, write_reply, read_reply, write_replies, read_replies}
 use Rattle.axi_trail.proofs.SlackFacts.{asked_through_link}
 use Rattle.axi_trail.proofs.StreamFacts.{prefix_itself}
+use Rattle.axi_trail.proofs.TrailFacts.{links_are_queues}
 use Rattle.burst_address.specs.Legal.{IsLegal}
-use Rattle.link_ports.specs.PortLaws.{IsOffered, IsOfferedAgain, WriteAddressesAreLegal, ReadAddressesAreLegal}
-use Rattle.link_ports.specs.PortView.{seen_address, shown, port_round, port_history}
-use Rattle.link_ports.proofs.AddressFacts.{legal_kept, last_is_legal}
-use Rattle.link_ports.proofs.HandshakeFacts.{address_itself, handshake_kept}
-use Rattle.link_ports.proofs.ViewFacts.{waiting_are_offered_again}
-use Rattle.std.specs.Prelude.{All}
+use Rattle.link_ports.specs.PortLaws.{IsOffered, IsOfferedAgain, HasTransferred, WriteAddressesAreLegal, WriteResponsesAreLegal, ReadAddressesAreLegal, ReadDataIsLegal}
+use Rattle.link_ports.specs.PortView.{seen_address, seen_itself, seen_response, seen_read_beat, shown, port_round, port_history}
+use Rattle.link_ports.proofs.AddressFacts.{legal_kept, last_is_legal, never_exokay}
+use Rattle.link_ports.proofs.AnswerFacts.{response_follows, read_follows, read_ends}
+use Rattle.link_ports.proofs.HandshakeFacts.{address_itself, response_itself, read_itself, handshake_kept}
+use Rattle.link_ports.proofs.ViewFacts.{waiting_are_offered_again, transferred_are_trails}
 
 pub grows_itself : (now : Progress) → Grows now now
 grows_itself now = record { issued = λ t done. done; written = λ t done. done; filled = λ t. prefix_itself (now.filled t) }
@@ -61,3 +68,62 @@ read_addresses_are_legal plan now number kind links uppers lowers run legal n as
     let seen : Asks plan now (seen_below (trail_below lowers links n number) (link_of (links n) number)) = asked_below number kind links uppers lowers run n plan now asks in
     addresses_kept plan.reads plan.id_width kind.bus now.issued burst_asked (trail_below lowers links n number).ar (link_of (links n) number).ar (read_replies (trail_below lowers links n number))
     (takes_from number (lowers n).ar_take) (waiting on_ar (port_history number kind links uppers lowers n)) (again number kind links uppers lowers run n).ar seen.reads legal.reads
+
+-- ---- answers
+
+true_if_same : (a b : Bool) → a ≡ b → beq a b ≡ true
+true_if_same true true e = refl
+true_if_same false false e = refl
+true_if_same true false e = absurd (cc)
+true_if_same false true e = absurd (cc)
+
+-- the head of a queue of responses
+response_kept : (earlier : List PortRound) (addresses : List Addr) (beats : List WBeat) (taken queue : List BBeat) (takes : Bool) →
+    transferred on_aw earlier ≡ map seen_address addresses → transferred on_w earlier ≡ map seen_itself beats → transferred on_b earlier ≡ map seen_response taken →
+    InOrderOfId (map write_asked (completed addresses (map mark_of_data beats))) (map write_reply (taken ++ queue)) →
+    least_broken (rules_of_offer (offer_of (shown seen_response takes queue)) (response_rules earlier)) ≡ None
+response_kept earlier addresses beats taken [] takes on_aw' on_w' on_b' order = refl
+response_kept earlier addresses beats taken (b ∷ queue) takes on_aw' on_w' on_b' order =
+    let follows : response_follows_write earlier (seen_response b) ≡ true =
+    rw (on_aw', on_w', on_b') (lt-ltb (length (responses_of b.id (map seen_response taken))) (length (writes_of b.id (take (count_by (λ (w : WBeat). w.last) (map seen_itself beats)) (map seen_address addresses)))) (response_follows addresses beats taken b queue order)) in
+    rw (never_exokay b.resp, follows) refl
+
+-- the head of a queue of read data
+read_kept : (earlier : List PortRound) (addresses : List Addr) (taken queue : List RBeat) (takes : Bool) →
+    transferred on_ar earlier ≡ map seen_address addresses → transferred on_r earlier ≡ map seen_read_beat taken →
+    InOrderOfId (map burst_asked addresses) (map read_reply (taken ++ queue)) →
+    least_broken (rules_of_offer (offer_of (shown seen_read_beat takes queue)) (read_beat_rules earlier)) ≡ None
+read_kept earlier addresses taken [] takes on_ar' on_r' order = refl
+read_kept earlier addresses taken (r ∷ queue) takes on_ar' on_r' order =
+    let follows : read_beat_follows_address earlier (seen_read_beat r) ≡ true =
+    rw (on_ar', on_r') (lt-ltb (length (read_beats_of r.id (map seen_read_beat taken))) (sum (reads_of r.id (map seen_address addresses))) (read_follows addresses taken r queue order)) in
+    let ends : read_last_is_on_the_last_beat earlier (seen_read_beat r) ≡ true =
+    rw (on_ar', on_r') (true_if_same r.last (ends_a_request (reads_of r.id (map seen_address addresses)) (length (read_beats_of r.id (map seen_read_beat taken)))) (read_ends addresses taken r queue order)) in
+    rw (never_exokay r.resp, follows, ends) refl
+
+module _ (number : ℕ) (kind : PortKind) (links : ℕ → List LinkView) (uppers lowers : ℕ → Out) (run : IsLinkRun number links uppers lowers) (n : ℕ) where
+  passed : HasTransferred (port_history number kind links uppers lowers n) (trail_below lowers links n number) (trail_above uppers links n number)
+  passed = transferred_are_trails number kind links uppers lowers n
+
+  fifo : IsFifo (trail_above uppers links n number) (trail_below lowers links n number) (link_of (links n) number)
+  fifo = links_are_queues number links uppers lowers run n
+
+pub write_responses_are_legal : WriteResponsesAreLegal
+write_responses_are_legal plan now number kind links uppers lowers run n answers =
+    let has : HasTransferred (port_history number kind links uppers lowers n) (trail_below lowers links n number) (trail_above uppers links n number) = passed number kind links uppers lowers run n in
+    let order : InOrderOfId (map write_asked (completed (trail_below lowers links n number).aw (map mark_of_data (trail_below lowers links n number).w))) (map write_reply ((trail_above uppers links n number).b ++ (link_of (links n) number).b)) =
+    subst (λ (bs : List BBeat). InOrderOfId (map write_asked (completed (trail_below lowers links n number).aw (map mark_of_data (trail_below lowers links n number).w))) (map write_reply bs)) (fifo number kind links uppers lowers run n).b answers.answered_after_its_data in
+    handshake_kept same_response response_itself (waiting on_b (port_history number kind links uppers lowers n)) (offer_of (port_round number kind links uppers lowers n).b)
+    (rules_of_offer (offer_of (port_round number kind links uppers lowers n).b) (response_rules (port_history number kind links uppers lowers n))) (again number kind links uppers lowers run n).b
+    ∙ response_kept (port_history number kind links uppers lowers n) (trail_below lowers links n number).aw (trail_below lowers links n number).w (trail_above uppers links n number).b (link_of (links n) number).b
+    (takes_from number (uppers n).b_take) has.aw has.w has.b order
+
+pub read_data_is_legal : ReadDataIsLegal
+read_data_is_legal plan now number kind links uppers lowers run n answers =
+    let has : HasTransferred (port_history number kind links uppers lowers n) (trail_below lowers links n number) (trail_above uppers links n number) = passed number kind links uppers lowers run n in
+    let order : InOrderOfId (map burst_asked (trail_below lowers links n number).ar) (map read_reply ((trail_above uppers links n number).r ++ (link_of (links n) number).r)) =
+    subst (λ (rs : List RBeat). InOrderOfId (map burst_asked (trail_below lowers links n number).ar) (map read_reply rs)) (fifo number kind links uppers lowers run n).r answers.reads_in_order_of_id in
+    handshake_kept same_read read_itself (waiting on_r (port_history number kind links uppers lowers n)) (offer_of (port_round number kind links uppers lowers n).r)
+    (rules_of_offer (offer_of (port_round number kind links uppers lowers n).r) (read_beat_rules (port_history number kind links uppers lowers n))) (again number kind links uppers lowers run n).r
+    ∙ read_kept (port_history number kind links uppers lowers n) (trail_below lowers links n number).ar (trail_above uppers links n number).r (link_of (links n) number).r
+    (takes_from number (uppers n).r_take) has.ar has.r order

@@ -1,4 +1,5 @@
 pub mod AddressFacts
+pub mod AnswerFacts
 pub mod ChannelFacts
 pub mod ExampleFacts
 pub mod HandshakeFacts
