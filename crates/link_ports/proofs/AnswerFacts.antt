@@ -134,7 +134,7 @@ beats_of-writes [] = refl
 beats_of-writes (a ∷ addresses) = omega (arith, beats_of-writes addresses)
 
 -- a beat of write data is seen as it is
-itself : (beats : List WBeat) → map seen_itself beats ≡ beats
+pub itself : (beats : List WBeat) → map seen_itself beats ≡ beats
 itself [] = refl
 itself (w ∷ beats) = ap (λ t. w ∷ t) (itself beats)
 

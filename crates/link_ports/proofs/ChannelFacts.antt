@@ -1,34 +1,36 @@
 -- Each channel keeps its rules.
-use Rattle.std.proofs.Common.{◌≡◌, ℕ, Bool, true, false, List, [], ◌∷◌, ◌++◌, Option, Some, None, map, take, refl, sym, ap, ◌∙◌, subst, lt-ltb}
+use Rattle.std.proofs.Common.{◌≡◌, ℕ, suc, Bool, true, false, List, [], ◌∷◌, ◌++◌, Option, Some, None, map, take, refl, sym, ap, ◌∙◌, subst, lt-ltb}
 use Rattle.std.specs.Bool.{beq}
 use Rattle.std.specs.Prelude.{All, count_by, length, sum}
 use Rattle.axi_beats.specs.declared.beat.Addr.{Addr}
 use Rattle.axi_beats.specs.declared.beat.WBeat.{WBeat}
 use Rattle.axi_beats.specs.declared.beat.BBeat.{BBeat}
 use Rattle.axi_beats.specs.declared.beat.RBeat.{RBeat}
-use Rattle.axi_history.specs.PortHistory.{offer_of, waiting, transferred, on_aw, on_w, on_b, on_ar, on_r, ends_a_request}
+use Rattle.axi_history.specs.PortHistory.{offer_of, waiting, transferred, offered, on_aw, on_w, on_b, on_ar, on_r, ends_a_request}
 use Rattle.axi_history.specs.declared.port.PortKind.{PortKind}
 use Rattle.axi_history.specs.declared.port.PortRound.{PortRound}
 use Rattle.axi_history.specs.declared.port.RawAddr.{RawAddr}
-use Rattle.axi_history.specs.PortRules.{same_address, same_response, same_read, handshake_rules, least_broken, rules_of_offer, address_rules, response_rules, read_beat_rules, response_follows_write, read_beat_follows_address, read_last_is_on_the_last_beat, writes_of, responses_of, reads_of, read_beats_of}
+use Rattle.axi_history.specs.PortRules.{last_is_on_the_last_beat, strobes_are_on_valid_lanes, same_address, same_data, same_response, same_read, handshake_rules, least_broken, rules_of_offer, address_rules, response_rules, read_beat_rules, response_follows_write, read_beat_follows_address, read_last_is_on_the_last_beat, writes_of, responses_of, reads_of, read_beats_of}
 use Rattle.axi_link.specs.LinkView.{LinkView}
 use Rattle.axi_link.specs.Moves.{takes_from}
 use Rattle.axi_link.specs.Table.{link_of}
 use Rattle.axi_link.specs.declared.out.Out.{Out}
 use Rattle.axi_trail.specs.LinkContracts.{Asks, Requests}
 use Rattle.axi_trail.specs.Schedule.{Share, Schedule, Progress, Grows}
-use Rattle.axi_trail.specs.Trail.{IsLinkRun, IsFifo, seen_below, trail_above, trail_below}
+use Rattle.axi_trail.specs.Trail.{Beats, seen_above, IsLinkRun, IsFifo, seen_below, trail_above, trail_below}
 use Rattle.axi_trail.specs.Words.{Asked, Reply, InOrderOfId, completed, mark_of_data, write_asked, burst_asked, write_reply, read_reply, write_replies, read_replies}
 use Rattle.axi_trail.proofs.SlackFacts.{asked_through_link}
 use Rattle.axi_trail.proofs.StreamFacts.{prefix_itself}
 use Rattle.axi_trail.proofs.TrailFacts.{links_are_queues}
 use Rattle.burst_address.specs.Legal.{IsLegal}
-use Rattle.link_ports.specs.PortLaws.{IsOffered, IsOfferedAgain, HasTransferred, WriteAddressesAreLegal, WriteResponsesAreLegal, ReadAddressesAreLegal, ReadDataIsLegal}
+use Rattle.link_ports.specs.LegalPlan.{IsLegalPlan}
+use Rattle.link_ports.specs.PortLaws.{IsOffered, IsOfferedAgain, HasTransferred, HasOffered, WriteDataIsLegal, WriteAddressesAreLegal, WriteResponsesAreLegal, ReadAddressesAreLegal, ReadDataIsLegal}
 use Rattle.link_ports.specs.PortView.{seen_address, seen_itself, seen_response, seen_read_beat, shown, port_round, port_history}
 use Rattle.link_ports.proofs.AddressFacts.{legal_kept, last_is_legal, never_exokay}
-use Rattle.link_ports.proofs.AnswerFacts.{response_follows, read_follows, read_ends}
-use Rattle.link_ports.proofs.HandshakeFacts.{address_itself, response_itself, read_itself, handshake_kept}
-use Rattle.link_ports.proofs.ViewFacts.{waiting_are_offered_again, transferred_are_trails}
+use Rattle.link_ports.proofs.AnswerFacts.{itself, response_follows, read_follows, read_ends}
+use Rattle.link_ports.proofs.DataFacts.{lasts_kept, strobes_kept, left_at_first}
+use Rattle.link_ports.proofs.HandshakeFacts.{data_itself, address_itself, response_itself, read_itself, handshake_kept}
+use Rattle.link_ports.proofs.ViewFacts.{waiting_are_offered_again, transferred_are_trails, offered_are_trails}
 
 pub grows_itself : (now : Progress) → Grows now now
 grows_itself now = record { issued = λ t done. done; written = λ t done. done; filled = λ t. prefix_itself (now.filled t) }
@@ -127,3 +129,25 @@ read_data_is_legal plan now number kind links uppers lowers run n answers =
     (rules_of_offer (offer_of (port_round number kind links uppers lowers n).r) (read_beat_rules (port_history number kind links uppers lowers n))) (again number kind links uppers lowers run n).r
     ∙ read_kept (port_history number kind links uppers lowers n) (trail_below lowers links n number).ar (trail_above uppers links n number).r (link_of (links n) number).r
     (takes_from number (uppers n).r_take) has.ar has.r order
+
+-- ---- write data
+
+-- rules 9 and 10, of what has been offered in the rounds up to this one
+data_kept : (bus : ℕ) (history : List PortRound) (plan : Schedule) (now : Progress) (trail : Beats) → offered on_aw history ≡ map seen_address trail.aw → offered on_w history ≡ map seen_itself trail.w →
+    Asks plan now trail → IsLegalPlan bus plan → least_broken ((9, last_is_on_the_last_beat bus history) ∷ (10, strobes_are_on_valid_lanes bus history) ∷ []) ≡ None
+data_kept bus history plan now trail on_aw' on_w' asks legal =
+    let shown_data : offered on_w history ≡ trail.w = on_w' ∙ itself trail.w in
+    let lasts : last_is_on_the_last_beat bus history ≡ true = rw (on_aw', shown_data) (lasts_kept bus trail.aw trail.w asks.data_follows_addresses) in
+    let strobes : strobes_are_on_valid_lanes bus history ≡ true =
+    rw (on_aw', shown_data)
+    (strobes_kept bus trail.aw trail.w plan.writes asks.data_follows_addresses (left_at_first bus trail.aw trail.w plan.writes asks.writes.asks_only_its_parts asks.data_is_the_schedules legal.write_data)) in
+    rw (lasts, strobes) refl
+
+pub write_data_is_legal : WriteDataIsLegal
+write_data_is_legal plan now number kind links uppers lowers run legal n asks =
+    let seen : Asks plan now (seen_below (trail_below lowers links n number) (link_of (links n) number)) = asked_below number kind links uppers lowers run n plan now asks in
+    let has : HasOffered (port_history number kind links uppers lowers (suc n)) (seen_below (trail_below lowers links n number) (link_of (links n) number)) (seen_above (trail_above uppers links n number) (link_of (links n) number)) =
+    offered_are_trails number kind links uppers lowers n in
+    handshake_kept same_data data_itself (waiting on_w (port_history number kind links uppers lowers n)) (offer_of (port_round number kind links uppers lowers n).w)
+    ((9, last_is_on_the_last_beat kind.bus (port_history number kind links uppers lowers (suc n))) ∷ (10, strobes_are_on_valid_lanes kind.bus (port_history number kind links uppers lowers (suc n))) ∷ []) (again number kind links uppers lowers run n).w
+    ∙ data_kept kind.bus (port_history number kind links uppers lowers (suc n)) plan now (seen_below (trail_below lowers links n number) (link_of (links n) number)) has.aw has.w seen legal
