@@ -1,10 +1,9 @@
 -- Each address on a link is a legal burst, so rules 3 to 8 are kept.
-use Rattle.std.proofs.Common.{◌≡◌, ℕ, Bool, true, false, not, cond, List, [], ◌∷◌, ◌++◌, Option, Some, None, length, map, All, refl, sym, ap, ◌∙◌, subst, arith, length-append}
+use Rattle.std.proofs.Common.{◌≡◌, ℕ, Bool, true, false, not, cond, List, [], ◌∷◌, ◌++◌, Some, None, length, map, All, refl, ap, ◌∙◌, subst, arith, length-append}
 use Rattle.std.proofs.lemmas.List.{get_or_at, map-append}
 use Rattle.axi_beats.specs.declared.beat.Addr.{Addr}
 use Rattle.axi_beats.specs.declared.beat.Burst.{Burst}
 use Rattle.axi_beats.specs.declared.beat.Burst.TheVariants.{Fixed, Incr, Wrap}
-use Rattle.axi_beats.specs.declared.beat.Tag.{Tag}
 use Rattle.axi_beats.specs.declared.response.Resp.{Resp}
 use Rattle.axi_beats.specs.declared.response.Resp.TheVariants.{Okay, SlvErr, DecErr}
 use Rattle.axi_history.specs.PortRules.{least_broken, address_rules, request_of, is_not_exokay}
@@ -16,7 +15,6 @@ use Rattle.axi_trail.proofs.FilterFacts.{of_key-push}
 use Rattle.axi_trail.proofs.PrefixFacts.{All_front}
 use Rattle.burst_address.specs.Formulas.{size_of, beats_of}
 use Rattle.burst_address.specs.Legal.{IsLegal, is_too_wide, is_length_of, is_start_of, is_in_page}
-use Rattle.burst_address.specs.declared.rule.BurstRule.{BurstRule}
 use Rattle.burst_address.specs.declared.rule.BurstRule.TheVariants.{Size, Length, WrapAlign, Page}
 use Rattle.flight.specs.Entries.{of_key}
 use Rattle.link_ports.specs.PortView.{seen_address, response_code}

@@ -1,7 +1,6 @@
 -- An answer is offered only after its request, so rules 11 and 12 are kept.
-use Rattle.std.proofs.Common.{◌≡◌, ℕ, zero, suc, ◌+◌, ◌-◌, ◌<◌, ◌≤◌, ◌==◌, Bool, true, false, cond, List, [], ◌∷◌, ◌++◌, length, map, take, get_or, refl, sym, ap, ◌∙◌, subst, inl, inr, arith, append_assoc, eq-eqb, length-append, lt-ltb}
-use Rattle.std.specs.Prelude.{filter, count_by, sum, nat_lt}
-use Rattle.std.specs.Bool.{beq}
+use Rattle.std.proofs.Common.{◌≡◌, ℕ, zero, suc, ◌+◌, ◌-◌, ◌<◌, ◌≤◌, ◌==◌, cond, List, [], ◌∷◌, ◌++◌, length, map, take, get_or, refl, sym, ap, ◌∙◌, inl, inr, arith, append_assoc, eq-eqb, length-append, lt-ltb}
+use Rattle.std.specs.Prelude.{filter, count_by, sum}
 use Rattle.std.proofs.lemmas.Bool.{ne_eqb, le-ltb, cases_lt, cases_eq}
 use Rattle.std.proofs.lemmas.List.{length-map, get_or_at, get_or-append_right, map-append, take-map}
 use Rattle.std.proofs.lemmas.List.Sums.{length-filter, sum_by-cons}
@@ -11,8 +10,7 @@ use Rattle.axi_beats.specs.declared.beat.BBeat.{BBeat}
 use Rattle.axi_beats.specs.declared.beat.RBeat.{RBeat}
 use Rattle.axi_history.specs.PortHistory.{beats_asked, ends_a_request}
 use Rattle.axi_history.specs.PortRules.{writes_of, responses_of, read_beats_of, reads_of}
-use Rattle.axi_trail.specs.Streams.{IsPrefix}
-use Rattle.axi_trail.specs.Words.{Mark, Asked, Reply, InOrderOfId, burst_marks, marks_of, marks, completed, write_asked, burst_asked, write_reply, read_reply, mark_of_data, mark_of_reply, id_of_address, id_of_asked, id_of_reply, beats_of}
+use Rattle.axi_trail.specs.Words.{Mark, InOrderOfId, burst_marks, marks, completed, write_asked, burst_asked, write_reply, read_reply, mark_of_data, mark_of_reply, id_of_address, id_of_asked, id_of_reply, beats_of}
 use Rattle.axi_trail.proofs.FilterFacts.{of_key-map, of_key-append, of_key-cons, filter_map, length-burst_marks, length-marks}
 use Rattle.axi_trail.proofs.PrefixFacts.{prefix_length}
 use Rattle.flight.specs.Entries.{of_key}

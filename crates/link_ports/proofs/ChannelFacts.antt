@@ -1,5 +1,5 @@
 -- Each channel keeps its rules.
-use Rattle.std.proofs.Common.{◌≡◌, ℕ, suc, Bool, true, false, List, [], ◌∷◌, ◌++◌, Option, Some, None, map, take, refl, sym, ap, ◌∙◌, subst, lt-ltb}
+use Rattle.std.proofs.Common.{◌≡◌, ℕ, suc, Bool, true, false, List, [], ◌∷◌, ◌++◌, Option, None, map, take, refl, ◌∙◌, subst, lt-ltb}
 use Rattle.std.specs.Bool.{beq}
 use Rattle.std.specs.Prelude.{All, count_by, length, sum}
 use Rattle.axi_beats.specs.declared.beat.Addr.{Addr}

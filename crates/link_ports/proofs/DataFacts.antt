@@ -1,5 +1,5 @@
 -- Write data has `last` where it is due and its strobes on valid lanes, so rules 9 and 10 are kept.
-use Rattle.std.proofs.Common.{◌≡◌, ◌≢◌, ℕ, zero, suc, ◌+◌, ◌<◌, ◌≤◌, ◌==◌, ◌||◌, ◌&&◌, Bool, true, cond, not, List, [], ◌∷◌, ◌++◌, length, map, drop, get_or, refl, sym, ◌∙◌, ap, subst, inl, inr, arith, append_assoc, append-nil, eq-eqb, length-append}
+use Rattle.std.proofs.Common.{◌≡◌, ◌≢◌, ℕ, suc, ◌+◌, ◌<◌, ◌==◌, ◌||◌, Bool, true, cond, not, List, [], ◌∷◌, ◌++◌, length, map, drop, get_or, refl, sym, ◌∙◌, ap, subst, inl, inr, arith, append_assoc, eq-eqb}
 use Rattle.std.specs.Prelude.{zip, flat_map, nat_lt}
 use Rattle.std.specs.List.{AllZip}
 use Rattle.std.proofs.lemmas.Bool.{ne_eqb, cases_eq, cond-true, cond-false, or_right, and_from}
@@ -12,7 +12,7 @@ use Rattle.axi_history.specs.PortRules.{each_beat, each_addressed_beat, has_last
 use Rattle.axi_trail.specs.LinkContracts.{without_id}
 use Rattle.axi_trail.specs.Schedule.{Share}
 use Rattle.axi_trail.specs.Streams.{IsPrefix, Agree}
-use Rattle.axi_trail.specs.Words.{Mark, marks, burst_asked, burst_marks, mark_of_data, number_of_data, number_of_address}
+use Rattle.axi_trail.specs.Words.{marks, burst_asked, burst_marks, mark_of_data, number_of_data, number_of_address}
 use Rattle.axi_trail.proofs.FilterFacts.{of_key-append, of_key-cons, of_key-skip, length-burst_marks}
 use Rattle.axi_trail.proofs.OrderFacts.{prefix_total}
 use Rattle.axi_trail.proofs.PrefixFacts.{prefix_length, prefix_same, prefix_of_same}

@@ -5,4 +5,5 @@ pub mod ChannelFacts
 pub mod DataFacts
 pub mod ExampleFacts
 pub mod HandshakeFacts
+pub mod PortFacts
 pub mod ViewFacts

@@ -1,5 +1,5 @@
 -- What a channel transfers, offers and lets wait, where it offers the heads of a queue.
-use Rattle.std.proofs.Common.{◌≡◌, ℕ, zero, suc, Bool, true, false, List, [], ◌∷◌, ◌++◌, map, take, refl, sym, ◌∙◌, ap, append_assoc, append-nil}
+use Rattle.std.proofs.Common.{◌≡◌, ℕ, zero, suc, Bool, true, false, List, [], ◌∷◌, ◌++◌, map, take, refl, sym, ◌∙◌, ap, append_assoc}
 use Rattle.std.specs.Prelude.{Option, Some, None, filter_map}
 use Rattle.std.specs.Option.{option_to_list}
 use Rattle.std.proofs.lemmas.List.{map-append}
@@ -13,7 +13,6 @@ use Rattle.axi_link.specs.Moves.{takes_from, appended, without_head}
 use Rattle.axi_link.specs.Table.{link_of}
 use Rattle.axi_link.specs.declared.out.Out.{Out}
 use Rattle.axi_trail.specs.Streams.{over, beat_taken}
-use Rattle.axi_trail.specs.Trail.{IsLinkRun}
 use Rattle.link_ports.specs.PortLaws.{IsOffered, TransferredAreTrails, OfferedAreTrails, WaitingAreOfferedAgain}
 use Rattle.link_ports.specs.PortView.{seen_address, seen_itself, seen_response, seen_read_beat, shown, port_round}
 
