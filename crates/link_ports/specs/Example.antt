@@ -7,8 +7,10 @@ use Rattle.axi_link.specs.Acted.{no_moves}
 use Rattle.axi_link.specs.LinkView.{LinkView, empty_link}
 use Rattle.axi_link.specs.Moves.{link_after}
 use Rattle.axi_link.specs.declared.out.Out.{Out}
-use Rattle.axi_trail.specs.Example.{write_address, write_data_beat, write_response}
-use Rattle.axi_trail.specs.Trail.{IsLinkRun}
+use Rattle.axi_trail.specs.Example.{write_address, write_data_beat, write_response, example_plan, example_progress}
+use Rattle.axi_trail.specs.LinkContracts.{Asks, Answers}
+use Rattle.axi_trail.specs.Trail.{IsLinkRun, trail_above, trail_below}
+use Rattle.link_ports.specs.LegalPlan.{IsLegalPlan}
 use Rattle.link_ports.specs.PortView.{seen_address, seen_response, port_history}
 
 abbrev pub bus_of_four : PortKind
@@ -31,13 +33,19 @@ memory_moves (suc (suc zero)) = record no_moves { aw_take = Some 0 }
 memory_moves (suc (suc (suc zero))) = record no_moves { b_put = Some (0, write_response) }
 memory_moves (suc (suc (suc (suc n)))) = no_moves
 
--- the one link between them, with the number 0
-abbrev pub link_between : ℕ → LinkView
-link_between zero = empty_link 2
-link_between (suc n) = link_after 0 (link_between n) (manager_moves n) (memory_moves n)
+-- a memory that responds at once
+abbrev pub hasty_moves : ℕ → Out
+hasty_moves zero = record no_moves { b_put = Some (0, write_response) }
+hasty_moves (suc n) = no_moves
 
-abbrev pub links_between : ℕ → List LinkView
-links_between n = link_between n ∷ []
+-- the one link between the manager and a memory, with the number 0
+module _ (memory : ℕ → Out) where
+  abbrev pub link_between : ℕ → LinkView
+  link_between zero = empty_link 2
+  link_between (suc n) = link_after 0 (link_between n) (manager_moves n) (memory n)
+
+  abbrev pub links_between : ℕ → List LinkView
+  links_between n = link_between n ∷ []
 
 -- a round in which nothing is offered
 abbrev pub quiet : ℕ → PortRound
@@ -47,12 +55,24 @@ quiet round = record { round = round; link = 0; kind = bus_of_four; aw = None; w
 -- rule is broken.
 abbrev pub ExamplePort : Type 0
 ExamplePort =
-    IsLinkRun 0 links_between manager_moves memory_moves
-    × (port_history 0 bus_of_four links_between manager_moves memory_moves 5
+    IsLinkRun 0 (links_between memory_moves) manager_moves memory_moves
+    × (port_history 0 bus_of_four (links_between memory_moves) manager_moves memory_moves 5
     ≡ quiet 1
     ∷ record (quiet 2) { aw = Some (record { beat = seen_address write_address; taken = false }); w = Some (record { beat = write_data_beat; taken = true }) }
     ∷ record (quiet 3) { aw = Some (record { beat = seen_address write_address; taken = true }) }
     ∷ quiet 4
     ∷ record (quiet 5) { b = Some (record { beat = seen_response write_response; taken = true }) }
     ∷ [])
-    × (axi4_history_fault 4 (port_history 0 bus_of_four links_between manager_moves memory_moves 5) ≡ None)
+    × (axi4_history_fault 4 (port_history 0 bus_of_four (links_between memory_moves) manager_moves memory_moves 5) ≡ None)
+
+-- With the memory that responds at once, rule 11 is broken on B: so a history isn't legal by the way that it is made.
+abbrev pub HastyPort : Type 0
+HastyPort = axi4_history_fault 4 (port_history 0 bus_of_four (links_between hasty_moves) manager_moves hasty_moves 2) ≡ Some (3, 11)
+
+-- The run keeps all that is asked of a link for its port to be legal: what it has to carry is legal on its bus, and both
+-- nodes keep their contracts after any number of rounds.
+abbrev pub ExampleKeepsContracts : Type 0
+ExampleKeepsContracts =
+    IsLegalPlan 4 example_plan
+    × ((n : ℕ) → Asks example_plan example_progress (trail_above manager_moves (links_between memory_moves) n 0))
+    × ((n : ℕ) → Answers example_plan example_progress (trail_below memory_moves (links_between memory_moves) n 0))
