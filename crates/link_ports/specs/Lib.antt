@@ -1,0 +1,4 @@
+pub mod Example
+pub mod LegalPlan
+pub mod PortLaws
+pub mod PortView

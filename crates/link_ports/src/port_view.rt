@@ -1,0 +1,102 @@
+//! The port of a link, as it is seen in one round.
+
+ghost use Rattle.std.specs.Prelude.{◌≡◌, option_map, option_copied};
+ghost use Rattle.link_ports.specs.PortView.{burst_code, port_of as port_seen, response_code, seen_address, seen_read_beat, seen_response};
+
+use axi_beats::{Addr, BBeat, Burst, RBeat, Resp, WBeat};
+use axi_history::{PortKind, PortRound, RawAddr, RawB, RawR, Seen};
+use axi_link::{Link, Out};
+
+/// What is seen of link `number` in round `round`: the beats that its five channels offer, and
+/// which of them the node at the other end takes. `link` is the link as the round began, and
+/// `upper` and `lower` are the moves of its two nodes in the round. (Arm IHI 0022, handshake
+/// process.)
+pub fn port_of(round: u64, number: u32, kind: PortKind, link: &Link, upper: &Out, lower: &Out) -> PortRound
+    ensures { result ≡ port_seen round number kind link.now upper.now lower.now }
+{
+    PortRound {
+        round,
+        link: number,
+        kind,
+        aw: address_shown(link.head_aw(), lower.aw_take == Some(number)),
+        w: data_shown(link.head_w(), lower.w_take == Some(number)),
+        b: response_shown(link.head_b(), upper.b_take == Some(number)),
+        ar: address_shown(link.head_ar(), lower.ar_take == Some(number)),
+        r: read_beat_shown(link.head_r(), upper.r_take == Some(number)),
+    }
+}
+
+/// A channel of addresses.
+fn address_shown(head: Option<&Addr>, taken: bool) -> Option<Seen<RawAddr>>
+    ensures { result ≡ option_map (λ a. record { beat = seen_address a; taken = taken }) (option_copied head) }
+{
+    let address = head?;
+    let beat = RawAddr {
+        id: address.id,
+        addr: address.addr,
+        len: address.len,
+        size: address.size,
+        burst: burst_code(address.burst),
+        lock: false,
+        tag: address.tag,
+    };
+    Some(Seen { beat, taken })
+}
+
+/// The channel of write data.
+fn data_shown(head: Option<&WBeat>, taken: bool) -> Option<Seen<WBeat>>
+    ensures { result ≡ option_map (λ w. record { beat = w; taken = taken }) (option_copied head) }
+{
+    let beat = *head?;
+    Some(Seen { beat, taken })
+}
+
+/// The channel of responses to writes.
+fn response_shown(head: Option<&BBeat>, taken: bool) -> Option<Seen<RawB>>
+    ensures { result ≡ option_map (λ b. record { beat = seen_response b; taken = taken }) (option_copied head) }
+{
+    let response = head?;
+    let beat = RawB {
+        id: response.id,
+        resp: response_code(response.resp),
+        tag: response.tag,
+    };
+    Some(Seen { beat, taken })
+}
+
+/// The channel of read data.
+fn read_beat_shown(head: Option<&RBeat>, taken: bool) -> Option<Seen<RawR>>
+    ensures { result ≡ option_map (λ r. record { beat = seen_read_beat r; taken = taken }) (option_copied head) }
+{
+    let read = head?;
+    let beat = RawR {
+        id: read.id,
+        lanes: read.lanes,
+        resp: response_code(read.resp),
+        last: read.last,
+        tag: read.tag,
+    };
+    Some(Seen { beat, taken })
+}
+
+/// AxBURST: 0 FIXED, 1 INCR, 2 WRAP.
+fn burst_code(burst: Burst) -> u8
+    ensures { result ≡ burst_code burst }
+{
+    match burst {
+        Burst::Fixed => 0,
+        Burst::Incr => 1,
+        Burst::Wrap => 2,
+    }
+}
+
+/// BRESP or RRESP: 0 OKAY, 2 SLVERR, 3 DECERR.
+fn response_code(response: Resp) -> u8
+    ensures { result ≡ response_code response }
+{
+    match response {
+        Resp::Okay => 0,
+        Resp::SlvErr => 2,
+        Resp::DecErr => 3,
+    }
+}
