@@ -6,5 +6,6 @@ pub mod NetView
 pub mod Network
 pub mod Notes
 pub mod Numbered
+pub mod Ports
 pub mod Right
 pub mod Run

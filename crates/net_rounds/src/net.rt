@@ -1,19 +1,22 @@
 //! `Net`, seen in clauses as the network as it stands, the rounds that led there, whether the nodes
 //! have decided in the next one, and the most rounds of a run.
 
-ghost use Rattle.std.specs.Prelude.{◌≡◌, ◌<◌, ◌+◌, ◌-◌, ◌^◌, [], ◌∷◌, IfOk, Some, true, false};
+ghost use Rattle.std.specs.Prelude.{◌≡◌, ◌<◌, ◌+◌, ◌-◌, ◌^◌, [], ◌∷◌, IfOk, Some, true, false, length};
 ghost use Rattle.manager_end.specs.ManagerState.{is_done};
 ghost use Rattle.net_rounds.specs.BuiltIn.{IsTraffic, bound, built_in, first_manager};
 ghost use Rattle.net_rounds.specs.Network.{after_commit, after_decide, after_rounds, is_finished};
 ghost use Rattle.net_rounds.specs.NetView.{NetView};
 ghost use Rattle.net_rounds.specs.Notes.{AreNotes};
+ghost use Rattle.net_rounds.specs.Ports.{port_at};
 ghost use Rattle.net_rounds.specs.Run.{run_length};
 
 use crate::ends::Ends;
 use crate::phase::{commit_each, decide_each};
 use crate::touched::touched_lines;
 use axi_beats::NoMemory;
+use axi_history::{PortKind, PortRound};
 use axi_link::Link;
+use link_ports::port_of;
 use manager_end::{Manager, Script};
 use memory_end::{Memory, MemoryConfig};
 use net_nodes::Node;
@@ -28,6 +31,12 @@ const DEPTH: u8 = 2;
 
 /// The number of its link.
 const LINK: u32 = 0;
+
+/// What each of its links is.
+const KIND: PortKind = PortKind {
+    lite: false,
+    bus: BUS,
+};
 
 /// A network that runs. All its memory is taken when it is built.
 #[derive(Drop)]
@@ -123,6 +132,33 @@ impl Net {
     {
         decide_each(&mut self.nodes, self.rounds + 1, &self.links);
         self.decided = true;
+    }
+
+    /// What is seen of link `number` in the round in which the nodes have decided: the beats that
+    /// its channels offer, and which of them are taken.
+    pub fn port(&self, number: u32) -> PortRound
+        requires decided { self.now.decided ≡ true }
+        requires known { number < length self.now.network.links }
+        ensures { result ≡ port_at (self.now.rounds + 1) self.now.network number }
+    {
+        let Ends { upper, lower } = self.ends[number as usize];
+        let above = self.nodes[upper as usize].out();
+        let below = self.nodes[lower as usize].out();
+        port_of(
+            self.rounds + 1,
+            number,
+            KIND,
+            &self.links[number as usize],
+            above,
+            below,
+        )
+    }
+
+    /// The links.
+    pub fn links(&self) -> u32
+        ensures { result ≡ length self.now.network.links }
+    {
+        self.links.len() as u32
     }
 
     /// Phase two: every link makes the moves that its two nodes decided.
