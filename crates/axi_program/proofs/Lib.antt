@@ -1,9 +1,10 @@
-pub mod TransferLemmas
-pub mod TrafficLaws
-pub mod ScriptLaws
-pub mod DocumentLaws
-pub mod TextLaws
 mod KnownInputs
 mod KnownTexts
-pub mod RunLaws
 pub mod CallLaws
+pub mod DocumentLaws
+pub mod RunLaws
+pub mod ScriptLaws
+pub mod TextLaws
+pub mod TraceLaws
+pub mod TrafficLaws
+pub mod TransferLemmas

@@ -1,5 +1,5 @@
 -- The lines of a run, one after the other.
-use Rattle.std.proofs.Common.{◌≡◌, ◌<◌, ◌≤◌, ◌+◌, ◌^◌, ◌-◌, ◌∷◌, [], ◌++◌, ℕ, zero, suc, List, Option, Some, None, Bool, true, false, cond, min, length, take, drop, get_or, refl, sym, ap, ◌∙◌, subst, arith, append_assoc, length-append, IsTrue}
+use Rattle.std.proofs.Common.{◌≡◌, ◌<◌, ◌≤◌, ◌+◌, ◌^◌, ◌-◌, ◌∷◌, [], ◌++◌, ℕ, zero, suc, List, Option, Some, None, Bool, true, false, cond, min, length, take, drop, get_or, refl, sym, ap, ◌∙◌, subst, arith, append_assoc, append-nil, length-append, IsTrue}
 use Rattle.std.specs.Prelude.{All, Err, IfSome, Ok, OnErr, OnOk, Result, option_map, slice_get, unwrap_or}
 use Rattle.std.specs.Option.{option_map_or}
 use Rattle.std.specs.Io.KnownBytes.{Appends}
@@ -19,8 +19,9 @@ use Rattle.net_rounds.specs.Notes.{IsShort}
 use Rattle.net_rounds.specs.Run.{run_length}
 use Rattle.axi_program.proofs.TextLaws.{answer_lines-next}
 use Rattle.axi_program.specs.Faults.{Rose}
-use Rattle.axi_program.specs.Outcome.{Answers, Stalls, line_at, noted_answers, run_end, run_outcome, run_rounds, text_of_net}
+use Rattle.axi_program.specs.Outcome.{Answers, Stalls, line_at, noted_answers, parting, run_end, run_outcome, run_rounds, text_of, text_of_net, traced}
 use Rattle.axi_program.specs.Text.{answer_line, answer_lines, rounds_line, run_text}
+use Rattle.axi_program.specs.Trace.{HasRun, traced_by}
 use Rattle.axi_program.specs.Traffic.{manager_name}
 use Rattle.axi_program.specs.Transfers.{AppendsPrefix}
 
@@ -141,21 +142,20 @@ text-by_manager net s is = ap (λ (o : Option ManagerState). answer_lines (scrip
 run-script : (script : List ScriptItem) (n : ℕ) → script_of (first_manager (after_rounds n (built_in script)).nodes) ≡ script
 run-script script n = ap (λ net. script_of (first_manager net.nodes)) (after_rounds-built_in script n) ∙ pair_after-script (built_in_pair script) n
 
--- a network after its run
-pub record HasRun (script : List ScriptItem) (net : NetView) : Type 0 where
-  pub rounds : net.rounds ≡ run_length (built_in script) (bound script)
-  pub network : net.network ≡ after_rounds net.rounds (built_in script)
+-- the network of a script before its run
+abbrev pub built : List ScriptItem → NetView
+built script = record { network = built_in script; rounds = 0; decided = false; most = bound script }
 
-run-end : (script : List ScriptItem) (net : NetView) → HasRun script net → net.network ≡ run_end script
+run-end : (script : List ScriptItem) (net : NetView) → HasRun (built script) net → net.network ≡ run_end script
 unfolding run_end run_rounds
 run-end script net has = has.network ∙ ap (λ (n : ℕ). after_rounds n (built_in script)) has.rounds
 
-pub outcome-stalls : (script : List ScriptItem) (net : NetView) → HasRun script net → is_finished net.network ≡ false → run_outcome script ≡ Stalls
+pub outcome-stalls : (trace : Bool) (script : List ScriptItem) (net : NetView) → HasRun (built script) net → is_finished net.network ≡ false → run_outcome trace script ≡ Stalls (traced trace script)
 unfolding run_outcome
-outcome-stalls script net has running =
-    ap (λ (b : Bool). cond b (Answers (run_text script (noted_answers (run_end script)) (run_rounds script))) Stalls) (ap is_finished (sym (run-end script net has)) ∙ running)
+outcome-stalls trace script net has running =
+    ap (λ (b : Bool). cond b (Answers (traced trace script ++ (parting trace ++ run_text script (noted_answers (run_end script)) (run_rounds script)))) (Stalls (traced trace script))) (ap is_finished (sym (run-end script net has)) ∙ running)
 
-run-text : (script : List ScriptItem) (net : NetView) → HasRun script net → run_text script (noted_answers (run_end script)) (run_rounds script) ≡ text_of_net net
+run-text : (script : List ScriptItem) (net : NetView) → HasRun (built script) net → run_text script (noted_answers (run_end script)) (run_rounds script) ≡ text_of_net net
 unfolding run_rounds text_of_net
 run-text script net has =
     let same = run-end script net has in
@@ -164,15 +164,32 @@ run-text script net has =
     ∙ ap (λ (now : Network). run_text (script_of (first_manager net.network.nodes)) (noted_answers now) (run_length (built_in script) (bound script))) (sym same)
     ∙ ap (λ (n : ℕ). run_text (script_of (first_manager net.network.nodes)) (noted_answers net.network) n) (sym has.rounds)
 
-pub outcome-answers : (script : List ScriptItem) (net : NetView) → HasRun script net → is_finished net.network ≡ true → run_outcome script ≡ Answers (text_of_net net)
+pub outcome-answers :
+    (trace : Bool) (script : List ScriptItem) (net : NetView) → HasRun (built script) net → is_finished net.network ≡ true →
+    run_outcome trace script ≡ Answers (traced trace script ++ (parting trace ++ text_of_net net))
 unfolding run_outcome
-outcome-answers script net has finished =
-    ap (λ (b : Bool). cond b (Answers (run_text script (noted_answers (run_end script)) (run_rounds script))) Stalls) (ap is_finished (sym (run-end script net has)) ∙ finished)
-    ∙ ap Answers (run-text script net has)
+outcome-answers trace script net has finished =
+    ap (λ (b : Bool). cond b (Answers (traced trace script ++ (parting trace ++ run_text script (noted_answers (run_end script)) (run_rounds script)))) (Stalls (traced trace script))) (ap is_finished (sym (run-end script net has)) ∙ finished)
+    ∙ ap (λ (text : List ℕ). Answers (traced trace script ++ (parting trace ++ text))) (run-text script net has)
+
+-- the text of every run begins with its traced lines
+pub outcome-traces : (trace : Bool) (script : List ScriptItem) → (rest : List ℕ) × (text_of (run_outcome trace script) ≡ traced trace script ++ rest)
+unfolding run_outcome
+outcome-traces trace script =
+    let text = parting trace ++ run_text script (noted_answers (run_end script)) (run_rounds script) in
+    let go : (b : Bool) → (rest : List ℕ) × (text_of (cond b (Answers (traced trace script ++ text)) (Stalls (traced trace script))) ≡ traced trace script ++ rest) =
+    λ b. elim b as (λ b. (rest : List ℕ) × (text_of (cond b (Answers (traced trace script ++ text)) (Stalls (traced trace script))) ≡ traced trace script ++ rest)) [
+      | true ↦ (text, refl)
+      | false ↦ ([], sym (append-nil (traced trace script)))
+    ]
+    in go (is_finished (run_end script))
+
+-- the lines that a run traces are those of its outcome
+pub traced-is : (trace : Bool) (script : List ScriptItem) → traced_by trace (built script) ≡ traced trace script
+unfolding run_rounds
+traced-is true script = refl
+traced-is false script = refl
 
 -- what building and running gives
-pub has-run : (script : List ScriptItem) (built ran : NetView) → built ≡ record { network = built_in script; rounds = 0; most = bound script } → ran.rounds ≡ run_length built.network built.most → ran.network ≡ after_rounds ran.rounds built.network → HasRun script ran
-has-run script built ran is rounds network = record {
-  rounds = rounds ∙ ap (λ (v : NetView). run_length v.network v.most) is;
-  network = network ∙ ap (λ (v : NetView). after_rounds ran.rounds v.network) is;
-}
+pub has-run : (script : List ScriptItem) (before after : NetView) → before ≡ built script → HasRun before after → HasRun (built script) after
+has-run script before after is ran = subst (λ (v : NetView). HasRun v after) is ran

@@ -3,12 +3,13 @@ use Rattle.std.specs.Prelude.{◌≡◌, ◌≢◌, ◌<◌, ℕ, [], List, Bool
 use Rattle.axi_program.specs.Faults.{Rose}
 use Rattle.axi_program.specs.Outcome.{Concludes, Outcome, input_outcome, status_of}
 use Rattle.axi_program.specs.declared.status.Status.{Status}
+use Rattle.axi_program.specs.declared.words.Command.{Command}
 use Rattle.axi_program.specs.declared.status.Status.TheVariants.{Done, Usage, Refused, ReadFault, WriteFault, NoMemory, Unfinished}
 
-module _ {S K : Type 0} (left : S → Option (List ℕ)) (reading : S → ℕ) (written : K → Option (List ℕ)) (writing : K → ℕ) (source source' : S) (sink sink' : K) where
-  -- the input came to what it comes to, where the source tells it
+module _ {S K : Type 0} (command : Option Command) (left : S → Option (List ℕ)) (reading : S → ℕ) (written : K → Option (List ℕ)) (writing : K → ℕ) (source source' : S) (sink sink' : K) where
+  -- the input came to what it comes to by the command, where the source tells it
   abbrev pub Came : Status → Type 0
-  Came status = IfSome (left source) (λ input. Concludes written writing (input_outcome input) sink sink' status)
+  Came status = IfSome command (λ asked. IfSome (left source) (λ input. Concludes written writing (input_outcome asked input) sink sink' status))
 
   -- Usage: nothing was read or written. ReadFault: the source's count of faults rose, and nothing was written. All
   -- others: as the input's outcome says.
@@ -37,5 +38,5 @@ module _ {S : Type 0} (left : S → Option (List ℕ)) (source source' : S) wher
   ReadsWhole Unfinished = IsReadWhole
 
 -- where no count rises, the status is the outcome's, or memory was wanting
-abbrev pub IsComplete : Option (List ℕ) → Status → Type 0
-IsComplete left status = (status ≡ NoMemory) ⊎ IfSome left (λ input. status ≡ status_of (input_outcome input))
+abbrev pub IsComplete : Option Command → Option (List ℕ) → Status → Type 0
+IsComplete command left status = (status ≡ NoMemory) ⊎ IfSome command (λ asked. IfSome left (λ input. status ≡ status_of (input_outcome asked input)))

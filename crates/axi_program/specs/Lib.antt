@@ -7,5 +7,6 @@ pub mod Traffic
 pub mod Document
 pub mod Text
 pub mod Words
+pub mod Trace
 pub mod Outcome
 pub mod Call

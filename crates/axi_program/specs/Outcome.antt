@@ -1,5 +1,5 @@
 -- What an input comes to, and what a call that writes it has written.
-use Rattle.std.specs.Prelude.{◌≡◌, ℕ, [], List, Option, Some, None, drop, take, if◌then◌else◌}
+use Rattle.std.specs.Prelude.{◌≡◌, ◌++◌, ℕ, [], List, Bool, true, false, Option, Some, None, codes, drop, take, if◌then◌else◌}
 use Rattle.std.specs.Option.{option_map_or}
 use Rattle.std.specs.Io.KnownBytes.{Appends}
 use Rattle.manager_end.specs.Answer.{AnswerView}
@@ -11,9 +11,12 @@ use Rattle.net_rounds.specs.Run.{run_length}
 use Rattle.axi_program.specs.Document.{refusal_of, script_of_input}
 use Rattle.axi_program.specs.Faults.{Rose}
 use Rattle.axi_program.specs.Text.{answer_lines, refusal_line, run_text}
+use Rattle.axi_program.specs.Trace.{trace_lines}
 use Rattle.axi_program.specs.Transfers.{AppendsPrefix}
 use Rattle.axi_program.specs.declared.status.Refusal.{Refusal}
 use Rattle.axi_program.specs.declared.status.Status.{Status}
+use Rattle.axi_program.specs.declared.words.Command.{Command}
+use Rattle.axi_program.specs.declared.words.Command.TheVariants.{Run}
 use Rattle.axi_program.specs.declared.status.Status.TheVariants.{Done, Usage, Refused, ReadFault, WriteFault, NoMemory, Unfinished}
 
 -- the rounds of the run of a script: up to the first state in which all is answered, at most as many as the bound
@@ -28,35 +31,49 @@ run_end script = after_rounds (run_rounds script) (built_in script)
 unfoldable pub noted_answers : Network → List AnswerView
 noted_answers net = option_map_or (λ state. state.answers) (first_manager net.nodes) []
 
--- An input is refused; or its run ends, and has a text; or a transaction is unanswered after the bound's rounds.
+-- An input is refused; or its run ends, and has a text; or a transaction is unanswered after the bound's rounds, and
+-- the text is what was traced until then.
 pub data Outcome : Type 0 where
   Refuses : Refusal → Outcome
   Answers : List ℕ → Outcome
-  Stalls : Outcome
+  Stalls : List ℕ → Outcome
+
+-- the lines of the run of a script, where a trace is asked for
+abbrev pub traced : Bool → List ScriptItem → List ℕ
+traced false script = []
+traced true script = trace_lines (run_rounds script) (built_in script)
+
+-- and the line that parts them from the answers
+abbrev pub parting : Bool → List ℕ
+parting false = []
+parting true = codes "%%\n"
 
 -- what the run of a script comes to
-unfoldable pub run_outcome : List ScriptItem → Outcome
-run_outcome script = if is_finished (run_end script) then Answers (run_text script (noted_answers (run_end script)) (run_rounds script)) else Stalls
+unfoldable pub run_outcome : Bool → List ScriptItem → Outcome
+run_outcome trace script =
+    if is_finished (run_end script)
+    then Answers (traced trace script ++ (parting trace ++ run_text script (noted_answers (run_end script)) (run_rounds script)))
+    else Stalls (traced trace script)
 
-abbrev pub outcome_by : Option Refusal → List ScriptItem → Outcome
-outcome_by (Some refusal) script = Refuses refusal
-outcome_by None script = run_outcome script
+abbrev pub outcome_by : Bool → Option Refusal → List ScriptItem → Outcome
+outcome_by trace (Some refusal) script = Refuses refusal
+outcome_by trace None script = run_outcome trace script
 
 -- what an input comes to
-unfoldable pub input_outcome : List ℕ → Outcome
-input_outcome input = outcome_by (refusal_of input) (script_of_input input)
+unfoldable pub input_outcome : Command → List ℕ → Outcome
+input_outcome (Run trace) input = outcome_by trace (refusal_of input) (script_of_input input)
 
 -- the text of an outcome, which is all that is written
 abbrev pub text_of : Outcome → List ℕ
 text_of (Refuses refusal) = refusal_line refusal
 text_of (Answers text) = text
-text_of Stalls = []
+text_of (Stalls text) = text
 
 -- its status
 abbrev pub status_of : Outcome → Status
 status_of (Refuses refusal) = Refused refusal
 status_of (Answers text) = Done
-status_of Stalls = Unfinished
+status_of (Stalls text) = Unfinished
 
 -- How a call ends that writes the text of an outcome: with its status, and the whole text is written; or the sink's
 -- count of faults rose, and only a part of the text is written; or memory was wanting, and the sink is untouched.
@@ -68,7 +85,7 @@ module _ {K : Type 0} (written : K → Option (List ℕ)) (faults : K → ℕ) (
   Concludes ReadFault = ⊥
   Concludes WriteFault = Rose (faults before) (faults after) × AppendsPrefix (written before) (written after) (text_of outcome)
   Concludes NoMemory = after ≡ before
-  Concludes Unfinished = (Unfinished ≡ status_of outcome) × (after ≡ before)
+  Concludes Unfinished = (Unfinished ≡ status_of outcome) × Appends (written before) (written after) (text_of outcome)
 
 -- the line of the answer at a place
 unfoldable pub line_at : List ScriptItem → List AnswerView → ℕ → List ℕ

@@ -19,6 +19,7 @@ mod status;
 mod tests;
 mod texts;
 mod top;
+mod trace;
 mod traffic;
 mod words;
 
@@ -36,4 +37,4 @@ pub use status::{Refusal, Status};
 pub use texts::{render_refusal, render_rounds};
 pub use top::axinet;
 pub use traffic::{Access, TrafficFault, TrafficLine, read_line, read_traffic};
-pub use words::are_taken;
+pub use words::{Command, command_of};

@@ -45,6 +45,10 @@ least-is net (suc left) from =
     at-or-above : (from m : ℕ) → from ≤ m → (from ≡ m) ⊎ (from + 1 ≤ m)
     at-or-above from m le = grind arith
 
+-- it isn't below the round that it begins with
+pub least-from : (net : Network) (from left : ℕ) → from ≤ least_finished net from left
+least-from net from left = (least-is net left from).low
+
 -- the rounds of a run are the least number after which all is answered, or the bound
 pub run_length-is : (net : Network) (bound : ℕ) → IsRunLength net bound (run_length net bound)
 unfolding run_length

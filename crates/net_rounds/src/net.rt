@@ -95,6 +95,14 @@ impl Net {
         self.rounds
     }
 
+    /// The most rounds of a run.
+    pub fn bound(&self) -> u64
+        ensures most { result ≡ self.now.most }
+        ensures little { result < 2 ^ 62 }
+    {
+        self.most
+    }
+
     /// Whether the nodes have decided in the round after these, whose moves aren't made yet.
     pub fn decided(&self) -> bool
         ensures { result ≡ self.now.decided }

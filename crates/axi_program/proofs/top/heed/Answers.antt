@@ -8,7 +8,7 @@ use Rattle.axi_program.proofs.top.heed.Goals as goal
 pub returns-in-Ok-clause-concludes : goal.returns-in-Ok-clause-concludes
 returns-in-Ok-clause-concludes g c =
     subst (λ (o : Outcome). Concludes g.K.Sink.written g.K.Sink.faults o c.args.sink.now c.run.new.sink c.run.result)
-    (outcome-runs c.args.input.now c.in-Ok.script c.in-Ok.ensures.accepted c.in-Ok.ensures.script) c.run.ensures.concludes
+    (outcome-runs c.let-Run.trace c.args.input.now c.in-Ok.script c.in-Ok.ensures.accepted c.in-Ok.ensures.script) c.run.ensures.concludes
 
 pub returns-in-Err-Refused-clause-concludes : goal.returns-in-Err-Refused-clause-concludes
 returns-in-Err-Refused-clause-concludes g c =
