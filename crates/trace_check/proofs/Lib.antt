@@ -1,1 +1,3 @@
 pub mod KnownVerdictsLemmas
+pub mod AlikeLemmas
+pub mod JudgeLemmas

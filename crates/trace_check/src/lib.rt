@@ -6,7 +6,8 @@
 #![tactic(auto)]
 
 mod known;
+mod link_judge;
 mod verdict;
 
-pub use known::known_verdicts;
+pub use known::{known_verdicts, quiet_rounds_are_one};
 pub use verdict::{PortFault, Verdict};
