@@ -1,3 +1,5 @@
 pub mod KnownVerdictsLemmas
 pub mod AlikeLemmas
 pub mod JudgeLemmas
+pub mod LineLemmas
+pub mod FollowLemmas

@@ -50,10 +50,14 @@ abbrev pub number_of : (PortRound → Bool) → List PortRound → Option ℕ
 number_of property [] = None
 number_of property (r ∷ more) = if property r then Some 1 else option_map (λ n. n + 1) (number_of property more)
 
--- the same with the line, the round and the link
+-- the number of the line of a round and a link, or 0 where there is none
+abbrev pub number_in : List PortRound → ℕ → ℕ → ℕ
+number_in lines link round = unwrap_or (number_of (is_line_of round link) lines) 0
+
+-- what a link breaks first in the rounds from 1 to this one, with the line, the round and the link
 abbrev pub broken_at : List PortRound → ℕ → ℕ → Option PortFault
 broken_at lines round link =
-    option_map (λ fault. record { line = unwrap_or (number_of (is_line_of round link) lines) 0; round = round; link = link; channel = fault.0; rule = fault.1 }) (fault_of_link lines round link)
+    option_map (λ fault. record { line = number_in lines link round; round = round; link = link; channel = fault.0; rule = fault.1 }) (fault_of_link lines round link)
 
 module _ {A : Type 0} where
   -- what is answered at the least number below n at which something is

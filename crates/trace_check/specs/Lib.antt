@@ -5,3 +5,4 @@ pub mod KnownVerdicts
 pub mod Alike
 pub mod QuietRounds
 pub mod Judged
+pub mod Follows

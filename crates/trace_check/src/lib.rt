@@ -7,6 +7,7 @@
 
 mod known;
 mod link_judge;
+mod link_state;
 mod verdict;
 
 pub use known::{known_verdicts, quiet_rounds_are_one};
