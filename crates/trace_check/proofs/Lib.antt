@@ -3,3 +3,4 @@ pub mod AlikeLemmas
 pub mod JudgeLemmas
 pub mod LineLemmas
 pub mod FollowLemmas
+pub mod TableLemmas

@@ -22,10 +22,10 @@ found_more p (x ∷ xs) r = go (p x) (found_more p xs r)
     go true e = refl
     go false e = e
 
-abbrev numbered : Bool → ℕ → Option ℕ
+abbrev pub numbered : Bool → ℕ → Option ℕ
 numbered b n = if b then Some n else None
 
-number_more : (p : PortRound → Bool) (xs : List PortRound) (r : PortRound) → number_of p (xs ++ r ∷ []) ≡ or_else (number_of p xs) (numbered (p r) (length xs + 1))
+pub number_more : (p : PortRound → Bool) (xs : List PortRound) (r : PortRound) → number_of p (xs ++ r ∷ []) ≡ or_else (number_of p xs) (numbered (p r) (length xs + 1))
 number_more p [] r = refl
 number_more p (x ∷ xs) r = go (p x) (number_more p xs r)
   where

@@ -6,3 +6,5 @@ pub mod Alike
 pub mod QuietRounds
 pub mod Judged
 pub mod Follows
+pub mod Entries
+pub mod Table

@@ -5,9 +5,11 @@
 //! outstanding, and answers that verdict.
 #![tactic(auto)]
 
+mod entries;
 mod known;
 mod link_judge;
 mod link_state;
+mod table;
 mod verdict;
 
 pub use known::{known_verdicts, quiet_rounds_are_one};
