@@ -4,3 +4,4 @@ pub mod JudgeLemmas
 pub mod LineLemmas
 pub mod FollowLemmas
 pub mod TableLemmas
+pub mod FaultLemmas

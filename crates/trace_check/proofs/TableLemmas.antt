@@ -118,7 +118,7 @@ disagree (y ∷ xs) r x e other = go (y.link == r.link) (disagree xs r x) e
     go false h n = h n other
 
 -- the first line of a link, where its port is known
-first_of : (xs : List PortRound) (link : ℕ) (kind : PortKind) → port_of_link xs link ≡ Some kind → (x : PortRound) × (find (is_of_link link) xs ≡ Some x) × (x.kind ≡ kind)
+pub first_of : (xs : List PortRound) (link : ℕ) (kind : PortKind) → port_of_link xs link ≡ Some kind → (x : PortRound) × (find (is_of_link link) xs ≡ Some x) × (x.kind ≡ kind)
 first_of xs link kind e = go (find (is_of_link link) xs) refl e
   where
     go : (o : Option PortRound) → find (is_of_link link) xs ≡ o → option_map (λ (r : PortRound). r.kind) o ≡ Some kind → (x : PortRound) × (find (is_of_link link) xs ≡ Some x) × (x.kind ≡ kind)
@@ -239,13 +239,13 @@ order_told (Some before) last r is after =
     let b : before.round ≤ r.round = (before_parts before r after).0 in
     omega arith
 
-pub table_grows : (t after : TraceTable) (xs : List PortRound) (r : PortRound) → TableStands t xs → may_follow xs r ≡ true →
+pub table_grows : (t after : TraceTable) (xs : List PortRound) (r : PortRound) → r.link < 4096 → TableStands t xs → may_follow xs r ≡ true →
     after.lines ≡ t.lines + 1 → after.last ≡ Some (r.round, r.link) → after.lite ≡ or_else t.lite (if r.kind.lite then Some (t.lines + 1) else None) → length after.links.items ≡ max (length t.links.items) (r.link + 1) →
     ((k : ℕ) → k ≢ r.link → entry_of after.links.items k ≡ entry_of t.links.items k) →
     (state : LinkState) → entry_of after.links.items r.link ≡ Some state → state.port ≡ r.kind → HasJudgedTo state.judge r.round →
     ((lines : List PortRound) → t.lines + 1 ≡ length lines + 1 → EntryFollows (entry_of t.links.items r.link) lines r → Follows state.judge r.kind (lines ++ r ∷ []) r.link) →
     TableStands after (xs ++ r ∷ [])
-table_grows t after xs r s may lines last lite size others state is port to follows =
+table_grows t after xs r small s may lines last lite size others state is port to follows =
     let p = and_parts (comes_after (last_or None xs) r) (list_all (agrees_with r) xs) may in
     let longer : length (xs ++ r ∷ []) ≡ length xs + 1 = length-append xs (r ∷ []) in
     let greater : greatest_round (xs ++ r ∷ []) ≡ max (greatest_round xs) r.round = greatest_more xs r in
@@ -255,6 +255,7 @@ table_grows t after xs r s may lines last lite size others state is port to foll
     let was : round_of t.last ≡ greatest_round xs = s.greatest in
     let n : t.lines ≡ length xs = s.count in
     let sized : length t.links.items ≡ link_count xs = s.size in
+    let few : length t.links.items ≤ 4096 = s.few in
     let here : Follows state.judge r.kind (xs ++ r ∷ []) r.link = follows xs (ap (λ m. m + 1) n) (entry_follows (entry_of t.links.items r.link) xs r (s.links r.link) may) in
     let new : EntryStands (Some state) (xs ++ r ∷ []) r.link = entry_here (entry_of t.links.items r.link) xs r state (s.links r.link) may port to here in
     record {
@@ -263,6 +264,7 @@ table_grows t after xs r s may lines last lite size others state is port to foll
       greatest = omega arith;
       lite = lite ∙ ap (λ (o : Option ℕ). or_else o (if r.kind.lite then Some (t.lines + 1) else None)) s.lite ∙ ap (λ m. or_else (number_of is_lite xs) (if r.kind.lite then Some (m + 1) else None)) n ∙ sym (number_more is_lite xs r);
       size = omega arith;
+      few = omega arith;
       links = λ link. elim (eqb_tells link r.link) [
           inl e ↦ (let P : ℕ → Type 0 = λ k. EntryStands (entry_of after.links.items k) (xs ++ r ∷ []) k in
             subst P (sym e.1) (subst (λ (entry : Option LinkState). EntryStands entry (xs ++ r ∷ []) r.link) (sym is) new))
@@ -278,5 +280,6 @@ table_empty t lines last lite links = record {
   greatest = ap round_of last;
   lite = lite;
   size = ap length links;
+  few = (let none : length t.links.items ≡ 0 = ap length links in omega arith);
   links = λ link. subst (λ (entries : List (Option LinkState)). EntryStands (entry_of entries link) [] link) (sym links) refl;
 }

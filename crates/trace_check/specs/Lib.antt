@@ -8,3 +8,5 @@ pub mod Judged
 pub mod Follows
 pub mod Entries
 pub mod Table
+pub mod Faults
+pub mod Reading

@@ -1,5 +1,5 @@
 -- What is kept of a trace: a table of its links, and the place of its last line.
-use Rattle.std.specs.Prelude.{◌≡◌, ◌+◌, ◌++◌, ◌∷◌, [], ℕ, Bool, true, false, List, Option, Some, None, length, slice_index_or}
+use Rattle.std.specs.Prelude.{◌≡◌, ◌≤◌, ◌+◌, ◌++◌, ◌∷◌, [], ℕ, Bool, true, false, List, Option, Some, None, length, slice_index_or}
 use Rattle.std.specs.List.{last_or}
 use Rattle.std.specs.Option.{option_map}
 use Rattle.axi_history.specs.declared.port.PortRound.{PortRound}
@@ -29,6 +29,7 @@ pub record TableStands (table : TraceTable) (lines : List PortRound) : Type 0 wh
   pub greatest : round_of table.last ≡ greatest_round lines
   pub lite : table.lite ≡ number_of is_lite lines
   pub size : length table.links.items ≡ link_count lines
+  pub few : length table.links.items ≤ 4096
   pub links : (link : ℕ) → EntryStands (entry_of table.links.items link) lines link
 
 -- What a table answers for a line: whether it was taken. `shown` is what the line shows, if it isn't refused.
