@@ -1,0 +1,12 @@
+pub mod Lines
+pub mod Histories
+pub mod Verdicts
+pub mod KnownVerdicts
+pub mod Alike
+pub mod QuietRounds
+pub mod Judged
+pub mod Follows
+pub mod Entries
+pub mod Table
+pub mod Faults
+pub mod Reading
