@@ -1,5 +1,5 @@
 -- What the top call's parts tell of the whole.
-use Rattle.std.proofs.Common.{◌≡◌, ◌<◌, ◌≤◌, ℕ, List, [], Option, Some, None, Bool, true, false, length, refl, sym, ap, ◌∙◌, subst, inl, inr}
+use Rattle.std.proofs.Common.{◌≡◌, ◌<◌, ◌≤◌, ℕ, List, [], Option, Some, None, Bool, true, false, cond, not, length, refl, sym, ap, ◌∙◌, subst, inl, inr}
 use Rattle.std.specs.Prelude.{IfSome, ◌⊎◌}
 use Rattle.std.specs.Io.KnownBytes.{Appends}
 use Rattle.manager_end.specs.Script.{ScriptItem}
@@ -7,25 +7,34 @@ use Rattle.axi_program.proofs.DocumentLaws.{refusal-over}
 use Rattle.axi_program.specs.Call.{Came, IsComplete, IsReadWhole, ReadsWhole, Tells}
 use Rattle.axi_program.specs.Document.{refusal_of, script_of_input}
 use Rattle.axi_program.specs.Faults.{Rose}
-use Rattle.axi_program.specs.Outcome.{Concludes, Outcome, Refuses, input_outcome, outcome_by, run_outcome, status_of}
-use Rattle.axi_program.specs.Refusals.{not_built}
+use Rattle.axi_program.specs.Outcome.{Concludes, Outcome, Refuses, check_outcome, document_outcome, input_outcome, limit_of, outcome_by, outcome_of, refusal_over, run_outcome, status_of}
+use Rattle.axi_program.specs.Refusals.{input_too_long, not_built, not_text}
+use Rattle.std.proofs.lemmas.Bool.{lt-ltb}
+use Rattle.std.specs.Str.{is_utf8}
+use Rattle.trace_check.specs.Verdicts.{verdict_of}
 use Rattle.axi_program.specs.Transfers.{IsOver, IsWhole}
 use Rattle.axi_program.specs.declared.status.Refusal.{Refusal}
 use Rattle.axi_program.specs.declared.status.Status.{Status}
 use Rattle.axi_program.specs.declared.words.Command.{Command}
-use Rattle.axi_program.specs.declared.words.Command.TheVariants.{Run}
-use Rattle.axi_program.specs.declared.status.Status.TheVariants.{Done, Usage, Refused, ReadFault, WriteFault, NoMemory, Unfinished}
+use Rattle.axi_program.specs.declared.words.Command.TheVariants.{Check, Run}
+use Rattle.axi_program.specs.declared.status.Status.TheVariants.{Done, Usage, Refused, Broken, ReadFault, WriteFault, NoMemory, Unfinished}
 
 -- an input that is accepted comes to its run
 pub outcome-runs :
-    (trace : Bool) (input : List ℕ) (script : List ScriptItem) → refusal_of input ≡ None → script ≡ script_of_input input → run_outcome trace script ≡ input_outcome (Run trace) input
-unfolding input_outcome
+    (trace : Bool) (input : List ℕ) (script : List ScriptItem) → refusal_of input ≡ None → script ≡ script_of_input input → run_outcome trace script ≡ document_outcome trace input
+unfolding document_outcome
 outcome-runs trace input script accepted is = ap (run_outcome trace) is ∙ ap (λ (o : Option Refusal). outcome_by trace o (script_of_input input)) (sym accepted)
 
 -- one that is refused comes to its refusal
-pub outcome-refuses : (command : Command) (input : List ℕ) (refusal : Refusal) → refusal_of input ≡ Some refusal → Refuses refusal ≡ input_outcome command input
-unfolding input_outcome
-outcome-refuses (Run trace) input refusal refused = ap (λ (o : Option Refusal). outcome_by trace o (script_of_input input)) (sym refused)
+pub outcome-refuses : (trace : Bool) (input : List ℕ) (refusal : Refusal) → refusal_of input ≡ Some refusal → Refuses refusal ≡ document_outcome trace input
+unfolding document_outcome
+outcome-refuses trace input refusal refused = ap (λ (o : Option Refusal). outcome_by trace o (script_of_input input)) (sym refused)
+
+-- an input over the size is refused for it
+pub outcome-over : (command : Command) (input : List ℕ) → limit_of command < length input → Refuses (refusal_over command) ≡ input_outcome command input
+unfolding input_outcome check_outcome
+outcome-over (Run trace) input over = outcome-refuses trace input (not_built 0) (refusal-over input over)
+outcome-over Check input over = ap (λ (b : Bool). cond b (Refuses input_too_long) (cond (not (is_utf8 input)) (Refuses not_text) (outcome_of (verdict_of input)))) (sym (lt-ltb (limit_of Check) (length input) over))
 
 module _ {X : Type 0} where
   -- what holds of each that may be there holds also of one more
@@ -50,8 +59,8 @@ module _ {S K : Type 0} (command : Option Command) (left : S → Option (List �
         λ o. elim o as (λ o. IsWhole o (left source') text → IfSome o (λ input. input_outcome asked text ≡ input_outcome asked input)) [ None ↦ λ w. tt | Some input ↦ λ w. ap (input_outcome asked) w.0 ]
         in go (left source) whole
 
-    pub over-outcome : IsOver 65536 (left source) → IfSome (left source) (λ input. Refuses (not_built 0) ≡ input_outcome asked input)
-    over-outcome over = map-some (left source) (λ input. 65536 < length input) (λ input. Refuses (not_built 0) ≡ input_outcome asked input) (λ input w. outcome-refuses asked input (not_built 0) (refusal-over input w)) over
+    pub over-outcome : IsOver (limit_of asked) (left source) → IfSome (left source) (λ input. Refuses (refusal_over asked) ≡ input_outcome asked input)
+    over-outcome over = map-some (left source) (λ input. limit_of asked < length input) (λ input. Refuses (refusal_over asked) ≡ input_outcome asked input) (λ input w. outcome-over asked input w) over
 
     -- a call that concludes tells what it has to
     pub tells-by :
@@ -60,6 +69,7 @@ module _ {S K : Type 0} (command : Option Command) (left : S → Option (List �
     tells-by outcome Done is concludes = came-by outcome Done is concludes
     tells-by outcome Usage is concludes = absurd concludes
     tells-by outcome (Refused refusal) is concludes = came-by outcome (Refused refusal) is concludes
+    tells-by outcome (Broken fault) is concludes = came-by outcome (Broken fault) is concludes
     tells-by outcome ReadFault is concludes = absurd concludes
     tells-by outcome WriteFault is concludes = (concludes.0, came-by outcome WriteFault is concludes)
     tells-by outcome NoMemory is concludes = concludes
@@ -85,28 +95,31 @@ module _ {S K : Type 0} (command : Option Command) (left : S → Option (List �
   complete-by Usage tells used reads writes =
       inr (subst (λ (o : Option Command). IfSome o (λ asked. IfSome (left source) (λ input. Usage ≡ status_of (input_outcome asked input)))) (sym (used refl)) tt)
   complete-by (Refused refusal) tells used reads writes = inr (complete-came (Refused refusal) (λ outcome c. c.0) tells)
+  complete-by (Broken fault) tells used reads writes = inr (complete-came (Broken fault) (λ outcome c. c.0) tells)
   complete-by ReadFault tells used reads writes = absurd (reads tells.0)
   complete-by WriteFault tells used reads writes = absurd (writes tells.0)
   complete-by NoMemory tells used reads writes = inl refl
   complete-by Unfinished tells used reads writes = inr (complete-came Unfinished (λ outcome c. c.0) tells)
 
-module _ {S : Type 0} (left : S → Option (List ℕ)) (source source' : S) where
-  pub whole-read : (text : List ℕ) → IsWhole (left source) (left source') text → IsReadWhole left source source'
+module _ {S : Type 0} (command : Option Command) (left : S → Option (List ℕ)) (source source' : S) (asked : Command) (named : command ≡ Some asked) where
+  -- what is said of the input of the command
+  read-by : IfSome (left source) (λ input. (left source' ≡ Some []) ⊎ (limit_of asked < length input)) → IsReadWhole command left source source'
+  read-by read = subst (λ (o : Option Command). IfSome o (λ a. IfSome (left source) (λ input. (left source' ≡ Some []) ⊎ (limit_of a < length input)))) (sym named) read
+
+  pub whole-read : (text : List ℕ) → IsWhole (left source) (left source') text → IsReadWhole command left source source'
   whole-read text whole =
-      let go : (o : Option (List ℕ)) → IsWhole o (left source') text → IfSome o (λ input. (left source' ≡ Some []) ⊎ (65536 < length input)) =
-      λ o. elim o as (λ o. IsWhole o (left source') text → IfSome o (λ input. (left source' ≡ Some []) ⊎ (65536 < length input))) [ None ↦ λ w. tt | Some input ↦ λ w. inl w.1 ]
-      in go (left source) whole
+      let go : (o : Option (List ℕ)) → IsWhole o (left source') text → IfSome o (λ input. (left source' ≡ Some []) ⊎ (limit_of asked < length input)) =
+      λ o. elim o as (λ o. IsWhole o (left source') text → IfSome o (λ input. (left source' ≡ Some []) ⊎ (limit_of asked < length input))) [ None ↦ λ w. tt | Some input ↦ λ w. inl w.1 ]
+      in read-by (go (left source) whole)
 
-  pub over-read : IsOver 65536 (left source) → IsReadWhole left source source'
-  over-read over =
-      let go : (o : Option (List ℕ)) → IsOver 65536 o → IfSome o (λ input. (left source' ≡ Some []) ⊎ (65536 < length input)) =
-      λ o. elim o as (λ o. IsOver 65536 o → IfSome o (λ input. (left source' ≡ Some []) ⊎ (65536 < length input))) [ None ↦ λ w. tt | Some input ↦ λ w. inr w ]
-      in go (left source) over
+  pub over-read : IsOver (limit_of asked) (left source) → IsReadWhole command left source source'
+  over-read over = read-by (map-some (left source) (λ input. limit_of asked < length input) (λ input. (left source' ≡ Some []) ⊎ (limit_of asked < length input)) (λ input w. inr w) over)
 
-  pub reads-by : (status : Status) → IsReadWhole left source source' → ReadsWhole left source source' status
+  pub reads-by : (status : Status) → IsReadWhole command left source source' → ReadsWhole command left source source' status
   reads-by Done read = read
   reads-by Usage read = tt
   reads-by (Refused refusal) read = read
+  reads-by (Broken fault) read = read
   reads-by ReadFault read = tt
   reads-by WriteFault read = read
   reads-by NoMemory read = tt

@@ -1,10 +1,10 @@
 -- What the top call says by its status.
 use Rattle.std.specs.Prelude.{◌≡◌, ◌≢◌, ◌<◌, ℕ, [], List, Bool, true, false, Option, Some, None, ◌⊎◌, IfSome, length}
 use Rattle.axi_program.specs.Faults.{Rose}
-use Rattle.axi_program.specs.Outcome.{Concludes, Outcome, input_outcome, status_of}
+use Rattle.axi_program.specs.Outcome.{Concludes, Outcome, input_outcome, limit_of, status_of}
 use Rattle.axi_program.specs.declared.status.Status.{Status}
 use Rattle.axi_program.specs.declared.words.Command.{Command}
-use Rattle.axi_program.specs.declared.status.Status.TheVariants.{Done, Usage, Refused, ReadFault, WriteFault, NoMemory, Unfinished}
+use Rattle.axi_program.specs.declared.status.Status.TheVariants.{Done, Usage, Refused, Broken, ReadFault, WriteFault, NoMemory, Unfinished}
 
 module _ {S K : Type 0} (command : Option Command) (left : S → Option (List ℕ)) (reading : S → ℕ) (written : K → Option (List ℕ)) (writing : K → ℕ) (source source' : S) (sink sink' : K) where
   -- the input came to what it comes to by the command, where the source tells it
@@ -17,21 +17,23 @@ module _ {S K : Type 0} (command : Option Command) (left : S → Option (List �
   Tells Done = Came Done
   Tells Usage = (source' ≡ source) × (sink' ≡ sink)
   Tells (Refused refusal) = Came (Refused refusal)
+  Tells (Broken fault) = Came (Broken fault)
   Tells ReadFault = Rose (reading source) (reading source') × (sink' ≡ sink)
   Tells WriteFault = Rose (writing sink) (writing sink') × Came WriteFault
   Tells NoMemory = sink' ≡ sink
   Tells Unfinished = Came Unfinished
 
-module _ {S : Type 0} (left : S → Option (List ℕ)) (source source' : S) where
+module _ {S : Type 0} (command : Option Command) (left : S → Option (List ℕ)) (source source' : S) where
   -- the source was read to its end, save where the input is over the size
   abbrev pub IsReadWhole : Type 0
-  IsReadWhole = IfSome (left source) (λ input. (left source' ≡ Some []) ⊎ (65536 < length input))
+  IsReadWhole = IfSome command (λ asked. IfSome (left source) (λ input. (left source' ≡ Some []) ⊎ (limit_of asked < length input)))
 
   -- so it was where the status tells what the input comes to
   abbrev pub ReadsWhole : Status → Type 0
   ReadsWhole Done = IsReadWhole
   ReadsWhole Usage = Unit {0}
   ReadsWhole (Refused refusal) = IsReadWhole
+  ReadsWhole (Broken fault) = IsReadWhole
   ReadsWhole ReadFault = Unit {0}
   ReadsWhole WriteFault = IsReadWhole
   ReadsWhole NoMemory = Unit {0}

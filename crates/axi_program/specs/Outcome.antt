@@ -1,5 +1,5 @@
 -- What an input comes to, and what a call that writes it has written.
-use Rattle.std.specs.Prelude.{◌≡◌, ◌++◌, ℕ, [], List, Bool, true, false, Option, Some, None, codes, drop, take, if◌then◌else◌}
+use Rattle.std.specs.Prelude.{◌≡◌, ◌++◌, ℕ, [], List, Bool, true, false, Option, Some, None, codes, drop, length, nat_lt, not, take, if◌then◌else◌}
 use Rattle.std.specs.Option.{option_map_or}
 use Rattle.std.specs.Io.KnownBytes.{Appends}
 use Rattle.manager_end.specs.Answer.{AnswerView}
@@ -9,15 +9,21 @@ use Rattle.net_rounds.specs.NetView.{NetView}
 use Rattle.net_rounds.specs.Network.{Network, after_rounds, is_finished}
 use Rattle.net_rounds.specs.Run.{run_length}
 use Rattle.axi_program.specs.Document.{refusal_of, script_of_input}
+use Rattle.axi_program.specs.Refusals.{bad_trace_line, input_too_long, not_built, not_text}
+use Rattle.trace_check.specs.Verdicts.{verdict_of}
+use Rattle.trace_check.specs.declared.verdict.PortFault.{PortFault}
+use Rattle.trace_check.specs.declared.verdict.Verdict.{Verdict}
+use Rattle.trace_check.specs.declared.verdict.Verdict.TheVariants.{BadTraceLine, Broken, Legal, NotBuilt}
+use Rattle.std.specs.Str.{is_utf8}
 use Rattle.axi_program.specs.Faults.{Rose}
-use Rattle.axi_program.specs.Text.{answer_lines, refusal_line, run_text}
+use Rattle.axi_program.specs.Text.{answer_lines, broken_line, legal_line, refusal_line, run_text}
 use Rattle.axi_program.specs.Trace.{trace_lines}
 use Rattle.axi_program.specs.Transfers.{AppendsPrefix}
 use Rattle.axi_program.specs.declared.status.Refusal.{Refusal}
 use Rattle.axi_program.specs.declared.status.Status.{Status}
 use Rattle.axi_program.specs.declared.words.Command.{Command}
-use Rattle.axi_program.specs.declared.words.Command.TheVariants.{Run}
-use Rattle.axi_program.specs.declared.status.Status.TheVariants.{Done, Usage, Refused, ReadFault, WriteFault, NoMemory, Unfinished}
+use Rattle.axi_program.specs.declared.words.Command.TheVariants.{Check, Run}
+use Rattle.axi_program.specs.declared.status.Status.TheVariants.{Broken as StatusBroken, Done, Usage, Refused, ReadFault, WriteFault, NoMemory, Unfinished}
 
 -- the rounds of the run of a script: up to the first state in which all is answered, at most as many as the bound
 unfoldable pub run_rounds : List ScriptItem → ℕ
@@ -31,11 +37,12 @@ run_end script = after_rounds (run_rounds script) (built_in script)
 unfoldable pub noted_answers : Network → List AnswerView
 noted_answers net = option_map_or (λ state. state.answers) (first_manager net.nodes) []
 
--- An input is refused; or its run ends, and has a text; or a transaction is unanswered after the bound's rounds, and
--- the text is what was traced until then.
+-- An input is refused; or what is asked is done, and has a text; or a trace breaks a rule; or a transaction is
+-- unanswered after the bound's rounds, and the text is what was traced until then.
 pub data Outcome : Type 0 where
   Refuses : Refusal → Outcome
   Answers : List ℕ → Outcome
+  Breaks : PortFault → Outcome
   Stalls : List ℕ → Outcome
 
 -- the lines of the run of a script, where a trace is asked for
@@ -59,20 +66,51 @@ abbrev pub outcome_by : Bool → Option Refusal → List ScriptItem → Outcome
 outcome_by trace (Some refusal) script = Refuses refusal
 outcome_by trace None script = run_outcome trace script
 
+-- what a trace comes to, by the verdict on it
+abbrev pub outcome_of : Verdict → Outcome
+outcome_of (Legal lines) = Answers (legal_line lines)
+outcome_of (Broken fault) = Breaks fault
+outcome_of (BadTraceLine line) = Refuses (bad_trace_line line)
+outcome_of (NotBuilt line) = Refuses (not_built line)
+
+-- the most bytes that an input may have
+abbrev pub limit_of : Command → ℕ
+limit_of (Run trace) = 65536
+limit_of Check = 16777216
+
+-- what an input comes to that is to be judged as a trace
+unfoldable pub check_outcome : List ℕ → Outcome
+check_outcome input =
+    if nat_lt (limit_of Check) (length input) then Refuses input_too_long
+    else if not (is_utf8 input) then Refuses not_text
+    else outcome_of (verdict_of input)
+
+-- why an input of more bytes is refused
+abbrev pub refusal_over : Command → Refusal
+refusal_over (Run trace) = not_built 0
+refusal_over Check = input_too_long
+
+-- what an input comes to that is to be run
+unfoldable pub document_outcome : Bool → List ℕ → Outcome
+document_outcome trace input = outcome_by trace (refusal_of input) (script_of_input input)
+
 -- what an input comes to
 unfoldable pub input_outcome : Command → List ℕ → Outcome
-input_outcome (Run trace) input = outcome_by trace (refusal_of input) (script_of_input input)
+input_outcome (Run trace) input = document_outcome trace input
+input_outcome Check input = check_outcome input
 
 -- the text of an outcome, which is all that is written
 abbrev pub text_of : Outcome → List ℕ
 text_of (Refuses refusal) = refusal_line refusal
 text_of (Answers text) = text
+text_of (Breaks fault) = broken_line fault
 text_of (Stalls text) = text
 
 -- its status
 abbrev pub status_of : Outcome → Status
 status_of (Refuses refusal) = Refused refusal
 status_of (Answers text) = Done
+status_of (Breaks fault) = StatusBroken fault
 status_of (Stalls text) = Unfinished
 
 -- How a call ends that writes the text of an outcome: with its status, and the whole text is written; or the sink's
@@ -82,6 +120,7 @@ module _ {K : Type 0} (written : K → Option (List ℕ)) (faults : K → ℕ) (
   Concludes Done = (Done ≡ status_of outcome) × Appends (written before) (written after) (text_of outcome)
   Concludes Usage = ⊥
   Concludes (Refused refusal) = (Refused refusal ≡ status_of outcome) × Appends (written before) (written after) (text_of outcome)
+  Concludes (StatusBroken fault) = (StatusBroken fault ≡ status_of outcome) × Appends (written before) (written after) (text_of outcome)
   Concludes ReadFault = ⊥
   Concludes WriteFault = Rose (faults before) (faults after) × AppendsPrefix (written before) (written after) (text_of outcome)
   Concludes NoMemory = after ≡ before

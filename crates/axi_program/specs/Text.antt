@@ -1,5 +1,5 @@
 -- What the program writes: the line of a refusal, and the lines of a run.
-use Rattle.std.specs.Prelude.{ℕ, ◌^◌, ◌==◌, Bool, List, [], ◌∷◌, ◌++◌, take, drop, if◌then◌else◌, codes}
+use Rattle.std.specs.Prelude.{ℕ, ◌^◌, ◌==◌, ◌||◌, Bool, List, [], ◌∷◌, ◌++◌, take, drop, if◌then◌else◌, codes}
 use Rattle.std.specs.List.{flat_map, zip}
 use Rattle.std.specs.Fmt.{decimal}
 use Rattle.axi_beats.specs.declared.response.Resp.{Resp}
@@ -10,23 +10,48 @@ use Rattle.manager_end.specs.declared.script.Txn.{Txn}
 use Rattle.plain_text.specs.Printing.{pairs}
 use Rattle.axi_program.specs.Traffic.{manager_name}
 use Rattle.axi_program.specs.declared.status.Refusal.{Refusal}
+use Rattle.trace_check.specs.declared.verdict.PortFault.{PortFault}
 
 -- ---- a refusal
 
 -- the name of a cause; a code that isn't listed has none
 abbrev pub cause_name : ℕ → List ℕ
 cause_name code =
-    if code == 3 then codes "NoSeparator"
+    if code == 1 then codes "InputTooLong"
+    else if code == 2 then codes "NotText"
+    else if code == 3 then codes "NoSeparator"
+    else if code == 22 then codes "BadTraceLine"
     else if code == 23 then codes "NotBuilt"
     else []
 
 -- the place of a refusal, where its cause names one
 abbrev pub place_text : Refusal → List ℕ
-place_text refusal = if refusal.code == 23 then codes " " ++ decimal refusal.place else []
+place_text refusal = if refusal.code == 22 || refusal.code == 23 then codes " " ++ decimal refusal.place else []
 
 -- `refused <code> <name>`, and the place where one is named
 unfoldable pub refusal_line : Refusal → List ℕ
 refusal_line refusal = codes "refused " ++ decimal refusal.code ++ codes " " ++ cause_name refusal.code ++ place_text refusal ++ codes "\n"
+
+-- ---- a trace that is judged
+
+-- `legal <lines>`
+unfoldable pub legal_line : ℕ → List ℕ
+legal_line lines = codes "legal " ++ decimal lines ++ codes "\n"
+
+-- the name of a channel, by its number from 1
+abbrev pub channel_name : ℕ → List ℕ
+channel_name channel =
+    if channel == 1 then codes "aw"
+    else if channel == 2 then codes "w"
+    else if channel == 3 then codes "b"
+    else if channel == 4 then codes "ar"
+    else codes "r"
+
+-- `broken <line> <round> <link> <channel> <rule>`
+unfoldable pub broken_line : PortFault → List ℕ
+broken_line fault =
+    codes "broken " ++ decimal fault.line ++ codes " " ++ decimal fault.round ++ codes " " ++ decimal fault.link ++ codes " " ++ channel_name fault.channel ++ codes " "
+    ++ decimal fault.rule ++ codes "\n"
 
 -- ---- a run
 

@@ -2,11 +2,11 @@
 use Rattle.std.specs.Prelude.{ℕ, [], ◌∷◌, List, Bool, true, false, Option, None, Some, if◌then◌else◌, codes}
 use Rattle.std.specs.Str.{bytes_eq}
 use Rattle.axi_program.specs.declared.words.Command.{Command}
-use Rattle.axi_program.specs.declared.words.Command.TheVariants.{Run}
+use Rattle.axi_program.specs.declared.words.Command.TheVariants.{Check, Run}
 
 -- a command by its one word
 abbrev pub command_named : List ℕ → Option Command
-command_named word = if bytes_eq word (codes "run") then Some (Run false) else None
+command_named word = if bytes_eq word (codes "run") then Some (Run false) else if bytes_eq word (codes "check") then Some Check else None
 
 -- a command by its word and one option
 abbrev pub command_with : List ℕ → List ℕ → Option Command

@@ -9,10 +9,12 @@
 #![tactic(auto)]
 
 mod answer_text;
+mod check;
 #[cfg(test)]
 mod device_tests;
 mod document;
 mod outside;
+mod refuse;
 mod run;
 mod status;
 #[cfg(test)]
@@ -34,7 +36,7 @@ pub use outside::source::{Failed, Source};
 pub use outside::standard::{StdinSource, StdoutSink};
 pub use outside::write_all::write_piece;
 pub use status::{Refusal, Status};
-pub use texts::{render_refusal, render_rounds};
+pub use texts::{render_broken, render_legal, render_refusal, render_rounds};
 pub use top::axinet;
 pub use traffic::{Access, TrafficFault, TrafficLine, read_line, read_traffic};
 pub use words::{Command, command_of};

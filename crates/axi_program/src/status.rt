@@ -1,8 +1,10 @@
 //! What the top call answers.
 
 ghost use Rattle.std.specs.Prelude.{◌≡◌};
-ghost use Rattle.axi_program.specs.Refusals.{no_separator, not_built};
+ghost use Rattle.axi_program.specs.Refusals.{bad_trace_line, input_too_long, no_separator, not_built, not_text};
 ghost use Rattle.axi_program.specs.Status.{exit_code};
+
+use trace_check::PortFault;
 
 /// Why an input is refused.
 #[derive(Debug, Clone, Copy, PartialEq, Eq)]
@@ -16,11 +18,53 @@ pub struct Refusal {
 }
 
 impl Refusal {
+    /// The code of an input of more bytes than are taken.
+    pub const INPUT_TOO_LONG: u8 = 1;
+
+    /// The code of an input that isn't UTF-8.
+    pub const NOT_TEXT: u8 = 2;
+
     /// The code of an input none of whose lines is `%%`.
     pub const NO_SEPARATOR: u8 = 3;
 
+    /// The code of a line that is none that a trace may have there.
+    pub const BAD_TRACE_LINE: u8 = 22;
+
     /// The code of an input, or of a line of traffic, that isn't of a form that is read yet.
     pub const NOT_BUILT: u8 = 23;
+
+    /// The input has more bytes than are taken.
+    pub fn input_too_long() -> Refusal
+        ensures { result ≡ input_too_long }
+    {
+        Refusal {
+            code: Refusal::INPUT_TOO_LONG,
+            place: 0,
+            rule: 0,
+        }
+    }
+
+    /// The input isn't UTF-8.
+    pub fn not_text() -> Refusal
+        ensures { result ≡ not_text }
+    {
+        Refusal {
+            code: Refusal::NOT_TEXT,
+            place: 0,
+            rule: 0,
+        }
+    }
+
+    /// The line with this number is none that a trace may have there.
+    pub fn bad_trace_line(line: u32) -> Refusal
+        ensures { result ≡ bad_trace_line line }
+    {
+        Refusal {
+            code: Refusal::BAD_TRACE_LINE,
+            place: line,
+            rule: 0,
+        }
+    }
 
     /// No line of the input is `%%`.
     pub fn no_separator() -> Refusal
@@ -54,6 +98,8 @@ pub enum Status {
     Usage,
     /// The input is refused. One line was written.
     Refused(Refusal),
+    /// The trace breaks a rule of a port. One line was written.
+    Broken(PortFault),
     /// The source failed. Nothing was written.
     ReadFault,
     /// The sink failed. What was written is the front of the text.
@@ -73,6 +119,7 @@ impl Status {
             Status::Done => 0,
             Status::Usage => 2,
             Status::Refused(_) => 3,
+            Status::Broken(_) => 4,
             Status::ReadFault => 5,
             Status::WriteFault => 6,
             Status::NoMemory => 7,

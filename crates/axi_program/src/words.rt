@@ -10,10 +10,12 @@ use plain_text::words::is_word;
 pub enum Command {
     /// To run a document; whether the trace of its links stands before the answers.
     Run { trace: bool },
+    /// To judge the ports of a trace.
+    Check,
 }
 
 /// The command that the words name, of which the first one is the program's name: `run`, which may
-/// be followed by `--trace=none` or `--trace=all`. None where they name no command.
+/// be followed by `--trace=none` or `--trace=all`, or `check`. None where they name no command.
 pub fn command_of(words: &[String]) -> Option<Command>
     ensures { result ≡ command_by (map string_bytes words.now) }
 {
@@ -30,6 +32,8 @@ fn command_named(word: &[u8]) -> Option<Command>
 {
     if is_word(word, b"run") {
         Some(Command::Run { trace: false })
+    } else if is_word(word, b"check") {
+        Some(Command::Check)
     } else {
         None
     }

@@ -4,7 +4,7 @@ use Rattle.std.proofs.KnownBytes.{Appends-trans}
 use Rattle.manager_end.specs.Script.{ScriptItem}
 use Rattle.net_rounds.specs.NetView.{NetView}
 use Rattle.axi_program.proofs.RunLaws.{Rose-later, built, has-run, outcome-answers, outcome-stalls, outcome-traces, prefix-later, prefix-whole, traced-is}
-use Rattle.axi_program.specs.Outcome.{parting, status_of, text_of, text_of_net, traced}
+use Rattle.axi_program.specs.Outcome.{parting, run_outcome, status_of, text_of, text_of_net, traced}
 use Rattle.axi_program.specs.Trace.{traced_by}
 use Rattle.axi_program.specs.Transfers.{AppendsPrefix}
 use Rattle.axi_program.proofs.run.run.Goals as goal
@@ -28,7 +28,7 @@ returns-in-Err-run_to_end-clause-concludes g c =
     let part = subst (λ (text : List ℕ). AppendsPrefix (g.K.Sink.written c.args.sink.now) (g.K.Sink.written c.run_to_end.new.sink) text) lines c.in-Err-run_to_end.ensures.err in
     let whole = outcome-traces c.args.trace c.args.script in (
       c.in-Err-run_to_end.ensures.cause.failed,
-      prefix-whole (g.K.Sink.written c.args.sink.now) (g.K.Sink.written c.run_to_end.new.sink) (traced c.args.trace c.args.script) whole.0 (text_of _) part whole.1,
+      prefix-whole (g.K.Sink.written c.args.sink.now) (g.K.Sink.written c.run_to_end.new.sink) (traced c.args.trace c.args.script) whole.0 (text_of (run_outcome c.args.trace c.args.script)) part whole.1,
     )
 
 pub returns-in-Ok-write_run-clause-concludes : goal.returns-in-Ok-write_run-clause-concludes
