@@ -1,6 +1,10 @@
 pub mod BeatLemmas
 pub mod DirectionLemmas
+pub mod IssueLemmas
 pub mod ManagerLaws
+pub mod NoteLemmas
+pub mod PlaceLemmas
+pub mod RowLemmas
 pub mod ScriptLemmas
 pub mod StepLemmas
 pub mod WaitingLemmas
