@@ -1,8 +1,11 @@
+pub mod AfterLemmas
 pub mod BeatLemmas
 pub mod DirectionLemmas
 pub mod IssueLemmas
+pub mod ListLemmas
 pub mod ManagerLaws
 pub mod NoteLemmas
+pub mod OrderLaws
 pub mod PlaceLemmas
 pub mod RowLemmas
 pub mod ScriptLemmas

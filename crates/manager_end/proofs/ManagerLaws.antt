@@ -1,14 +1,14 @@
 -- The laws of the manager's table.
 use Rattle.std.proofs.Common.{◌≡◌, ◌≢◌, ℕ, ◌+◌, ◌<◌, ◌≤◌, ◌==◌, ◌&&◌, suc, Bool, true, false, cond, List, [], ◌∷◌, ◌++◌, Option, Some, None, length, map, take, drop, get_or, refl, sym, ◌∙◌, ap, subst, arith, add-zero, zero-add, length-append}
 use Rattle.std.specs.List.{enumerate_from}
-use Rattle.std.specs.Prelude.{All, filter, find, is_some, nat_lt, not, slice_get}
+use Rattle.std.specs.Prelude.{All, count_by, filter, find, is_some, nat_lt, not, slice_get}
 use Rattle.std.specs.Option.{option_map}
-use Rattle.std.proofs.lemmas.Bool.{ltb-true, and_parts, not-true}
+use Rattle.std.proofs.lemmas.Bool.{eqb-true, ltb-true, and_parts, not-true}
 use Rattle.std.proofs.lemmas.List.Elements.{All-cons, All-head, All-tail, All-map, All-filter, All-weaker, filter_passes}
 use Rattle.std.proofs.lemmas.List.FromFn.{length-enumerate_from, get_or-enumerate_from}
 use Rattle.std.proofs.lemmas.List.Sums.{sum_by-le}
 use Rattle.std.proofs.lemmas.List.{get_or-map, get_or_default, length-map}
-use Rattle.std.proofs.lemmas.Option.{slice_get_within}
+use Rattle.std.proofs.lemmas.Option.{slice_get_within, slice_get-get_or}
 use Rattle.axi_beats.specs.declared.beat.BBeat.{BBeat}
 use Rattle.axi_beats.specs.declared.beat.RBeat.{RBeat}
 use Rattle.axi_beats.specs.Word.{IsBusWidth}
@@ -18,12 +18,13 @@ use Rattle.axi_link.specs.Table.{link_of, head_of, has_room, passing, put_of, ta
 use Rattle.flight.specs.Entries.{without_oldest}
 use Rattle.manager_end.specs.Answer.{AnswerView, unanswered}
 use Rattle.manager_end.specs.Beats.{request_of, data_of}
-use Rattle.manager_end.specs.Laws.{ManagerBegins, ManagerMovesFit}
-use Rattle.manager_end.specs.ManagerState.{ManagerState, is_answered, IsManager, IsUnanswered, AreWaiting, AreDistinct, waiting, writes_of, reads_of, due_bytes}
+use Rattle.manager_end.specs.Laws.{DoneIsAnswered, ManagerBegins, ManagerMovesFit}
+use Rattle.manager_end.specs.ManagerState.{ManagerState, answered_one, is_answered, IsManager, IsUnanswered, AreWaiting, AreDistinct, waiting, writes_of, reads_of, due_bytes}
 use Rattle.manager_end.specs.ManagerTable.{below, answering, left_waiting, with_issued, more, note_write, note_read, note_issue, ready, fits, manager_aw, manager_w, manager_ar, manager_b, manager_r, manager_next}
 use Rattle.manager_end.specs.Script.{ScriptItem}
 use Rattle.manager_end.specs.declared.entry.Entry.{Entry}
 use Rattle.manager_end.proofs.IssueLemmas.{issues-begin, issues-stay}
+use Rattle.manager_end.proofs.ListLemmas.{all-counted}
 use Rattle.manager_end.proofs.RowLemmas.{All-middle, answering-found, aw-next, aw-fits, ar-next, ar-fits, w-issued, bus-some}
 use Rattle.manager_end.proofs.WaitingLemmas.{AreKept, kept-turned, kept-answered, kept-issued, oldest-id, waiting-issued, waiting-next}
 
@@ -207,3 +208,12 @@ manager-fits links s = record {
   r_take = take-fits links s.lower (λ l. l.r) (is_some (manager_r links s)) (answering-head links s.lower (λ l. l.r) (λ beat. beat.id) s.read_entries (below links s).r);
   r_put = tt;
 }
+
+-- a manager that is done has an answer to each transaction
+pub manager-done : DoneIsAnswered
+manager-done s is done n within =
+    let whole : s.answered ≡ length s.script = eqb-true s.answered (length s.script) done
+    in let all : count_by is_answered s.answers ≡ length s.answers = sym is.counted ∙ whole ∙ sym is.one_each
+    in let at = slice_get-get_or s.answers n (unanswered 0) (subst (λ (size : ℕ). n < size) (sym is.one_each) within)
+    in let came = all-counted is_answered s.answers n (get_or s.answers n (unanswered 0)) all at
+    in ap (λ (o : Option AnswerView). is_some (answered_one o)) at ∙ ap (λ (b : Bool). is_some (cond b (Some (get_or s.answers n (unanswered 0))) None)) came

@@ -137,10 +137,10 @@ module _ (links : List LinkView) (s : ManagerState) where
     ways-apart : (a b : ℕ) → IsUnanswered 0 (note_at s a) → IsUnanswered s.bus (note_at s b) → a ≢ b
     ways-apart a b write read same = bus-some s.bus is.bus_width (sym read.due_bytes ∙ ap (λ (q : ℕ). (note_at s q).due_bytes) (sym same) ∙ write.due_bytes)
 
-    b-taken : (x : Entry × BBeat) → manager_b links s ≡ Some x → taken_of true ≡ Some x.0
+    pub b-taken : (x : Entry × BBeat) → manager_b links s ≡ Some x → taken_of true ≡ Some x.0
     b-taken x is = ap (option_map (λ (answer : Entry × BBeat). answer.0)) is
 
-    r-taken : (x : Entry × RBeat) → manager_r links s ≡ Some x → taken_of false ≡ Some x.0
+    pub r-taken : (x : Entry × RBeat) → manager_r links s ≡ Some x → taken_of false ≡ Some x.0
     r-taken x is = ap (option_map (λ (answer : Entry × RBeat). answer.0)) is
 
     module _ (round : ℕ) where

@@ -1,6 +1,7 @@
 //! What holds of the manager's definitions alone.
 
-ghost use Rattle.manager_end.specs.Laws.{ManagerMovesFit, ManagerBegins, ManagerStays};
+ghost use Rattle.manager_end.specs.Laws.{DoneIsAnswered, ManagerMovesFit, ManagerBegins, ManagerStays};
+ghost use Rattle.manager_end.specs.ManagerOrder.{NotesStay};
 
 /// The laws of the manager's decision table.
 pub fn laws()
@@ -10,4 +11,12 @@ pub fn laws()
     // What holds of a manager holds at the start and after each round.
     ensures begins { ManagerBegins }
     ensures stays { ManagerStays }
+
+    // Where it is done, all is answered.
+    ensures done { DoneIsAnswered }
+{}
+
+/// The law of the rounds that a manager notes, whatever its link brings.
+pub fn laws_of_rounds()
+    ensures { NotesStay }
 {}
