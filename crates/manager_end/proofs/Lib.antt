@@ -1,6 +1,7 @@
 pub mod AfterLemmas
 pub mod BeatLemmas
 pub mod DirectionLemmas
+pub mod EntryLemmas
 pub mod IssueLemmas
 pub mod ListLemmas
 pub mod ManagerLaws

@@ -1,5 +1,5 @@
 -- What a round does to the note of each transaction.
-use Rattle.std.proofs.Common.{◌≡◌, ◌≢◌, ◌⊎◌, ℕ, ◌+◌, ◌<◌, ◌==◌, Bool, true, false, cond, List, [], ◌∷◌, ◌++◌, Option, Some, None, length, map, take, drop, get_or, refl, sym, ◌∙◌, ap, subst, inl, inr, arith}
+use Rattle.std.proofs.Common.{◌≡◌, ◌≢◌, ◌⊎◌, ℕ, ◌+◌, ◌<◌, ◌≤◌, ◌==◌, Bool, true, false, cond, List, [], ◌∷◌, ◌++◌, Option, Some, None, length, map, take, drop, get_or, refl, sym, ◌∙◌, ap, subst, inl, inr, arith}
 use Rattle.std.specs.Option.{option_map}
 use Rattle.std.specs.Prelude.{All, find, slice_get}
 use Rattle.std.proofs.lemmas.Bool.{cases_eq}
@@ -14,7 +14,7 @@ use Rattle.manager_end.specs.ManagerState.{ManagerState, IsManager, IsUnanswered
 use Rattle.manager_end.specs.ManagerTable.{manager_aw, manager_ar, manager_b, manager_r, manager_next, note_write, note_read, note_issue}
 use Rattle.manager_end.specs.Script.{ScriptItem}
 use Rattle.manager_end.specs.declared.entry.Entry.{Entry}
-use Rattle.manager_end.proofs.RowLemmas.{All-middle, bus-some, aw-next, ar-next, b-found, r-found}
+use Rattle.manager_end.proofs.RowLemmas.{All-middle, bus-some, aw-after, aw-next, ar-after, ar-next, b-found, r-found}
 use Rattle.manager_end.proofs.WaitingLemmas.{All-oldest, others-left, waiting-next}
 
 -- whether something moves at this place
@@ -86,7 +86,8 @@ module _ (links : List LinkView) (s : ManagerState) where
   next_of true = manager_aw links s
   next_of false = manager_ar links s
 
-  mapped : {X : Type 0} (o : Option (Entry × X)) (e : Entry) → option_map (λ answer. answer.0) o ≡ Some e → (x : Entry × X) × (o ≡ Some x) × (x.0 ≡ e)
+  -- the answer of an entry that is taken
+  pub mapped : {X : Type 0} (o : Option (Entry × X)) (e : Entry) → option_map (λ answer. answer.0) o ≡ Some e → (x : Entry × X) × (o ≡ Some x) × (x.0 ≡ e)
   mapped None e is = absurd (cc)
   mapped (Some x) e is = (x, refl, let same : x.0 ≡ e = cc in same)
 
@@ -101,6 +102,10 @@ module _ (links : List LinkView) (s : ManagerState) where
   pub next-found : (write : Bool) (p : ℕ × ScriptItem) → next_of write ≡ Some p → slice_get (of_direction write s.script) (issued_of write s) ≡ Some p
   next-found true p is = aw-next links s p is
   next-found false p is = ar-next links s p is
+
+  pub next-after : (write : Bool) (p : ℕ × ScriptItem) → next_of write ≡ Some p → p.1.txn.after ≤ s.answered
+  next-after true p is = aw-after links s p is
+  next-after false p is = ar-after links s p is
 
   -- what holds of the places of those that wait holds of an entry that is answered, and of one that is issued
   pub taken-place : (write : Bool) (e : Entry) (P : ℕ → Type 0) → taken_of write ≡ Some e → All P (waiting (entries_of write s) (issued_of write s) (of_direction write s.script)) → P e.place
