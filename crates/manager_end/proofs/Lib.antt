@@ -2,11 +2,13 @@ pub mod AfterLemmas
 pub mod BeatLemmas
 pub mod DirectionLemmas
 pub mod EntryLemmas
+pub mod HeldLemmas
 pub mod IssueLemmas
 pub mod ListLemmas
 pub mod ManagerLaws
 pub mod NoteLemmas
 pub mod OrderLaws
+pub mod PassedLemmas
 pub mod PlaceLemmas
 pub mod RowLemmas
 pub mod ScriptLemmas
