@@ -128,19 +128,23 @@ module _ (links : List LinkView) (s : ManagerState) (is : IsManager s) (waits : 
         let x : (x : Entry × RBeat) × (manager_r links s ≡ Some x) × (x.0 ≡ e) = mapped links s (manager_r links s) e taken
         in subst (λ (entry : Entry). (note_at (manager_next round links s) entry.place).answered ≡ round) x.2 (ap (λ (a : AnswerView). a.answered) (r-noted links s is round x.0 x.1))
 
-    -- a transaction whose answer isn't taken is answered as before
-    pub stays-open : (write : Bool) (j : ℕ) (p : ℕ × ScriptItem) → slice_get (of_direction write s.script) j ≡ Some p → ((e : Entry) → taken_of links s write ≡ Some e → p.0 ≢ e.place) → is_answered (note_at (manager_next round links s) p.0) ≡ is_answered (note_at s p.0)
-    stays-open write j p at apart =
+    -- of a transaction whose answer isn't taken nothing new comes
+    pub stays-same : (write : Bool) (j : ℕ) (p : ℕ × ScriptItem) → slice_get (of_direction write s.script) j ≡ Some p → ((e : Entry) → taken_of links s write ≡ Some e → p.0 ≢ e.place) →
+        ((note_at (manager_next round links s) p.0).resps ≡ (note_at s p.0).resps) × ((note_at (manager_next round links s) p.0).bytes ≡ (note_at s p.0).bytes) × ((note_at (manager_next round links s) p.0).answered ≡ (note_at s p.0).answered)
+    stays-same write j p at apart =
         let not_taken : (other : Bool) (e : Entry) → taken_of links s other ≡ Some e → p.0 ≢ e.place = λ other e taken here.
             let of_entry = taken-is other e taken
             in let ways = one-place links s write other j of_entry.0 p of_entry.1 at of_entry.2 (here ∙ ap (λ (entry : Entry). entry.place) (sym of_entry.4))
             in apart e (ap (taken_of links s) ways.0 ∙ taken) here
         in elim (change-of links s round p.0 is) [
-          | Kept e ↦ ap is_answered e
+          | Kept e ↦ (ap (λ (a : AnswerView). a.resps) e, ap (λ (a : AnswerView). a.bytes) e, ap (λ (a : AnswerView). a.answered) e)
           | Wrote x taken here e ↦ absurd (not_taken true x.0 (b-taken links s is x taken) here)
           | Read x taken here e ↦ absurd (not_taken false x.0 (r-taken links s is x taken) here)
-          | Issued other q next here e ↦ ap is_answered e
+          | Issued other q next here e ↦ (ap (λ (a : AnswerView). a.resps) e, ap (λ (a : AnswerView). a.bytes) e, ap (λ (a : AnswerView). a.answered) e)
         ]
+
+    pub stays-open : (write : Bool) (j : ℕ) (p : ℕ × ScriptItem) → slice_get (of_direction write s.script) j ≡ Some p → ((e : Entry) → taken_of links s write ≡ Some e → p.0 ≢ e.place) → is_answered (note_at (manager_next round links s) p.0) ≡ is_answered (note_at s p.0)
+    stays-open write j p at apart = ap (λ (n : ℕ). nat_lt 0 n) (stays-same write j p at apart).2
 
     -- the entries that are left are those of the issued ones that are still open
     left-open : (write : Bool) (o : Option Entry) → taken_of links s write ≡ o → left_entries o (entries_of write s) ≡ map entry_of (filter (is_open (manager_next round links s)) (issued_ones write s))

@@ -1,4 +1,5 @@
 pub mod AfterLemmas
+pub mod AskLaws
 pub mod BeatLemmas
 pub mod DirectionLemmas
 pub mod EntryLemmas
@@ -7,10 +8,13 @@ pub mod IssueLemmas
 pub mod ListLemmas
 pub mod ManagerLaws
 pub mod NoteLemmas
+pub mod NumberLemmas
 pub mod OrderLaws
 pub mod PassedLemmas
 pub mod PlaceLemmas
 pub mod RowLemmas
 pub mod ScriptLemmas
 pub mod StepLemmas
+pub mod TrailLaws
+pub mod TrailLemmas
 pub mod WaitingLemmas

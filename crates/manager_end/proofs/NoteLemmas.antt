@@ -18,7 +18,7 @@ use Rattle.manager_end.proofs.RowLemmas.{All-middle, bus-some, aw-after, aw-next
 use Rattle.manager_end.proofs.WaitingLemmas.{All-oldest, others-left, waiting-next}
 
 -- whether something moves at this place
-hits : {X : Type 0} (place_of : X → ℕ) (o : Option X) (q : ℕ) → ((x : X) × (o ≡ Some x) × (q ≡ place_of x)) ⊎ ((x : X) → o ≡ Some x → q ≢ place_of x)
+pub hits : {X : Type 0} (place_of : X → ℕ) (o : Option X) (q : ℕ) → ((x : X) × (o ≡ Some x) × (q ≡ place_of x)) ⊎ ((x : X) → o ≡ Some x → q ≢ place_of x)
 hits place_of None q = inr (λ x is. absurd (cc))
 hits {X} place_of (Some x) q = elim (cases_eq q (place_of x)) [
   | inl here ↦ inl (x, refl, here)
