@@ -160,17 +160,16 @@ data-asked plan bus n script planned t =
       | inl none ↦ prefix_same (own ∙ ap (map (λ (p : ℕ × ScriptItem). data_of p.1)) none) (prefix_nil (flat_map (λ beats. beats) (plan.writes t).write_data))
       | inr one ↦
           let place = direction-at true script one.0 one.1 (take-from n (writes_of script) one.0 one.1 one.2).1
-          in let data : (plan.writes t).write_data ≡ (data_of one.1.1 ∷ []) ∷ [] =
+          in let beats_due : (plan.writes t).write_data ≡ (data_of one.1.1 ∷ []) ∷ [] =
           ap (λ (k : ℕ). (plan.writes k).write_data) (sym one.3) ∙ (at-all (HasItem plan bus) script one.1.0 one.1.1 planned.items place.0).write_data place.1
-          in prefix_same (own ∙ ap (map (λ (p : ℕ × ScriptItem). data_of p.1)) one.4) (prefix_of_same (prefix_itself (data_of one.1.1 ∷ [])) (sym (ap (flat_map (λ (beats : List WBeat). beats)) data)))
+          in prefix_same (own ∙ ap (map (λ (p : ℕ × ScriptItem). data_of p.1)) one.4) (prefix_of_same (prefix_itself (data_of one.1.1 ∷ [])) (sym (ap (flat_map (λ (beats : List WBeat). beats)) beats_due)))
     ]
 
-mark_of_item : ℕ × ScriptItem → Mark
-unfolding mark_of_item
+-- the mark of a transaction's one beat
+abbrev mark_of_item : ℕ × ScriptItem → Mark
 mark_of_item p = record { number = p.1.txn.number; last = true }
 
 marks-single : (ps : List (ℕ × ScriptItem)) → All (λ p. len_of_item p ≡ 0) ps → marks (map (asked_by (λ a. a.len)) ps) ≡ map mark_of_item ps
-unfolding mark_of_item
 marks-single [] single = refl
 marks-single (p ∷ ps) single =
     ap (λ (len : ℕ). burst_marks p.1.txn.number len ++ marks (map (asked_by (λ a. a.len)) ps)) (All-head (λ q. len_of_item q ≡ 0) p ps single)
@@ -211,7 +210,6 @@ module _ (plan : Schedule) (now : Progress) (rounds : ℕ) (s : ManagerState) (t
       in prefix_agree (prefix_same sent (prefix_of_same (prefix_map mark_of_item (take-prefix s.sent_writes s.issued_writes (writes_of s.script) keeps.is_manager.writes_sent)) (sym announced)))
     where
       marks-of_data : (ps : List (ℕ × ScriptItem)) → map mark_of_data (map (λ (p : ℕ × ScriptItem). data_of p.1) ps) ≡ map mark_of_item ps
-      unfolding mark_of_item
       marks-of_data ps = map-map mark_of_data (λ (p : ℕ × ScriptItem). data_of p.1) ps
 
 -- a manager that keeps its invariant asks as it should
