@@ -3,6 +3,10 @@ pub mod EntryLemmas
 pub mod FitLemmas
 pub mod ListLemmas
 pub mod MemoryLemmas
+pub mod PartPlaces
 pub mod ReadLemmas
 pub mod StayLemmas
 pub mod StoreLemmas
+pub mod TrackFacts
+pub mod TrailLists
+pub mod WriteTracks

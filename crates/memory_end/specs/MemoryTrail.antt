@@ -18,6 +18,7 @@ use Rattle.memory_end.specs.MemoryState.{MemoryState, IsMemory, IsMemoryConfig, 
 use Rattle.memory_end.specs.MemoryTable.{CanMemory, memory_next, memory_out}
 use Rattle.memory_end.specs.Status.{is_inside}
 use Rattle.memory_end.specs.Store.{byte_at}
+use Rattle.memory_end.specs.Tracks.{TracksReads, TracksWrites, read_waiting, write_waiting}
 use Rattle.memory_end.specs.declared.config.MemoryConfig.{MemoryConfig}
 use Rattle.memory_end.specs.declared.entry.ReadEntry.{ReadEntry}
 use Rattle.memory_end.specs.declared.entry.WriteEntry.{WriteEntry}
@@ -34,16 +35,6 @@ pub record SuitsShare (config : MemoryConfig) (writes reads : Share) : Type 0 wh
 abbrev pub Suits : MemoryConfig → Schedule → Type 0
 Suits config plan = (number : ℕ) → SuitsShare config (plan.writes number) (plan.reads number)
 
--- an open write waits for its response, an open read for its next beat, and a write that lacks data for its next one
-abbrev pub write_waiting : WriteEntry → Waiting Addr
-write_waiting entry = record { request = entry.request; done = 0 }
-
-abbrev pub read_waiting : ReadEntry → Waiting Addr
-read_waiting entry = record { request = entry.request; done = entry.put }
-
-abbrev pub data_waiting : WriteEntry → Waiting Addr
-data_waiting entry = record { request = entry.request; done = entry.taken }
-
 -- of a transaction that comes before another one in its chain, nothing is accessed after the first access of the other
 abbrev pub AccessesInOrder : (ℕ → Share) → Bool → List Access → Type 0
 AccessesInOrder shares write all =
@@ -55,6 +46,9 @@ pub record HasAccessed (plan : Schedule) (s : MemoryState) (trail : Beats) (all 
   -- the open writes and reads are those that are held
   pub writes_held : map write_waiting s.write_entries ≡ held (λ (a : Addr). 0) (λ (a : Addr). a.id) trail.aw (map (λ b. b.id) trail.b)
   pub reads_held : map read_waiting s.read_entries ≡ held (λ (a : Addr). a.len) (λ (a : Addr). a.id) trail.ar (map (λ r. r.id) trail.r)
+  -- the memory answers in order of the addresses, and its entries are what the trail makes of them
+  pub tracks_writes : TracksWrites s.config s.write_entries trail.aw trail.w trail.b
+  pub tracks_reads : TracksReads plan.reads s.read_entries trail.ar trail.r
   -- the accesses of a transaction are those of its beats that have come, and those of its answer's beats
   pub written : (number : ℕ) → map (λ (a : Access). a.byte) (accesses_of true number all) ≡ due_writes s.config (plan.writes number) (length (of_key number_of_data number trail.w))
   pub read : (number : ℕ) → map (λ (a : Access). a.byte.address) (accesses_of false number all) ≡ due_reads s.config (plan.reads number) (length (of_key number_of_read_data number trail.r))

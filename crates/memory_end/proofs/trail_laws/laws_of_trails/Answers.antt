@@ -1,0 +1,17 @@
+use Rattle.memory_end.proofs.WriteTracks.{tracks-b}
+use Rattle.memory_end.proofs.PartPlaces.{next_part}
+use Rattle.memory_end.proofs.TrackFacts.{whole-next}
+use Rattle.memory_end.proofs.TrailLists.{drop_next}
+use Rattle.memory_end.proofs.trail_laws.laws_of_trails.Goals as goal
+
+pub returns-clause-opens : goal.returns-clause-opens
+returns-clause-opens c = let h : Unit {0} = tt in ?
+
+pub returns-clause-steps : goal.returns-clause-steps
+returns-clause-steps c = ?
+
+pub returns-clause-answers : goal.returns-clause-answers
+returns-clause-answers c = ?
+
+pub returns-clause-asked : goal.returns-clause-asked
+returns-clause-asked c = ?
