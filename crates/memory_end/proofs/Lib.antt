@@ -1,10 +1,12 @@
 pub mod BeatLemmas
 pub mod EntryLemmas
 pub mod FitLemmas
+pub mod LaneFacts
 pub mod ListLemmas
 pub mod MemoryLemmas
 pub mod PartPlaces
 pub mod ReadLemmas
+pub mod ReadTracks
 pub mod StayLemmas
 pub mod StoreLemmas
 pub mod TrackFacts

@@ -1,3 +1,5 @@
+use Rattle.memory_end.proofs.ReadTracks.{tracks-put}
+use Rattle.memory_end.proofs.LaneFacts.{line-of_lane}
 use Rattle.memory_end.proofs.WriteTracks.{tracks-b}
 use Rattle.memory_end.proofs.PartPlaces.{next_part}
 use Rattle.memory_end.proofs.TrackFacts.{whole-next}
