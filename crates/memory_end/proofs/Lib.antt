@@ -1,3 +1,4 @@
+pub mod AccessFacts
 pub mod BeatLemmas
 pub mod EntryLemmas
 pub mod FitLemmas
