@@ -1,6 +1,7 @@
 pub mod AccessFacts
 pub mod BeatLemmas
 pub mod EntryLemmas
+pub mod FillFacts
 pub mod FitLemmas
 pub mod LaneFacts
 pub mod ListLemmas
