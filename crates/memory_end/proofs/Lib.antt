@@ -1,4 +1,5 @@
 pub mod AccessFacts
+pub mod Accessed
 pub mod BeatLemmas
 pub mod EntryLemmas
 pub mod FillFacts
@@ -7,6 +8,7 @@ pub mod LaneFacts
 pub mod ListLemmas
 pub mod MemoryLemmas
 pub mod PartPlaces
+pub mod ReadAccess
 pub mod ReadLemmas
 pub mod ReadTracks
 pub mod StayLemmas

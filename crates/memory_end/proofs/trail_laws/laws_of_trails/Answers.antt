@@ -1,3 +1,4 @@
+use Rattle.memory_end.proofs.ReadAccess.{accessed-read}
 use Rattle.memory_end.proofs.FillFacts.{filled-beat}
 use Rattle.memory_end.proofs.AccessFacts.{order-more}
 use Rattle.memory_end.proofs.ReadTracks.{tracks-put}
