@@ -1,6 +1,7 @@
 pub mod AccessFacts
 pub mod Accessed
 pub mod BeatLemmas
+pub mod ChainFacts
 pub mod EntryLemmas
 pub mod FillFacts
 pub mod FitLemmas
@@ -15,4 +16,5 @@ pub mod StayLemmas
 pub mod StoreLemmas
 pub mod TrackFacts
 pub mod TrailLists
+pub mod WriteAccess
 pub mod WriteTracks

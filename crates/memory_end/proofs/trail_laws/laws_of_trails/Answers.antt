@@ -1,3 +1,5 @@
+use Rattle.memory_end.proofs.WriteAccess.{accessed-written}
+use Rattle.memory_end.proofs.ChainFacts.{none_later}
 use Rattle.memory_end.proofs.ReadAccess.{accessed-read}
 use Rattle.memory_end.proofs.FillFacts.{filled-beat}
 use Rattle.memory_end.proofs.AccessFacts.{order-more}
