@@ -8,13 +8,16 @@ pub mod FitLemmas
 pub mod LaneFacts
 pub mod ListLemmas
 pub mod MemoryLemmas
+pub mod MoveFacts
 pub mod PartPlaces
 pub mod ReadAccess
 pub mod ReadLemmas
+pub mod ReadSteps
 pub mod ReadTracks
 pub mod StayLemmas
 pub mod StoreLemmas
 pub mod TrackFacts
 pub mod TrailLists
 pub mod WriteAccess
+pub mod WriteSteps
 pub mod WriteTracks

@@ -1,3 +1,6 @@
+use Rattle.memory_end.proofs.WriteSteps.{step-w}
+use Rattle.memory_end.proofs.ReadSteps.{step-r}
+use Rattle.memory_end.proofs.MoveFacts.{trail-after}
 use Rattle.memory_end.proofs.WriteAccess.{accessed-written}
 use Rattle.memory_end.proofs.ChainFacts.{none_later}
 use Rattle.memory_end.proofs.ReadAccess.{accessed-read}
