@@ -18,6 +18,7 @@ pub mod StayLemmas
 pub mod StoreLemmas
 pub mod TrackFacts
 pub mod TrailLists
+pub mod TrailSteps
 pub mod WriteAccess
 pub mod WriteSteps
 pub mod WriteTracks

@@ -1,3 +1,4 @@
+use Rattle.memory_end.proofs.TrailSteps.{memory-opens, memory-steps}
 use Rattle.memory_end.proofs.WriteSteps.{step-w}
 use Rattle.memory_end.proofs.ReadSteps.{step-r}
 use Rattle.memory_end.proofs.MoveFacts.{trail-after}
@@ -15,10 +16,10 @@ use Rattle.memory_end.proofs.TrailLists.{drop_next}
 use Rattle.memory_end.proofs.trail_laws.laws_of_trails.Goals as goal
 
 pub returns-clause-opens : goal.returns-clause-opens
-returns-clause-opens c = let h : Unit {0} = tt in ?
+returns-clause-opens c = memory-opens
 
 pub returns-clause-steps : goal.returns-clause-steps
-returns-clause-steps c = ?
+returns-clause-steps c = memory-steps
 
 pub returns-clause-answers : goal.returns-clause-answers
 returns-clause-answers c = ?
