@@ -17,6 +17,7 @@ pub mod ReadTracks
 pub mod StayLemmas
 pub mod StoreLemmas
 pub mod TrackFacts
+pub mod TrailAsked
 pub mod TrailLists
 pub mod TrailSteps
 pub mod WriteAccess

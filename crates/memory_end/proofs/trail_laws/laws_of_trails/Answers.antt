@@ -1,3 +1,4 @@
+use Rattle.memory_end.proofs.TrailAsked.{accesses-were_asked}
 use Rattle.memory_end.proofs.TrailSteps.{memory-opens, memory-steps}
 use Rattle.memory_end.proofs.WriteSteps.{step-w}
 use Rattle.memory_end.proofs.ReadSteps.{step-r}
@@ -25,4 +26,4 @@ pub returns-clause-answers : goal.returns-clause-answers
 returns-clause-answers c = ?
 
 pub returns-clause-asked : goal.returns-clause-asked
-returns-clause-asked c = ?
+returns-clause-asked c = accesses-were_asked
