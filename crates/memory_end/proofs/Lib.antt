@@ -9,6 +9,7 @@ pub mod LaneFacts
 pub mod ListLemmas
 pub mod MemoryLemmas
 pub mod MoveFacts
+pub mod OwnWrites
 pub mod PartPlaces
 pub mod ReadAccess
 pub mod ReadLemmas
@@ -17,6 +18,7 @@ pub mod ReadTracks
 pub mod StayLemmas
 pub mod StoreLemmas
 pub mod TrackFacts
+pub mod TrailAnswers
 pub mod TrailAsked
 pub mod TrailLists
 pub mod TrailSteps

@@ -1,5 +1,5 @@
 -- What a memory moves in a round, on its trail.
-use Rattle.std.proofs.Common.{◌≡◌, ℕ, ◌==◌, Bool, true, false, cond, List, [], ◌∷◌, ◌++◌, Option, Some, None, refl, sym, ◌∙◌, ap, eq-eqb}
+use Rattle.std.proofs.Common.{◌≡◌, ℕ, Bool, true, false, cond, List, [], ◌∷◌, ◌++◌, Option, Some, None, refl, ◌∙◌, ap, eq-eqb}
 use Rattle.std.specs.Prelude.{is_some}
 use Rattle.axi_beats.specs.declared.beat.Addr.{Addr}
 use Rattle.axi_beats.specs.declared.beat.BBeat.{BBeat}
@@ -7,7 +7,7 @@ use Rattle.axi_beats.specs.declared.beat.RBeat.{RBeat}
 use Rattle.axi_beats.specs.declared.beat.WBeat.{WBeat}
 use Rattle.axi_link.specs.LinkView.{LinkView}
 use Rattle.axi_link.specs.Moves.{appended, takes_from}
-use Rattle.axi_link.specs.Table.{head_of, link_of, passing, put_of, take_of}
+use Rattle.axi_link.specs.Table.{head_of, passing, put_of, take_of}
 use Rattle.axi_trail.specs.Streams.{beat_taken}
 use Rattle.axi_trail.specs.Trail.{Beats}
 use Rattle.memory_end.specs.MemoryState.{MemoryState}

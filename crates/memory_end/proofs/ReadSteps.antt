@@ -1,6 +1,5 @@
 -- The read channels of a memory in a round.
 use Rattle.std.proofs.Common.{◌≡◌, ℕ, Bool, true, false, List, [], ◌∷◌, ◌++◌, Option, Some, None, length, map, drop, refl, sym, ◌∙◌, ap, subst, append-nil}
-use Rattle.std.specs.Option.{option_map}
 use Rattle.std.proofs.lemmas.List.{length-map}
 use Rattle.axi_beats.specs.declared.beat.Addr.{Addr}
 use Rattle.axi_beats.specs.declared.beat.RBeat.{RBeat}
@@ -18,9 +17,7 @@ use Rattle.memory_end.specs.Events.{Access, beat_reads}
 use Rattle.memory_end.specs.MemoryState.{IsMemoryConfig, MemoryState}
 use Rattle.memory_end.specs.MemoryTable.{after_ar, after_r, next_beat, put_read}
 use Rattle.memory_end.specs.MemoryTrail.{Suits}
-use Rattle.memory_end.specs.Store.{Store}
 use Rattle.memory_end.specs.Tracks.{TracksReads, read_waiting}
-use Rattle.memory_end.specs.declared.config.MemoryConfig.{MemoryConfig}
 use Rattle.memory_end.specs.declared.entry.ReadEntry.{ReadEntry}
 use Rattle.memory_end.proofs.Accessed.{Accessed}
 use Rattle.memory_end.proofs.ChainFacts.{none_later}

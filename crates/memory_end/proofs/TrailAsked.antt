@@ -1,11 +1,10 @@
 -- What is accessed in a round was asked in an earlier one.
-use Rattle.std.proofs.Common.{◌≡◌, ℕ, ◌+◌, ◌<◌, ◌≤◌, suc, zero, Bool, true, false, cond, List, [], ◌∷◌, ◌++◌, Option, Some, None, length, map, refl, sym, ◌∙◌, ap, subst, arith}
+use Rattle.std.proofs.Common.{◌≡◌, ℕ, ◌+◌, ◌≤◌, suc, zero, Bool, true, false, cond, List, [], ◌∷◌, ◌++◌, Option, Some, None, length, map, refl, sym, ◌∙◌, ap, subst, arith}
 use Rattle.std.specs.Prelude.{All, Contains, is_some}
 use Rattle.std.specs.Option.{option_map}
 use Rattle.std.proofs.lemmas.List.{map-append}
 use Rattle.std.proofs.lemmas.List.Elements.{All-append, All-nil, Contains-append_right}
 use Rattle.axi_beats.specs.declared.beat.Addr.{Addr}
-use Rattle.axi_beats.specs.declared.beat.RBeat.{RBeat}
 use Rattle.axi_beats.specs.declared.beat.WBeat.{WBeat}
 use Rattle.axi_link.specs.Table.{has_room, head_of, passing}
 use Rattle.axi_trail.specs.LinkContracts.{Asks}
@@ -20,7 +19,7 @@ use Rattle.axi_trail.proofs.WaitingFacts.{pending-place}
 use Rattle.memory_end.specs.Beats.{Byte, read_bytes, written_bytes}
 use Rattle.memory_end.specs.Events.{Access, accesses, beat_reads, beat_writes}
 use Rattle.memory_end.specs.MemoryState.{MemoryState}
-use Rattle.memory_end.specs.MemoryTable.{memory_ar, memory_aw, memory_b, memory_link, memory_r, memory_w, next_beat, oldest_lacking, put_read}
+use Rattle.memory_end.specs.MemoryTable.{memory_ar, memory_aw, memory_b, memory_link, memory_r, memory_w, next_beat, oldest_lacking}
 use Rattle.memory_end.specs.MemoryTrail.{AccessesWereAsked}
 use Rattle.memory_end.specs.Tracks.{TracksReads, TracksWrites, data_waiting, len_of_address, read_waiting}
 use Rattle.memory_end.specs.declared.entry.ReadEntry.{ReadEntry}

@@ -1,5 +1,5 @@
 -- What a memory keeps over its trail: at the start, and from round to round.
-use Rattle.std.proofs.Common.{◌≡◌, ℕ, ◌<◌, ◌*◌, suc, zero, Bool, true, false, List, [], ◌∷◌, ◌++◌, Option, Some, None, length, map, replicate, get_or, refl, sym, ◌∙◌, ap, subst, arith, append_assoc}
+use Rattle.std.proofs.Common.{◌≡◌, ℕ, ◌*◌, suc, zero, List, [], ◌∷◌, ◌++◌, Option, Some, None, length, replicate, get_or, refl, sym, ◌∙◌, subst, arith, append_assoc}
 use Rattle.std.specs.Prelude.{is_some, slice_get, unwrap_or}
 use Rattle.std.specs.Option.{option_and_then}
 use Rattle.std.proofs.lemmas.Option.{unwrap_or-slice_get}
@@ -15,13 +15,11 @@ use Rattle.axi_trail.specs.Words.{burst_asked, marks_of}
 use Rattle.axi_trail.proofs.PrefixFacts.{Agree_fronts, prefix_flat_map, prefix_map}
 use Rattle.axi_trail.proofs.StreamFacts.{prefix_append, prefix_itself, prefix_nil}
 use Rattle.memory_end.specs.Events.{Access, beat_reads, beat_writes, memory_events}
-use Rattle.memory_end.specs.MemoryState.{MemoryState, new_memory}
-use Rattle.memory_end.specs.MemoryTable.{after_aw, after_b, after_r, after_w, memory_ar, memory_aw, memory_b, memory_link, memory_next, memory_r, memory_w, oldest_lacking}
+use Rattle.memory_end.specs.MemoryState.{MemoryState}
+use Rattle.memory_end.specs.MemoryTable.{after_b, after_r, after_w, memory_ar, memory_aw, memory_b, memory_link, memory_next, memory_r, memory_w, oldest_lacking}
 use Rattle.memory_end.specs.MemoryTrail.{HasAccessed, MemoryOpens, MemorySteps}
-use Rattle.memory_end.specs.Store.{Store, byte_at, byte_place, new_store}
+use Rattle.memory_end.specs.Store.{byte_at, byte_place, new_store}
 use Rattle.memory_end.specs.Tracks.{TracksWrites}
-use Rattle.memory_end.specs.declared.config.MemoryConfig.{MemoryConfig}
-use Rattle.memory_end.specs.declared.entry.ReadEntry.{ReadEntry}
 use Rattle.memory_end.specs.declared.entry.WriteEntry.{WriteEntry}
 use Rattle.memory_end.proofs.Accessed.{Accessed}
 use Rattle.memory_end.proofs.MemoryLemmas.{oldest_lacking-after_b}

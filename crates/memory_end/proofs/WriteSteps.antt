@@ -19,14 +19,12 @@ use Rattle.axi_trail.proofs.PrefixFacts.{Agree_fronts, prefix_map}
 use Rattle.axi_trail.proofs.StepFacts.{next_beat, pending-shown}
 use Rattle.axi_trail.proofs.StreamFacts.{prefix_append, prefix_itself}
 use Rattle.flight.specs.Entries.{of_key}
-use Rattle.memory_end.specs.Accesses.{BeatOf, beats_of_parts, data_beats}
+use Rattle.memory_end.specs.Accesses.{BeatOf, beats_of_parts}
 use Rattle.memory_end.specs.Beats.{all_written, written_bytes}
 use Rattle.memory_end.specs.Events.{Access, accesses, beat_writes}
 use Rattle.memory_end.specs.MemoryState.{IsMemory, IsWriteEntry, MemoryState}
 use Rattle.memory_end.specs.MemoryTable.{lacks_data, oldest_lacking, store_after, store_with}
-use Rattle.memory_end.specs.Store.{Store}
 use Rattle.memory_end.specs.Tracks.{TracksWrites, data_waiting, len_of_address}
-use Rattle.memory_end.specs.declared.config.MemoryConfig.{MemoryConfig}
 use Rattle.memory_end.specs.declared.entry.WriteEntry.{WriteEntry}
 use Rattle.memory_end.proofs.Accessed.{Accessed}
 use Rattle.memory_end.proofs.ChainFacts.{none_later}
