@@ -3,12 +3,14 @@ pub mod BuiltInPlan
 pub mod Choosing
 pub mod NetLemmas
 pub mod NetworkLemmas
+pub mod NodeLaws
 pub mod NotesLemmas
 pub mod Numbers
 pub mod Pair
 pub mod PairLemmas
 pub mod RunKeeps
 pub mod RunLemmas
+pub mod RunSteps
 pub mod ScriptLemmas
 pub mod StoreStays
 pub mod TouchedLemmas
