@@ -8,6 +8,7 @@ pub mod NotesLemmas
 pub mod Numbers
 pub mod Pair
 pub mod PairLemmas
+pub mod RunHistory
 pub mod RunKeeps
 pub mod RunLemmas
 pub mod RunSteps
