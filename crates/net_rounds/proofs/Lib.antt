@@ -7,6 +7,7 @@ pub mod NotesLemmas
 pub mod Numbers
 pub mod Pair
 pub mod PairLemmas
+pub mod PlanFacts
 pub mod RunKeeps
 pub mod RunLemmas
 pub mod ScriptLemmas
