@@ -8,10 +8,12 @@ pub mod NotesLemmas
 pub mod Numbers
 pub mod Pair
 pub mod PairLemmas
+pub mod PlanFacts
 pub mod RunHistory
 pub mod RunKeeps
 pub mod RunLemmas
 pub mod RunSteps
 pub mod ScriptLemmas
+pub mod ScriptPlaces
 pub mod StoreStays
 pub mod TouchedLemmas
