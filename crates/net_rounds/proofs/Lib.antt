@@ -9,6 +9,7 @@ pub mod Numbers
 pub mod Pair
 pub mod PairLemmas
 pub mod PlanFacts
+pub mod RunFacts
 pub mod RunHistory
 pub mod RunKeeps
 pub mod RunLemmas
