@@ -4,6 +4,7 @@ pub mod Choosing
 pub mod NetLemmas
 pub mod NetworkLemmas
 pub mod NodeLaws
+pub mod NotedLists
 pub mod NotesLemmas
 pub mod Numbers
 pub mod Pair
