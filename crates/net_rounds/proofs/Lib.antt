@@ -14,6 +14,7 @@ pub mod RunFacts
 pub mod RunHistory
 pub mod RunKeeps
 pub mod RunLemmas
+pub mod RunRounds
 pub mod RunSteps
 pub mod ScriptLemmas
 pub mod ScriptPlaces
