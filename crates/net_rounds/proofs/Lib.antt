@@ -2,6 +2,7 @@ pub mod BoundLemmas
 pub mod BuiltInPlan
 pub mod Choosing
 pub mod DueLemmas
+pub mod EventLemmas
 pub mod LaneLemmas
 pub mod NetLemmas
 pub mod NetworkLemmas
@@ -11,10 +12,12 @@ pub mod Numbers
 pub mod Pair
 pub mod PairLemmas
 pub mod PlanFacts
+pub mod RunFacts
 pub mod RunHistory
 pub mod RunKeeps
 pub mod RunLemmas
 pub mod RunSteps
 pub mod ScriptLemmas
+pub mod ScriptPlaces
 pub mod StoreStays
 pub mod TouchedLemmas

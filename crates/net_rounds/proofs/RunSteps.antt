@@ -80,10 +80,10 @@ module _ (laws : NodeLaws) (script : List ScriptItem) (traffic : IsNumberedTraff
   script-stays n = pair_after-script (built_in_pair script) n
 
   -- the trails after one more round
-  upper-next : (n : ℕ) → manager_trail (links_at script n) (pair_at script n).manager.state (upper_trail script n) ≡ upper_trail script (suc n)
+  pub upper-next : (n : ℕ) → manager_trail (links_at script n) (pair_at script n).manager.state (upper_trail script n) ≡ upper_trail script (suc n)
   upper-next n = ap (λ lower. joined (upper_trail script n) (moved_above (upper_out script n) (links_at script n) lower)) (run-holds n).lower
 
-  lower-next : (n : ℕ) → memory_trail (links_at script n) (pair_at script n).memory.state (lower_trail script n) ≡ lower_trail script (suc n)
+  pub lower-next : (n : ℕ) → memory_trail (links_at script n) (pair_at script n).memory.state (lower_trail script n) ≡ lower_trail script (suc n)
   lower-next n = ap (λ upper. joined (lower_trail script n) (moved_below (lower_out script n) (links_at script n) upper)) (run-holds n).upper
 
   known-issued : (n : ℕ) (place : ℕ) (item : ScriptItem) → IsAt (pair_at script n).manager.state place item → 0 < (note_at (pair_at script n).manager.state place).issued → IsTrue ((progress_at script n).issued item.txn.number)
