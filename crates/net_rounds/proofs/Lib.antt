@@ -1,6 +1,9 @@
 pub mod BoundLemmas
 pub mod BuiltInPlan
 pub mod Choosing
+pub mod DueLemmas
+pub mod EventLemmas
+pub mod LaneLemmas
 pub mod NetLemmas
 pub mod NetworkLemmas
 pub mod NodeLaws

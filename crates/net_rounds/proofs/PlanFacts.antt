@@ -41,11 +41,11 @@ pub traffic-item : (script : List ScriptItem) → IsNumberedTraffic script → (
 traffic-item script t item among = All-contains IsTrafficItem script item (traffic-items script t) among
 
 -- equal directions
-beq-same : (b : Bool) → beq b b ≡ true
+pub beq-same : (b : Bool) → beq b b ≡ true
 beq-same true = refl
 beq-same false = refl
 
-beq-true : (a b : Bool) → beq a b ≡ true → a ≡ b
+pub beq-true : (a b : Bool) → beq a b ≡ true → a ≡ b
 beq-true true true same = refl
 beq-true true false same = absurd (cc)
 beq-true false true same = absurd (cc)
