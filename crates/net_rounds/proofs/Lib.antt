@@ -1,3 +1,4 @@
+pub mod AnswerRounds
 pub mod BoundLemmas
 pub mod BuiltInPlan
 pub mod Choosing

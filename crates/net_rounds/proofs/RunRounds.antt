@@ -1,35 +1,24 @@
 -- In which rounds things happen: what is noted stays, accesses follow their transaction's issue, and all are made
 -- before its answer.
-use Rattle.std.proofs.Common.{◌≡◌, ◌<◌, ◌≤◌, ◌+◌, ◌∷◌, [], ◌++◌, ℕ, zero, suc, List, Bool, true, false, cond, Some, length, refl, sym, ap, ◌∙◌, subst, arith, length-append}
-use Rattle.std.specs.Prelude.{All, Any, IsTrue, ◌==◌, ◌&&◌, flat_map, map, slice_get, slice_index_or, take, zip}
+use Rattle.std.proofs.Common.{◌≡◌, ◌<◌, ◌≤◌, ◌∷◌, [], ◌++◌, ℕ, zero, suc, List, Bool, true, false, cond, Some, length, refl, sym, ap, ◌∙◌, subst, arith, length-append}
+use Rattle.std.specs.Prelude.{All, Any, ◌==◌, ◌&&◌, flat_map, map, slice_get}
 use Rattle.std.specs.Bool.{beq}
-use Rattle.std.specs.List.{filter_map, range_with_len}
 use Rattle.std.proofs.Common.{inl, inr}
-use Rattle.std.proofs.lemmas.Bool.{and_from, cases_lt, eq-eqb, eqb-true}
-use Rattle.std.proofs.lemmas.List.{length-map, nil_from_length, take_all}
-use Rattle.std.proofs.lemmas.List.Elements.{All-append, All-cons, All-contains, All-map, All-nil, filter-append}
+use Rattle.std.proofs.lemmas.Bool.{and_from, cases_lt, eq-eqb}
+use Rattle.std.proofs.lemmas.List.{nil_from_length, take_all}
+use Rattle.std.proofs.lemmas.List.Elements.{All-append, All-cons, All-map, All-nil, filter-append}
 use Rattle.std.proofs.lemmas.Option.{slice_get_within}
 use Rattle.axi_history.specs.Records.{Event, Issue}
-use Rattle.axi_trail.proofs.PrefixFacts.{prefix_length, prefix_of_key}
 use Rattle.axi_trail.proofs.StreamFacts.{prefix_append, prefix_itself, prefix_trans}
-use Rattle.axi_trail.proofs.TrailFacts.{taken_was_put_before}
 use Rattle.axi_trail.specs.Schedule.{Share}
 use Rattle.axi_trail.specs.Streams.{IsPrefix, over}
-use Rattle.axi_trail.specs.Words.{number_of_data, number_of_read_data, number_of_response}
-use Rattle.flight.specs.Entries.{of_key}
-use Rattle.manager_end.specs.Answer.{AnswerView}
-use Rattle.manager_end.specs.ManagerOrder.{Notes}
 use Rattle.manager_end.specs.Script.{ScriptItem}
 use Rattle.memory_end.specs.Accesses.{accesses_of, beats_of_parts, data_beats, due_reads, due_writes}
-use Rattle.memory_end.specs.Beats.{Byte}
 use Rattle.memory_end.specs.Events.{Access}
-use Rattle.memory_end.specs.declared.config.MemoryConfig.{MemoryConfig}
-use Rattle.net_rounds.proofs.BuiltInPlan.{accesses_at, links_at, lower_out, lower_trail, pair_at, plan_of, share_at, share_of, upper_out, upper_trail}
+use Rattle.net_rounds.proofs.BuiltInPlan.{pair_at}
 use Rattle.net_rounds.proofs.NotedLists.{any-issue}
-use Rattle.net_rounds.proofs.PlanFacts.{share-own}
 use Rattle.net_rounds.proofs.RunFacts.{IsAskedFor, RunFacts, note}
 use Rattle.net_rounds.proofs.RunHistory.{round_accesses, run_events, run_issues}
-use Rattle.net_rounds.proofs.ScriptPlaces.{contains-at, one-item}
 use Rattle.net_rounds.specs.BuiltIn.{ram}
 use Rattle.net_rounds.specs.History.{event_of}
 
@@ -47,16 +36,16 @@ over-grows added m (suc k) le =
     ]
 
 -- where all beats have come, more beats write and read no more
-due-writes_end : (share : Share) (c d : ℕ) → length (data_beats share) ≤ c → c ≤ d → due_writes ram share c ≡ due_writes ram share d
+pub due-writes_end : (share : Share) (c d : ℕ) → length (data_beats share) ≤ c → c ≤ d → due_writes ram share c ≡ due_writes ram share d
 due-writes_end share c d all more =
     ap (flat_map _) (take_all c (data_beats share) all ∙ sym (take_all d (data_beats share) (omega arith)))
 
-due-reads_end : (share : Share) (c d : ℕ) → length (beats_of_parts share.parts) ≤ c → c ≤ d → due_reads ram share c ≡ due_reads ram share d
+pub due-reads_end : (share : Share) (c d : ℕ) → length (beats_of_parts share.parts) ≤ c → c ≤ d → due_reads ram share c ≡ due_reads ram share d
 due-reads_end share c d all more =
     ap (flat_map _) (take_all c (beats_of_parts share.parts) all ∙ sym (take_all d (beats_of_parts share.parts) (omega arith)))
 
 -- of more accesses, those of a transaction that are no more in number are none of the new ones
-none-new : (write : Bool) (number : ℕ) (before new : List Access) → length (accesses_of write number (before ++ new)) ≡ length (accesses_of write number before) → accesses_of write number new ≡ []
+pub none-new : (write : Bool) (number : ℕ) (before new : List Access) → length (accesses_of write number (before ++ new)) ≡ length (accesses_of write number before) → accesses_of write number new ≡ []
 none-new write number before new same =
     let both = ap length (filter-append (λ (a : Access). beq a.write write && a.number == number) before new) in
     let sum = length-append (accesses_of write number before) (accesses_of write number new) in
