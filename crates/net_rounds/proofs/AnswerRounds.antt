@@ -30,7 +30,7 @@ use Rattle.net_rounds.specs.History.{event_of}
 module _ (script : List ScriptItem) (run : RunFacts script) where
   -- ---- how many accesses there are of a transaction
 
-  data_count : ℕ → ℕ → ℕ
+  pub data_count : ℕ → ℕ → ℕ
   data_count number n = length (of_key number_of_data number (lower_trail script n).w)
 
   read_count : ℕ → ℕ → ℕ
@@ -44,7 +44,7 @@ module _ (script : List ScriptItem) (run : RunFacts script) where
   unfolding read_count
   read-grows number n k le = prefix_length (prefix_of_key number_of_read_data number (over-grows (λ m. (moved_below (lower_out script m) (links_at script m) 0).r) n k le))
 
-  writes-counted : (number n : ℕ) → length (accesses_of true number (accesses_at script n)) ≡ length (due_writes ram ((plan_of script).writes number) (data_count number n))
+  pub writes-counted : (number n : ℕ) → length (accesses_of true number (accesses_at script n)) ≡ length (due_writes ram ((plan_of script).writes number) (data_count number n))
   unfolding data_count
   writes-counted number n =
       sym (length-map (accesses_of true number (accesses_at script n)) (λ (a : Access). a.byte)) ∙ ap length ((run.keeps n).memory.accessed.written number)

@@ -1,4 +1,5 @@
 pub mod AnswerRounds
+pub mod AnsweredContent
 pub mod BoundLemmas
 pub mod BuiltInPlan
 pub mod Choosing
