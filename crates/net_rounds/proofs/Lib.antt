@@ -1,5 +1,6 @@
 pub mod AnswerRounds
 pub mod AnsweredContent
+pub mod AnsweredOrder
 pub mod BoundLemmas
 pub mod BuiltInPlan
 pub mod Choosing
