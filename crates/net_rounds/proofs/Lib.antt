@@ -16,6 +16,7 @@ pub mod Numbers
 pub mod Pair
 pub mod PairLemmas
 pub mod PlanFacts
+pub mod RunAnswered
 pub mod RunFacts
 pub mod RunHistory
 pub mod RunKeeps
