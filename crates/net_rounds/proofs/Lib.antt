@@ -7,6 +7,7 @@ pub mod LaneLemmas
 pub mod NetLemmas
 pub mod NetworkLemmas
 pub mod NodeLaws
+pub mod NotedLists
 pub mod NotesLemmas
 pub mod Numbers
 pub mod Pair
