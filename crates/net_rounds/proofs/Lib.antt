@@ -1,8 +1,10 @@
 pub mod BoundLemmas
 pub mod BuiltInPlan
 pub mod Choosing
+pub mod DeliveredLemmas
 pub mod DueLemmas
 pub mod EventLemmas
+pub mod ItemEvents
 pub mod LaneLemmas
 pub mod NetLemmas
 pub mod NetworkLemmas
