@@ -1,3 +1,4 @@
+pub mod AnswerRounds
 pub mod BoundLemmas
 pub mod BuiltInPlan
 pub mod Choosing
@@ -19,6 +20,7 @@ pub mod RunFacts
 pub mod RunHistory
 pub mod RunKeeps
 pub mod RunLemmas
+pub mod RunRounds
 pub mod RunSteps
 pub mod ScriptLemmas
 pub mod ScriptPlaces
