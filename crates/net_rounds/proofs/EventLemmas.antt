@@ -4,6 +4,7 @@ use Rattle.std.specs.Prelude.{All, filter, map, not}
 use Rattle.std.specs.Bool.{beq}
 use Rattle.std.proofs.lemmas.Bool.{and_parts}
 use Rattle.std.proofs.lemmas.List.Elements.{All-head, All-tail, All-weaker, filter_passes}
+use Rattle.axi_history.specs.Answered.{values_of}
 use Rattle.axi_history.specs.Delivered.{held_after, is_write_at, shown}
 use Rattle.axi_history.specs.Records.{Event, events_of}
 use Rattle.axi_trail.proofs.FilterFacts.{filter_map}
@@ -77,6 +78,16 @@ pub events-read :
 events-read number events none =
     let all = map access_of_event events in
     shown-events number events ∙ ap (map shown_access) (one-direction false number all none) ∙ shown-reads (accesses_of false number all) (of-direction false number all)
+
+-- and the values of a read's
+pub events-values :
+    (number : ℕ) (events : List Event) → accesses_of true number (map access_of_event events) ≡ [] →
+    values_of number events ≡ map (λ (a : Access). a.byte.value) (accesses_of false number (map access_of_event events))
+events-values number events none =
+    let value : Access → ℕ = λ a. a.byte.value in
+    sym (map-map value access_of_event (events_of number events))
+    ∙ sym (ap (map value) (filter_map (λ (a : Access). a.number == number) access_of_event events))
+    ∙ ap (map value) (one-direction false number (map access_of_event events) none)
 
 -- what events at one node leave at an address is what their accesses leave there
 here-or-not : (writes there : Bool) → (writes && true && there) ≡ (writes && there)

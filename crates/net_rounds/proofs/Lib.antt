@@ -4,8 +4,10 @@ pub mod AnsweredOrder
 pub mod BoundLemmas
 pub mod BuiltInPlan
 pub mod Choosing
+pub mod DeliveredLemmas
 pub mod DueLemmas
 pub mod EventLemmas
+pub mod ItemEvents
 pub mod LaneLemmas
 pub mod NetLemmas
 pub mod NetworkLemmas
