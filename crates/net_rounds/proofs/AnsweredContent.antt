@@ -23,7 +23,7 @@ use Rattle.memory_end.specs.declared.config.MemoryConfig.{MemoryConfig}
 use Rattle.net_rounds.proofs.AnswerRounds.{data_count, reads-counted, writes-counted}
 use Rattle.net_rounds.proofs.BuiltInPlan.{accesses_at, lower_trail, no_share, pair_at, plan_of, upper_trail}
 use Rattle.net_rounds.proofs.DueLemmas.{beats-asked, due-bytes-read, due-response, map-map}
-use Rattle.net_rounds.proofs.EventLemmas.{one-direction}
+use Rattle.net_rounds.proofs.ItemEvents.{accessed, item-filled, run_accesses}
 use Rattle.net_rounds.proofs.NotedLists.{all-answers, answers-rise}
 use Rattle.net_rounds.proofs.PlanFacts.{share-other, share-own}
 use Rattle.net_rounds.proofs.RunFacts.{RunFacts, note}
@@ -55,11 +55,6 @@ module _ {X : Type 0} where
       let sum = length-append xs p.rest in
       let none : p.rest ≡ [] = nil_from_length p.rest (omega arith) in
       p.whole ∙ ap (λ (rest : List X). xs ++ rest) none ∙ append-nil xs
-
--- what has no part at a memory writes nothing
-no-data : (count : ℕ) → length (due_writes ram no_share count) ≡ 0
-no-data zero = refl
-no-data (suc count) = refl
 
 -- a transaction of the script, among the transactions
 pub any-transaction : (P : Transaction → Type 0) (script : List ScriptItem) (place : ℕ) (item : ScriptItem) → slice_get script place ≡ Some item → P (transaction_of ram 0 1 item) → Any P (transactions_of script)
@@ -134,37 +129,18 @@ module _ (script : List ScriptItem) (run : RunFacts script) (n : ℕ) where
         let most = prefix_length ((run.keeps n).answered_below.read_responses_are_the_schedules item.txn.number) in
         whole-prefix _ _ (prefix_of_key number_of_read_data item.txn.number behind) (omega arith)
 
-    no-writes : item.txn.write ≡ false → accesses_of true item.txn.number (accesses_at script n) ≡ []
-    no-writes reads =
-        let none = share-other script run.traffic item (contains-at script place item at) false reads in
-        nil_from_length (accesses_of true item.txn.number (accesses_at script n))
-        (writes-counted script run item.txn.number n ∙ ap (λ (share : Share). length (due_writes ram share (data_count script run item.txn.number n))) none ∙ no-data (data_count script run item.txn.number n))
-
-    -- the values of its events are those of its accesses
-    read-values : item.txn.write ≡ false → values_of item.txn.number (run_events script n) ≡ map (λ (a : Access). a.byte.value) (accesses_of false item.txn.number (accesses_at script n))
-    read-values reads =
-        let events = run_events script n in
-        let number = item.txn.number in
-        sym (map-map (λ (a : Access). a.byte.value) access_of_event (events_of number events))
-        ∙ ap (map (λ (a : Access). a.byte.value)) (sym (filter_map (λ (a : Access). a.number == number) access_of_event events))
-        ∙ ap (map (λ (a : Access). a.byte.value)) (ap (filter (λ (a : Access). a.number == number)) (accesses-are script n) ∙ one-direction false number (accesses_at script n) (no-writes reads))
-
     own-bytes : item.txn.write ≡ false → (note script n place).bytes ≡ answered_bytes (bytes_of ram item) (values_of item.txn.number (run_events script n))
     own-bytes reads =
         let among = contains-at script place item at in
         let number = item.txn.number in
         let share = (plan_of script).reads number in
-        let upper = of_key number_of_read_data number (upper_trail script n).r in
         let lower = of_key number_of_read_data number (lower_trail script n).r in
-        let values = map (λ (a : Access). a.byte.value) (accesses_of false number (accesses_at script n)) in
+        let values = map (λ (a : Access). a.byte.value) (accesses_of false number (run_accesses script run n)) in
         let came = (read-note reads).answered.0 answered in
         let taken = all-taken reads in
         let count : length lower ≡ suc item.txn.request.len = ap length taken ∙ came in
-        let read : length values ≡ length (due_reads ram share (length lower)) = length-map (accesses_of false number (accesses_at script n)) (λ (a : Access). a.byte.value) ∙ reads-counted script run number n in
-        (read-note reads).bytes ∙ ap (λ (beats : List RBeat). bytes_on beats share.lanes) (sym taken) ∙ (run.keeps n).memory.accessed.answered number
-        ∙ ap (λ (config : MemoryConfig). filled_bytes (allowed_before config share (length lower)) values) (run.config n)
-        ∙ due-bytes-read script run.traffic item among reads (length lower) (omega arith) values read
-        ∙ ap (answered_bytes (bytes_of ram item)) (sym (read-values reads))
+        (read-note reads).bytes ∙ ap (λ (beats : List RBeat). bytes_on beats share.lanes) (sym taken) ∙ (accessed script run n).answered number
+        ∙ ap (λ (config : MemoryConfig). filled_bytes (allowed_before config share (length lower)) values) (run.config n) ∙ item-filled script run n item among reads (omega arith)
 
     pub all-bytes : (note script n place).bytes ≡ cond item.txn.write [] (answered_bytes (bytes_of ram item) (values_of item.txn.number (run_events script n)))
     all-bytes =

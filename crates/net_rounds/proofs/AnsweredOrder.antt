@@ -138,12 +138,18 @@ module _ (script : List ScriptItem) (run : RunFacts script) (n : ℕ) where
     accesses-split = sym (accesses-are script n) ∙ ap (map access_of_event) are ∙ map-append access_of_event earlier (e ∷ later)
 
     written-chain : t.txn.write ≡ true → ComesBefore (plan_of script).writes t.txn.number u.txn.number
-    written-chain writes = (order.number, ap (λ (s : Share). s.chain) (share-own script run.traffic t (contains-at script p t at_t) true writes) ∙ ap (λ (id : ℕ). id ∷ 0 ∷ []) order.id
-        ∙ sym (ap (λ (s : Share). s.chain) (share-own script run.traffic u (contains-at script q u at_u) true (sym order.direction ∙ writes))))
+    written-chain writes = (
+      order.number,
+      ap (λ (s : Share). s.chain) (share-own script run.traffic t (contains-at script p t at_t) true writes) ∙ ap (λ (id : ℕ). id ∷ 0 ∷ []) order.id
+          ∙ sym (ap (λ (s : Share). s.chain) (share-own script run.traffic u (contains-at script q u at_u) true (sym order.direction ∙ writes))),
+    )
 
     read-chain : t.txn.write ≡ false → ComesBefore (plan_of script).reads t.txn.number u.txn.number
-    read-chain reads = (order.number, ap (λ (s : Share). s.chain) (share-own script run.traffic t (contains-at script p t at_t) false reads) ∙ ap (λ (id : ℕ). id ∷ 1 ∷ []) order.id
-        ∙ sym (ap (λ (s : Share). s.chain) (share-own script run.traffic u (contains-at script q u at_u) false (sym order.direction ∙ reads))))
+    read-chain reads = (
+      order.number,
+      ap (λ (s : Share). s.chain) (share-own script run.traffic t (contains-at script p t at_t) false reads) ∙ ap (λ (id : ℕ). id ∷ 1 ∷ []) order.id
+          ∙ sym (ap (λ (s : Share). s.chain) (share-own script run.traffic u (contains-at script q u at_u) false (sym order.direction ∙ reads))),
+    )
 
     e-directed : e.write ≡ t.txn.write
     e-directed = directed e q u at_u (All-middle (IsEventOf script) earlier e later of-all) same ∙ sym order.direction

@@ -25,6 +25,7 @@ pub mod RunKeeps
 pub mod RunLemmas
 pub mod RunRounds
 pub mod RunSteps
+pub mod RunsRight
 pub mod ScriptLemmas
 pub mod ScriptPlaces
 pub mod StoreStays
