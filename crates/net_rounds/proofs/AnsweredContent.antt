@@ -1,6 +1,6 @@
 -- The answers of the run: one for each transaction, with its response and its bytes.
-use Rattle.std.proofs.Common.{◌≡◌, ◌<◌, ◌≤◌, ◌+◌, ◌∷◌, [], ◌++◌, ℕ, zero, suc, List, Bool, true, false, Some, cond, length, refl, sym, ap, ◌∙◌, subst, arith, append-nil, length-append}
-use Rattle.std.specs.Prelude.{◌≢◌, ◌==◌, All, AllPairs, Any, filter, get_or, map, option_map, slice_get}
+use Rattle.std.proofs.Common.{◌≡◌, ◌<◌, ◌≤◌, ◌+◌, ◌∷◌, [], ◌++◌, ℕ, suc, List, Bool, true, false, Some, cond, length, refl, sym, ap, ◌∙◌, subst, arith, append-nil, length-append}
+use Rattle.std.specs.Prelude.{◌≢◌, All, AllPairs, Any, get_or, map, option_map, slice_get}
 use Rattle.std.proofs.Common.{inl, inr}
 use Rattle.std.proofs.lemmas.Bool.{cases_Bool}
 use Rattle.std.proofs.lemmas.List.{get_or-append-add, length-map, nil_from_length}
@@ -8,8 +8,7 @@ use Rattle.std.proofs.lemmas.List.Elements.{All-map}
 use Rattle.std.proofs.lemmas.Option.{get_or_from_slice_get, slice_get-map, slice_get_within}
 use Rattle.axi_beats.specs.declared.beat.RBeat.{RBeat}
 use Rattle.axi_history.specs.Answered.{answered_bytes, values_of}
-use Rattle.axi_history.specs.Records.{Answer, Transaction, events_of}
-use Rattle.axi_trail.proofs.FilterFacts.{filter_map}
+use Rattle.axi_history.specs.Records.{Answer, Transaction}
 use Rattle.axi_trail.proofs.PrefixFacts.{prefix_length, prefix_of_key}
 use Rattle.axi_trail.specs.Schedule.{Share, bytes_on}
 use Rattle.axi_trail.specs.Streams.{IsPrefix}
@@ -17,17 +16,16 @@ use Rattle.axi_trail.specs.Words.{number_of_read_data, number_of_response}
 use Rattle.flight.specs.Entries.{of_key}
 use Rattle.manager_end.specs.ManagerTrail.{IsReadNote, IsWriteNote, shares_of}
 use Rattle.manager_end.specs.Script.{ScriptItem}
-use Rattle.memory_end.specs.Accesses.{accesses_of, allowed_before, beats_of_parts, due_reads, due_writes, filled_bytes}
+use Rattle.memory_end.specs.Accesses.{accesses_of, allowed_before, beats_of_parts, filled_bytes}
 use Rattle.memory_end.specs.Events.{Access}
 use Rattle.memory_end.specs.declared.config.MemoryConfig.{MemoryConfig}
-use Rattle.net_rounds.proofs.AnswerRounds.{data_count, reads-counted, writes-counted}
-use Rattle.net_rounds.proofs.BuiltInPlan.{accesses_at, lower_trail, no_share, pair_at, plan_of, upper_trail}
-use Rattle.net_rounds.proofs.DueLemmas.{beats-asked, due-bytes-read, due-response, map-map}
+use Rattle.net_rounds.proofs.BuiltInPlan.{lower_trail, pair_at, plan_of, upper_trail}
+use Rattle.net_rounds.proofs.DueLemmas.{beats-asked, due-response}
 use Rattle.net_rounds.proofs.ItemEvents.{accessed, item-filled, run_accesses}
 use Rattle.net_rounds.proofs.NotedLists.{all-answers, answers-rise}
-use Rattle.net_rounds.proofs.PlanFacts.{share-other, share-own}
+use Rattle.net_rounds.proofs.PlanFacts.{share-own}
 use Rattle.net_rounds.proofs.RunFacts.{RunFacts, note}
-use Rattle.net_rounds.proofs.RunHistory.{access_of_event, accesses-are, run_answers, run_events}
+use Rattle.net_rounds.proofs.RunHistory.{run_answers, run_events}
 use Rattle.net_rounds.proofs.RunRounds.{at-run}
 use Rattle.net_rounds.proofs.ScriptPlaces.{All-places, contains-at, one-item}
 use Rattle.net_rounds.specs.BuiltIn.{ram}
