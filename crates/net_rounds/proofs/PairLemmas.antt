@@ -54,7 +54,7 @@ pub record IsChosen (script : List ScriptItem) (bus : ℕ) (write : Bool) (item 
 tagged-word : (bus : ℕ) (item : ScriptItem) → IsWholeWord bus item.txn.request → IsWholeWord bus (request_of item)
 tagged-word bus item w = record { one_beat = w.one_beat; incrementing = w.incrementing; wide = w.wide; aligned = w.aligned; small = w.small }
 
-script-sent : (script : List ScriptItem) → IsScript script → All (λ (item : ScriptItem). length item.bytes ≡ sent_bytes item.txn) script
+pub script-sent : (script : List ScriptItem) → IsScript script → All (λ (item : ScriptItem). length item.bytes ≡ sent_bytes item.txn) script
 script-sent script pushed k d within =
     let at : IfSome (Some (get_or script k d)) (λ item. CanPush (take k script) item.txn item.bytes) =
     subst (λ (o : Option ScriptItem). IfSome o (λ item. CanPush (take k script) item.txn item.bytes)) (slice_get-get_or script k d within) (pushed k)
