@@ -7,6 +7,7 @@ ghost use Rattle.axi_history.specs.PortRules.{axi4_history_fault};
 ghost use Rattle.axi_history.specs.declared.port.PortRound.{PortRound as Round};
 ghost use Rattle.port_rules.specs.Checked.{kept_fault, kept_after, HasSmallAddresses};
 ghost use Rattle.port_rules.specs.StandsFor.{StandsFor, kept_of, port_of, rounds_of};
+ghost use Rattle.port_rules.specs.Unanswered.{unanswered_writes, unanswered_reads};
 
 use crate::bursts::Bursts;
 use crate::outstanding::{
@@ -108,6 +109,8 @@ impl PortChecker {
         ensures same_fault { self.new.fault ≡ self.old.fault }
         ensures fault { result ≡ kept_fault self.old.port.bus (kept_of self.old) r.now }
         ensures kept { IfNone result (kept_of self.new ≡ kept_after (kept_of self.old) r.now) }
+        ensures writes { result ≢ None → (kept_of self.new).writes ≡ (kept_of self.old).writes }
+        ensures reads { result ≢ None → (kept_of self.new).reads ≡ (kept_of self.old).reads }
     {
         self.rounds += 1;
         let fault = self.judge(r);
@@ -149,5 +152,15 @@ impl PortChecker {
             }
             None => Ok(()),
         }
+    }
+
+    /// How many writes and how many reads are unanswered: the AWs less the Bs that were transferred, and the ARs less
+    /// the R beats with `last`, in the rounds before the first broken one. By rule 11 these rounds have no more answers
+    /// than requests, so that the differences are exact.
+    pub fn unanswered(&self) -> (u32, u32)
+        ensures writes { (h : List Round) → StandsFor self.now h → result.0 ≡ unanswered_writes (port_of self.now).bus h }
+        ensures reads { (h : List Round) → StandsFor self.now h → result.1 ≡ unanswered_reads (port_of self.now).bus h }
+    {
+        (self.writes.unanswered(), self.reads.unanswered())
     }
 }

@@ -5,6 +5,7 @@
 //! wait, data without address, addresses without data, and requests without answer.
 #![tactic(auto)]
 
+pub use rule_laws::laws;
 pub use state::{PortChecker, RuleFault};
 
 mod address;
@@ -14,6 +15,7 @@ mod offer;
 mod outstanding;
 mod payload;
 mod reads;
+mod rule_laws;
 mod state;
 #[cfg(test)]
 mod tests;

@@ -135,6 +135,7 @@ pub(crate) fn transfer_writes(writes: &mut Writes, r: &PortRound)
     requires whole { vec_len writes.old.whole + 2 ≤ vec_capacity writes.old.whole }
     requires surplus { writes.old.surplus + 1 < 2 ^ 32 }
     ensures surplus { writes.new.surplus ≤ writes.old.surplus + 1 }
+    ensures count { length writes.new.issued.items + length writes.new.whole.items ≤ length writes.old.issued.items + length writes.old.whole.items + 1 }
     ensures writes { writes_of writes.new ≡ add_aw (transfer_of r.now.aw) (add_last (transfer_of r.now.w) (add_b (transfer_of r.now.b) (writes_of writes.old))) }
 {
     if let Some(b) = transferred(&r.b) {
@@ -153,7 +154,8 @@ pub(crate) fn transfer_writes(writes: &mut Writes, r: &PortRound)
 /// Counts what a round transfers on AR and R.
 pub(crate) fn transfer_reads(reads: &mut Reads, r: &PortRound)
     requires { vec_len reads.old.reads < vec_capacity reads.old.reads }
-    ensures { reads.new.reads.items ≡ add_ar (transfer_of r.now.ar) (add_r (transfer_of r.now.r) reads.old.reads.items) }
+    ensures reads { reads.new.reads.items ≡ add_ar (transfer_of r.now.ar) (add_r (transfer_of r.now.r) reads.old.reads.items) }
+    ensures count { length reads.new.reads.items ≤ length reads.old.reads.items + 1 }
 {
     if let Some(beat) = transferred(&r.r) {
         reads.beat(beat.id);
