@@ -1,8 +1,8 @@
-//! The checker of an AXI4 port: it is given the rounds of a port one by one, and tells the first rule that they
-//! break.
+//! The checker of an AXI4 port: it is given the rounds of a port one by one, and tells the first
+//! rule that they break.
 //!
-//! The rules are definitions over whole histories. The checker keeps what is outstanding alone: the beats that
-//! wait, data without address, addresses without data, and requests without answer.
+//! The rules are definitions over whole histories. The checker keeps what is outstanding alone: the
+//! beats that wait, data without address, addresses without data, and requests without answer.
 #![tactic(auto)]
 
 pub use rule_laws::laws;
