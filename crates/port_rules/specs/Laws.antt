@@ -8,15 +8,18 @@ use Rattle.port_rules.specs.Unanswered.{legal_beginning, writes_asked, writes_an
 pub record IsLongestLegal (bus : ℕ) (beginning history : List PortRound) : Type 0 where
   pub begins : take (length beginning) history ≡ beginning
   pub legal : axi4_history_fault bus beginning ≡ None
-  pub longest : (n : ℕ) → n ≤ length history → axi4_history_fault bus (take n history) ≡ None → n ≤ length beginning
+  pub longest :
+      (n : ℕ) → n ≤ length history → axi4_history_fault bus (take n history) ≡ None → n ≤ length beginning
 
 abbrev pub LegalBeginningIsLongest : Type 0
-LegalBeginningIsLongest = (bus : ℕ) (history : List PortRound) → IsLongestLegal bus (legal_beginning bus history) history
+LegalBeginningIsLongest =
+    (bus : ℕ) (history : List PortRound) → IsLongestLegal bus (legal_beginning bus history) history
 
 -- a history that breaks no rule is its own legal beginning
 abbrev pub LegalHistoryIsWhole : Type 0
 LegalHistoryIsWhole =
-    (bus : ℕ) (history : List PortRound) → axi4_history_fault bus history ≡ None → legal_beginning bus history ≡ history
+    (bus : ℕ) (history : List PortRound) → axi4_history_fault bus history ≡ None →
+    legal_beginning bus history ≡ history
 
 -- where no rule is broken, there are no more answers than requests
 abbrev pub AnswersFollowRequests : Type 0

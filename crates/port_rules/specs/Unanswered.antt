@@ -5,11 +5,13 @@ use Rattle.axi_history.specs.declared.port.RawR.{RawR}
 use Rattle.axi_history.specs.PortHistory.{transferred, on_aw, on_b, on_ar, on_r}
 use Rattle.axi_history.specs.PortRules.{axi4_fault}
 
--- of rounds that follow earlier ones, those before the first one in which `fault` finds something; all where it finds
--- nothing
-abbrev pub before_fault : (List PortRound → PortRound → Option (ℕ × ℕ)) → List PortRound → List PortRound → List PortRound
+-- of rounds that follow earlier ones, those before the first one in which `fault` finds something;
+-- all where it finds nothing
+abbrev pub before_fault :
+    (List PortRound → PortRound → Option (ℕ × ℕ)) → List PortRound → List PortRound → List PortRound
 before_fault fault earlier [] = []
-before_fault fault earlier (now ∷ rounds) = if is_none (fault earlier now) then now ∷ before_fault fault (earlier ++ now ∷ []) rounds else []
+before_fault fault earlier (now ∷ rounds) =
+    if is_none (fault earlier now) then now ∷ before_fault fault (earlier ++ now ∷ []) rounds else []
 
 -- the longest beginning of a history that breaks no rule of AXI4
 abbrev pub legal_beginning : ℕ → List PortRound → List PortRound
@@ -28,10 +30,12 @@ reads_asked rounds = length (transferred on_ar rounds)
 abbrev pub reads_answered : List PortRound → ℕ
 reads_answered rounds = count_by (λ (beat : RawR). beat.last) (transferred on_r rounds)
 
--- The requests less their answers, in the rounds before the first one that breaks a rule. By rule 11 there are no more
--- answers than requests there.
+-- The requests less their answers, in the rounds before the first one that breaks a rule. By rule 11
+-- there are no more answers than requests there.
 abbrev pub unanswered_writes : ℕ → List PortRound → ℕ
-unanswered_writes bus history = writes_asked (legal_beginning bus history) - writes_answered (legal_beginning bus history)
+unanswered_writes bus history =
+    let rounds = legal_beginning bus history in writes_asked rounds - writes_answered rounds
 
 abbrev pub unanswered_reads : ℕ → List PortRound → ℕ
-unanswered_reads bus history = reads_asked (legal_beginning bus history) - reads_answered (legal_beginning bus history)
+unanswered_reads bus history =
+    let rounds = legal_beginning bus history in reads_asked rounds - reads_answered rounds
