@@ -132,7 +132,10 @@ impl PortChecker {
         fault
     }
 
-    /// Adds the next round of the port.
+    /// Adds the next round of the port, which is of its kind, with addresses below 2^63, after fewer
+    /// than 2^31 rounds. Ok says that the rounds so far break no rule. Broken comes with the first
+    /// round that breaks one, has the least channel and its least rule, and comes again from then
+    /// on. NoMemory says that the round wasn't added.
     pub fn round(&mut self, r: &PortRound) -> Result<(), RuleFault>
         requires kind { r.now.kind ≡ port_of self.old }
         requires addresses { HasSmallAddresses r.now }
@@ -152,6 +155,9 @@ impl PortChecker {
         ensures broken { (rule channel : ℕ) → result ≡ Err (RuleFault.Broken rule channel) →
             (h : List Round) → StandsFor self.old h →
             axi4_history_fault (port_of self.old).bus (h ++ r.now ∷ []) ≡ Some (channel, rule) }
+        ensures stays { (rule channel : ℕ) (h : List Round) → StandsFor self.old h →
+            axi4_history_fault (port_of self.old).bus h ≡ Some (channel, rule) →
+            result ≡ Err (RuleFault.Broken rule channel) }
     {
         if let Some((channel, rule)) = self.fault {
             self.rounds += 1;
