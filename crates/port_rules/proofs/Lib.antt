@@ -1,6 +1,7 @@
 pub mod AddressLemmas
 pub mod BeatLemmas
 pub mod HeldLemmas
+pub mod LegalLemmas
 pub mod PartingLemmas
 pub mod PayloadLemmas
 pub mod PlaceLemmas
@@ -8,4 +9,5 @@ pub mod ReadLemmas
 pub mod RoundLemmas
 pub mod StandsLemmas
 pub mod StrobeLemmas
+pub mod UnansweredLemmas
 pub mod WriteLemmas

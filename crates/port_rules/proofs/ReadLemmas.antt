@@ -1,7 +1,7 @@
 -- Reads that are not answered in full, against the addresses and the beats that were transferred.
-use Rattle.std.proofs.Common.{◌≡◌, ◌≢◌, ℕ, ◌+◌, ◌-◌, ◌<◌, ◌≤◌, ◌==◌, ◌∷◌, [], ◌++◌, ◌&&◌, Bool, true, false, List, Option, Some, None, length, refl, sym, ap, ◌∙◌, inl, inr, arith, subst, leb, ltb, length-append}
+use Rattle.std.proofs.Common.{◌≡◌, ◌≢◌, ℕ, ◌+◌, ◌-◌, ◌<◌, ◌≤◌, ◌==◌, ◌∷◌, [], ◌++◌, ◌&&◌, Bool, true, false, List, Option, Some, None, length, refl, sym, ap, ◌∙◌, inl, inr, arith, subst, leb, ltb, suc, length-append}
 use Rattle.std.proofs.lemmas.List.{append-nil}
-use Rattle.std.specs.Prelude.{sum, is_some, unwrap_or, if◌then◌else◌}
+use Rattle.std.specs.Prelude.{sum, count_by, is_some, unwrap_or, if◌then◌else◌}
 use Rattle.std.specs.Bool.{beq}
 use Rattle.std.proofs.lemmas.Bool.{cases_Bool, and_parts, false≢true, eqb-true, eq-eqb, ltb-true, lt-ltb}
 use Rattle.std.proofs.lemmas.Bool.Decides.{nat_tests}
@@ -162,9 +162,45 @@ one_counted id beats r e = ap length (beats_more id beats r) ∙ rw e (length-ap
 none_counted : (id : ℕ) (beats : List RawR) (r : RawR) → (r.id == id) ≡ false → length (read_beats_of id (beats ++ r ∷ [])) ≡ length (read_beats_of id beats)
 none_counted id beats r e = ap length (beats_more id beats r) ∙ rw e (ap length (append-nil (read_beats_of id beats)))
 
+-- a read is removed exactly with the last beat of its request
+removed_where : (asked : List ℕ) (n : ℕ) → ltb n (sum asked) ≡ true → leb (unwrap_or (first_of (remaining asked n)) 0) 1 ≡ ends_a_request asked n
+removed_where [] n less = let l = ltb-true n 0 less in absurd (omega arith)
+removed_where (beats ∷ more) n less =
+    elim (cases_Bool (ltb n beats)) [
+      | inl e ↦ rw e (let s : leb (beats - n) 1 ≡ (n + 1 == beats) = grind (arith, nat_tests) in s)
+      | inr e ↦ rw e (removed_where more (n - beats) (let whole = sum_cons beats more in let s : ltb (n - beats) (sum more) ≡ true = grind (arith, nat_tests) in s))
+    ]
+
+length_one : (id : ℕ) (reads : List Read) → is_some (left_of id reads) ≡ true → length (read_one id reads) + (if leb (unwrap_or (left_of id reads) 0) 1 then 1 else 0) ≡ length reads
+length_one id [] some = absurd (false≢true some)
+length_one id (read ∷ more) some =
+    elim (cases_Bool (read.id == id)) [
+      | inl e ↦ elim (cases_Bool (leb read.left 1)) [
+        | inl f ↦ rw (e, f) (let s : length more + 1 ≡ suc (length more) = omega arith in s)
+        | inr f ↦ rw (e, f) (let s : suc (length more) + 0 ≡ suc (length more) = omega arith in s)
+      ]
+      | inr e ↦
+          let rest : is_some (left_of id more) ≡ true = rw e at some in
+          rw e (let s = length_one id more rest in let t : suc (length (read_one id more)) + (if leb (unwrap_or (left_of id more) 0) 1 then 1 else 0) ≡ suc (length more) = omega arith in t)
+    ]
+
+lasts_more : (beats : List RawR) (r : RawR) → count_by (λ (beat : RawR). beat.last) (beats ++ r ∷ []) ≡ count_by (λ (beat : RawR). beat.last) beats + (0 + (if r.last then 1 else 0))
+lasts_more beats r = sum_by-append (λ (beat : RawR). if beat.last then 1 else 0) beats (r ∷ [])
+
+-- one read less is kept exactly with a last beat
+one_answered : (reads : List Read) (addresses : List RawAddr) (beats : List RawR) (r : RawR) → ReadsHeld reads addresses beats → ltb (length (read_beats_of r.id beats)) (sum (reads_of r.id addresses)) ≡ true →
+    r.last ≡ ends_a_request (reads_of r.id addresses) (length (read_beats_of r.id beats)) → length (read_one r.id reads) + (if r.last then 1 else 0) ≡ length reads
+one_answered reads addresses beats r held less last =
+    let asked = reads_of r.id addresses in
+    let n = length (read_beats_of r.id beats) in
+    let left : left_of r.id reads ≡ first_of (remaining asked n) = first_left r.id reads ∙ ap first_of (held.each r.id) in
+    let some : is_some (left_of r.id reads) ≡ true = ap (λ (o : Option ℕ). is_some o) left ∙ sym (left_where asked n) ∙ less in
+    let ends : leb (unwrap_or (left_of r.id reads) 0) 1 ≡ r.last = ap (λ (o : Option ℕ). leb (unwrap_or o 0) 1) left ∙ removed_where asked n less ∙ sym last in
+    ap (λ (b : Bool). length (read_one r.id reads) + (if b then 1 else 0)) (sym ends) ∙ length_one r.id reads some
+
 pub read_kept : (reads : List Read) (addresses : List RawAddr) (beats : List RawR) (r : RawR) → ReadsHeld reads addresses beats → ltb (length (read_beats_of r.id beats)) (sum (reads_of r.id addresses)) ≡ true →
-    ReadsHeld (read_one r.id reads) addresses (beats ++ r ∷ [])
-read_kept reads addresses beats r held less = record {
+    r.last ≡ ends_a_request (reads_of r.id addresses) (length (read_beats_of r.id beats)) → ReadsHeld (read_one r.id reads) addresses (beats ++ r ∷ [])
+read_kept reads addresses beats r held less last = record {
   each = λ id. elim (cases_Bool (r.id == id)) [
     | inl e ↦
         let mine : r.id ≡ id = eqb-true r.id id e in
@@ -183,6 +219,7 @@ read_kept reads addresses beats r held less = record {
         (let one = one_counted r.id beats r (eq-eqb r.id r.id refl) in let l = ltb-true _ _ less in omega arith)
     | inr e ↦ let none = none_counted id beats r e in let w = held.within id in omega arith
   ];
+  all = let one = one_answered reads addresses beats r held less last in let more = lasts_more beats r in let h = held.all in omega arith;
 }
 
 reads_more : (id : ℕ) (addresses : List RawAddr) (a : RawAddr) (b : Bool) → (a.id == id) ≡ b → reads_of id (addresses ++ a ∷ []) ≡ reads_of id addresses ++ (if b then (a.len + 1) ∷ [] else [])
@@ -221,7 +258,8 @@ address_kept reads addresses beats a held = record {
         omega arith
     | inr e ↦ let s : sum (reads_of id (addresses ++ a ∷ [])) ≡ sum (reads_of id addresses) = ap sum (reads_more id addresses a false e ∙ append-nil (reads_of id addresses)) in let w = held.within id in omega arith
   ];
+  all = let reads' = length-append reads (pending a ∷ []) in let addresses' = length-append addresses (a ∷ []) in let h = held.all in omega arith;
 }
 
 pub reads_start : ReadsHeld [] [] []
-reads_start = record { each = λ id. refl; within = λ id. omega arith }
+reads_start = record { each = λ id. refl; within = λ id. omega arith; all = refl }

@@ -16,7 +16,7 @@ use Rattle.axi_history.specs.declared.port.RawAddr.{RawAddr}
 use Rattle.axi_history.specs.declared.port.RawB.{RawB}
 use Rattle.axi_history.specs.declared.port.RawR.{RawR}
 use Rattle.axi_history.specs.declared.port.Seen.{Seen}
-use Rattle.axi_history.specs.PortHistory.{offer_of, transfer_of, transferred, waiting, offered, bursts, on_aw, on_w, on_b, on_ar, on_r}
+use Rattle.axi_history.specs.PortHistory.{offer_of, transfer_of, transferred, waiting, offered, bursts, ends_a_request, on_aw, on_w, on_b, on_ar, on_r}
 use Rattle.axi_history.specs.PortRules.{same_tag, same_address, same_data, same_response, same_read, handshake_rules, least_broken, or_else, rules_of_offer, address_rules, keeps_address_rules, has_last_where_due, has_strobes_on_valid_lanes, last_is_on_the_last_beat, strobes_are_on_valid_lanes, each_addressed_beat, response_rules, read_beat_rules, is_not_exokay, responses_of, writes_of, read_beats_of, reads_of, write_address_rules, write_data_rules, write_response_rules, read_address_rules, read_data_rules, axi4_fault}
 use Rattle.port_rules.specs.Kept.{response_fault}
 use Rattle.port_rules.specs.Reads.{read_fault}
@@ -205,10 +205,11 @@ kept_eight true true e = refl
 kept_eight true false e = absurd cc
 kept_eight false y e = absurd cc
 
-kept_eleven : (x y z : Bool) → least_broken ((8, x) ∷ (11, y) ∷ (12, z) ∷ []) ≡ None → y ≡ true
-kept_eleven true true z e = refl
-kept_eleven true false z e = absurd cc
-kept_eleven false y z e = absurd cc
+kept_twelve : (x y z : Bool) → least_broken ((8, x) ∷ (11, y) ∷ (12, z) ∷ []) ≡ None → (y ≡ true) × (z ≡ true)
+kept_twelve true true true e = (refl, refl)
+kept_twelve true true false e = absurd cc
+kept_twelve true false z e = absurd cc
+kept_twelve false y z e = absurd cc
 
 kept_nine : (x y : Bool) → least_broken ((9, x) ∷ (10, y) ∷ []) ≡ None → (x ≡ true) × (y ≡ true)
 kept_nine true true e = (refl, refl)
@@ -238,11 +239,15 @@ b_added o adds n bs None follows held = subst (λ (xs : List RawB). WritesHeld o
 b_added o adds n bs (Some b) follows held = response_kept o adds n bs b held (follows b refl)
 
 abbrev FollowsRead : List RawAddr → List RawR → RawR → Type 0
-FollowsRead adds rs beat = ltb (length (read_beats_of beat.id rs)) (sum (reads_of beat.id adds)) ≡ true
+FollowsRead adds rs beat =
+    (ltb (length (read_beats_of beat.id rs)) (sum (reads_of beat.id adds)) ≡ true)
+    × (beq beat.last (ends_a_request (reads_of beat.id adds) (length (read_beats_of beat.id rs))) ≡ true)
 
 r_added : (reads : List Read) (adds : List RawAddr) (rs : List RawR) (beat : Option RawR) → ForSome beat (FollowsRead adds rs) → ReadsHeld reads adds rs → ReadsHeld (add_r beat reads) adds (rs ++ option_to_list beat)
 r_added reads adds rs None follows held = subst (λ (xs : List RawR). ReadsHeld reads adds xs) (sym (append-nil rs)) held
-r_added reads adds rs (Some beat) follows held = read_kept reads adds rs beat held (follows beat refl)
+r_added reads adds rs (Some beat) follows held =
+    let f = follows beat refl in
+    read_kept reads adds rs beat held f.0 (beq_equal _ _ f.1)
 
 ar_added : (reads : List Read) (adds : List RawAddr) (rs : List RawR) (a : Option RawAddr) → ReadsHeld reads adds rs → ReadsHeld (add_ar a reads) (adds ++ option_to_list a) rs
 ar_added reads adds rs None held = subst (λ (xs : List RawAddr). ReadsHeld reads xs rs) (sym (append-nil adds)) held
@@ -269,7 +274,7 @@ response_follows h r none x e =
 read_follows : (h : List PortRound) (r : PortRound) → least_broken (read_data_rules h r) ≡ None → ForSome (transfer_of r.r) (FollowsRead (transferred on_ar h) (transferred on_r h))
 read_follows h r none x e =
     let parts = else_none (least_broken (handshake_rules same_read (waiting on_r h) (offer_of r.r))) (least_broken (rules_of_offer (offer_of r.r) (read_beat_rules h))) (sym (least_append (handshake_rules same_read (waiting on_r h) (offer_of r.r)) (rules_of_offer (offer_of r.r) (read_beat_rules h))) ∙ none) in
-    kept_eleven (is_not_exokay x.resp) _ _ (of_offer (offer_of r.r) (read_beat_rules h) x (was_offered r.r x e) parts.1)
+    kept_twelve (is_not_exokay x.resp) _ _ (of_offer (offer_of r.r) (read_beat_rules h) x (was_offered r.r x e) parts.1)
 
 writes_kept : (bus : ℕ) (k : Kept) (h : List PortRound) (r : PortRound) → Held bus k h → least_broken (write_response_rules h r) ≡ None →
     WritesHeld (add_aw (transfer_of r.aw) (add_last (transfer_of r.w) (add_b (transfer_of r.b) k.writes))) (transferred on_aw (h ++ r ∷ [])) (count_by (λ (beat : WBeat). beat.last) (transferred on_w (h ++ r ∷ []))) (transferred on_b (h ++ r ∷ []))

@@ -2,7 +2,7 @@
 use Rattle.std.proofs.Common.{◌≡◌, ◌≢◌, ℕ, ◌+◌, ◌-◌, ◌<◌, ◌≤◌, ◌==◌, ◌∷◌, [], ◌++◌, Bool, true, false, List, Option, length, zero, suc, refl, sym, ap, add-one, ◌∙◌, inl, inr, arith, subst, ltb, length-append}
 use Rattle.std.specs.Prelude.{map, filter, take, drop, position, is_some}
 use Rattle.std.specs.List.{position_from}
-use Rattle.std.proofs.lemmas.List.{map-append, length-drop}
+use Rattle.std.proofs.lemmas.List.{map-append, length-drop, take-append-drop}
 use Rattle.std.proofs.lemmas.Bool.{cases_Bool, false≢true, eqb-true, eq-eqb, ltb-true, lt-ltb}
 use Rattle.std.proofs.lemmas.Bool.Decides.{nat_tests}
 use Rattle.std.proofs.lemmas.List.Elements.{filter-append}
@@ -253,3 +253,11 @@ response_kept o addresses lasts responses b held less =
           let h = held.all in
           omega arith;
     }
+
+-- each write that is kept lacks its response
+pub writes_counted : (o : Open) (addresses : List RawAddr) (lasts : ℕ) (responses : List RawB) → WritesHeld o addresses lasts responses → length o.issued + length o.whole + length responses ≡ length addresses
+writes_counted o addresses lasts responses held =
+    let issued : length o.issued ≡ length (drop lasts addresses) = ap length held.issued ∙ ids_length (drop lasts addresses) in
+    let whole = held.all in
+    let parts : length (take lasts addresses) + length (drop lasts addresses) ≡ length addresses = sym (length-append (take lasts addresses) (drop lasts addresses)) ∙ ap length (take-append-drop lasts addresses) in
+    omega arith

@@ -1,10 +1,12 @@
 pub mod Checked
 pub mod Judged
 pub mod Kept
+pub mod Laws
 pub mod Offers
 pub mod Parting
 pub mod Reads
 pub mod ReadsHeld
 pub mod StandsFor
 pub mod Transfers
+pub mod Unanswered
 pub mod WritesHeld

@@ -1,5 +1,5 @@
 -- What a checker stands for: the rounds that it was given.
-use Rattle.std.specs.Prelude.{◌≡◌, ℕ, List, true, None, length, count_by}
+use Rattle.std.specs.Prelude.{◌≡◌, ℕ, ◌+◌, List, true, None, length, count_by}
 use Rattle.std.specs.List.{list_all}
 use Rattle.axi_beats.specs.declared.beat.WBeat.{WBeat}
 use Rattle.axi_history.specs.declared.port.PortKind.{PortKind}
@@ -11,6 +11,7 @@ use Rattle.port_rules.specs.Checked.{Kept}
 use Rattle.port_rules.specs.Parting.{parting}
 use Rattle.port_rules.specs.ReadsHeld.{ReadsHeld}
 use Rattle.port_rules.specs.Transfers.{writes_of}
+use Rattle.port_rules.specs.Unanswered.{unanswered_writes, unanswered_reads}
 use Rattle.port_rules.specs.WritesHeld.{WritesHeld}
 
 -- what is kept of rounds that break no rule
@@ -53,3 +54,6 @@ pub record StandsFor (c : PortChecker) (history : List PortRound) : Type 0 where
   pub fault : c.fault ≡ axi4_history_fault c.port.bus history
   -- and, as long as they break no rule, what is outstanding
   pub held : c.fault ≡ None → Held c.port.bus (kept_of c) history
+  -- the requests that wait for the end of their answer, in the rounds before the first broken one
+  pub writes : length c.writes.issued.items + length c.writes.whole.items ≡ unanswered_writes c.port.bus history
+  pub reads : length c.reads.reads.items ≡ unanswered_reads c.port.bus history

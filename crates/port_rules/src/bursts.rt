@@ -14,8 +14,8 @@ use axi_history::RawAddr;
 use std::alloc::Global;
 use std::collections::VecDeque;
 
-/// The n-th write burst belongs to the n-th address. What is kept are the beats and addresses that were offered
-/// before the other.
+/// The n-th write burst belongs to the n-th address. What is kept are the beats and addresses that
+/// were offered before the other.
 #[derive(Drop)]
 pub(crate) struct Bursts {
     bus: u8,
@@ -51,7 +51,8 @@ impl Bursts {
         ensures addresses { self.new.addresses.items ≡ self.old.addresses.items }
         ensures passed { self.new.passed ≡ self.old.passed }
         ensures beats { self.new.beats.items ≡ self.old.beats.items }
-        ensures address_room { OnOk result (deque_len self.new.addresses < deque_capacity self.new.addresses) }
+        ensures address_room { OnOk result
+            (deque_len self.new.addresses < deque_capacity self.new.addresses) }
         ensures beat_room { OnOk result (deque_len self.new.beats < deque_capacity self.new.beats) }
     {
         self.addresses.reserve(1)?;
@@ -64,10 +65,16 @@ impl Bursts {
         requires usable { is_usable self.old.bus a.now ≡ true }
         requires room { deque_len self.old.addresses < deque_capacity self.old.addresses }
         ensures bus { self.new.bus ≡ self.old.bus }
-        ensures fault { result ≡ late_fault self.old.bus self.old.addresses.items self.old.beats.items a.now }
-        ensures addresses { result ≢ Some 9 → self.new.addresses.items ≡ addresses_with self.old.addresses.items self.old.beats.items a.now }
-        ensures passed { result ≢ Some 9 → self.new.passed ≡ passed_with self.old.addresses.items self.old.beats.items self.old.passed }
-        ensures beats { result ≢ Some 9 → self.new.beats.items ≡ beats_with self.old.addresses.items self.old.beats.items }
+        ensures fault { result ≡
+            late_fault self.old.bus self.old.addresses.items self.old.beats.items a.now }
+        ensures addresses { result ≢ Some 9 →
+            self.new.addresses.items ≡
+            addresses_with self.old.addresses.items self.old.beats.items a.now }
+        ensures passed { result ≢ Some 9 →
+            self.new.passed ≡
+            passed_with self.old.addresses.items self.old.beats.items self.old.passed }
+        ensures beats { result ≢ Some 9 →
+            self.new.beats.items ≡ beats_with self.old.addresses.items self.old.beats.items }
         ensures room { deque_capacity self.new.beats ≡ deque_capacity self.old.beats }
         ensures length { deque_len self.new.beats ≤ deque_len self.old.beats }
     {
@@ -79,9 +86,9 @@ impl Bursts {
         }
     }
 
-    /// Gives an address, from its beat `n` on, the beats that have none. `strobes` says whether the strobes of the
-    /// earlier beats are right. No beat follows one that breaks rule 9, so that this goes no deeper than a burst
-    /// has beats.
+    /// Gives an address, from its beat `n` on, the beats that have none. `strobes` says whether the
+    /// strobes of the earlier beats are right. No beat follows one that breaks rule 9, so that this
+    /// goes no deeper than a burst has beats.
     #[tactic(auto, using(crate::proofs::BeatLemmas::fault_next))]
     fn settle(&mut self, a: &RawAddr, n: u32, strobes: bool) -> Option<u8>
         requires usable { is_usable self.old.bus a.now ≡ true }
@@ -89,9 +96,15 @@ impl Bursts {
         requires empty { self.old.addresses.items ≡ [] }
         requires room { deque_len self.old.addresses < deque_capacity self.old.addresses }
         ensures bus { self.new.bus ≡ self.old.bus }
-        ensures fault { result ≡ beats_fault self.old.bus a.now n strobes (first_burst self.old.beats.items) }
-        ensures addresses { result ≢ Some 9 → self.new.addresses.items ≡ (if has_whole self.old.beats.items then [] else a.now ∷ []) }
-        ensures passed { result ≢ Some 9 → self.new.passed ≡ (if has_whole self.old.beats.items then self.old.passed else n + length self.old.beats.items) }
+        ensures fault { result ≡
+            beats_fault self.old.bus a.now n strobes (first_burst self.old.beats.items) }
+        ensures addresses { result ≢ Some 9 →
+            self.new.addresses.items ≡ (if has_whole self.old.beats.items then [] else a.now ∷ []) }
+        ensures passed { result ≢ Some 9 →
+            self.new.passed ≡
+            (if has_whole self.old.beats.items
+            then self.old.passed
+            else n + length self.old.beats.items) }
         ensures beats { result ≢ Some 9 → self.new.beats.items ≡ after_first self.old.beats.items }
         ensures room { deque_capacity self.new.beats ≡ deque_capacity self.old.beats }
         ensures length { deque_len self.new.beats ≤ deque_len self.old.beats }
@@ -112,18 +125,29 @@ impl Bursts {
         }
     }
 
-    /// Adds the address and the W beat that a round offers anew, and answers the least of rules 9 and 10 that is
-    /// broken by them.
+    /// Adds the address and the W beat that a round offers anew, and answers the least of rules 9
+    /// and 10 that is broken by them.
     #[tactic(auto, using(crate::proofs::BeatLemmas::nine_is_least))]
     pub(crate) fn add(&mut self, aw: &Option<RawAddr>, w: &Option<WBeat>) -> Option<u8>
         requires usable { ForSome aw.now (λ a. is_usable self.old.bus a ≡ true) }
         requires address_room { deque_len self.old.addresses < deque_capacity self.old.addresses }
         requires beat_room { deque_len self.old.beats < deque_capacity self.old.beats }
         ensures bus { self.new.bus ≡ self.old.bus }
-        ensures fault { result ≡ data_fault self.old.bus aw.now w.now self.old.addresses.items self.old.passed self.old.beats.items }
-        ensures addresses { IfNone result (self.new.addresses.items ≡ addresses_done w.now (addresses_then aw.now self.old.addresses.items self.old.beats.items)) }
-        ensures passed { IfNone result (self.new.passed ≡ passed_done w.now (addresses_then aw.now self.old.addresses.items self.old.beats.items) (passed_then aw.now self.old.addresses.items self.old.beats.items self.old.passed)) }
-        ensures beats { IfNone result (self.new.beats.items ≡ beats_done w.now (addresses_then aw.now self.old.addresses.items self.old.beats.items) (beats_then aw.now self.old.addresses.items self.old.beats.items)) }
+        ensures fault { result ≡
+            data_fault self.old.bus aw.now w.now
+            self.old.addresses.items self.old.passed self.old.beats.items }
+        ensures addresses { let addresses =
+            addresses_then aw.now self.old.addresses.items self.old.beats.items in
+            IfNone result (self.new.addresses.items ≡ addresses_done w.now addresses) }
+        ensures passed { let addresses =
+            addresses_then aw.now self.old.addresses.items self.old.beats.items in
+            let passed =
+            passed_then aw.now self.old.addresses.items self.old.beats.items self.old.passed in
+            IfNone result (self.new.passed ≡ passed_done w.now addresses passed) }
+        ensures beats { let addresses =
+            addresses_then aw.now self.old.addresses.items self.old.beats.items in
+            let beats = beats_then aw.now self.old.addresses.items self.old.beats.items in
+            IfNone result (self.new.beats.items ≡ beats_done w.now addresses beats) }
     {
         let late = self.add_address(aw);
         if late == Some(9) {
@@ -137,10 +161,16 @@ impl Bursts {
         requires usable { ForSome aw.now (λ a. is_usable self.old.bus a ≡ true) }
         requires room { deque_len self.old.addresses < deque_capacity self.old.addresses }
         ensures bus { self.new.bus ≡ self.old.bus }
-        ensures fault { result ≡ late_fault_of self.old.bus aw.now self.old.addresses.items self.old.beats.items }
-        ensures addresses { result ≢ Some 9 → self.new.addresses.items ≡ addresses_then aw.now self.old.addresses.items self.old.beats.items }
-        ensures passed { result ≢ Some 9 → self.new.passed ≡ passed_then aw.now self.old.addresses.items self.old.beats.items self.old.passed }
-        ensures beats { result ≢ Some 9 → self.new.beats.items ≡ beats_then aw.now self.old.addresses.items self.old.beats.items }
+        ensures fault { result ≡
+            late_fault_of self.old.bus aw.now self.old.addresses.items self.old.beats.items }
+        ensures addresses { result ≢ Some 9 →
+            self.new.addresses.items ≡
+            addresses_then aw.now self.old.addresses.items self.old.beats.items }
+        ensures passed { result ≢ Some 9 →
+            self.new.passed ≡
+            passed_then aw.now self.old.addresses.items self.old.beats.items self.old.passed }
+        ensures beats { result ≢ Some 9 →
+            self.new.beats.items ≡ beats_then aw.now self.old.addresses.items self.old.beats.items }
         ensures room { deque_capacity self.new.beats ≡ deque_capacity self.old.beats }
         ensures length { deque_len self.new.beats ≤ deque_len self.old.beats }
     {
@@ -153,10 +183,15 @@ impl Bursts {
     fn add_beat(&mut self, w: &Option<WBeat>) -> Option<u8>
         requires { deque_len self.old.beats < deque_capacity self.old.beats }
         ensures bus { self.new.bus ≡ self.old.bus }
-        ensures fault { result ≡ beat_fault_of self.old.bus w.now self.old.addresses.items self.old.passed }
-        ensures addresses { IfNone result (self.new.addresses.items ≡ addresses_done w.now self.old.addresses.items) }
-        ensures passed { IfNone result (self.new.passed ≡ passed_done w.now self.old.addresses.items self.old.passed) }
-        ensures beats { IfNone result (self.new.beats.items ≡ beats_done w.now self.old.addresses.items self.old.beats.items) }
+        ensures fault { result ≡
+            beat_fault_of self.old.bus w.now self.old.addresses.items self.old.passed }
+        ensures addresses { IfNone result
+            (self.new.addresses.items ≡ addresses_done w.now self.old.addresses.items) }
+        ensures passed { IfNone result
+            (self.new.passed ≡ passed_done w.now self.old.addresses.items self.old.passed) }
+        ensures beats { IfNone result
+            (self.new.beats.items ≡
+            beats_done w.now self.old.addresses.items self.old.beats.items) }
     {
         match w {
             Some(w) => self.beat(w),
@@ -177,10 +212,15 @@ impl Bursts {
     pub(crate) fn beat(&mut self, w: &WBeat) -> Option<u8>
         requires { deque_len self.old.beats < deque_capacity self.old.beats }
         ensures bus { self.new.bus ≡ self.old.bus }
-        ensures fault { result ≡ beat_fault self.old.bus self.old.addresses.items self.old.passed w.now }
-        ensures addresses { IfNone result (self.new.addresses.items ≡ addresses_after self.old.addresses.items w.now) }
-        ensures passed { IfNone result (self.new.passed ≡ passed_after self.old.addresses.items self.old.passed w.now) }
-        ensures beats { IfNone result (self.new.beats.items ≡ beats_after self.old.addresses.items self.old.beats.items w.now) }
+        ensures fault { result ≡
+            beat_fault self.old.bus self.old.addresses.items self.old.passed w.now }
+        ensures addresses { IfNone result
+            (self.new.addresses.items ≡ addresses_after self.old.addresses.items w.now) }
+        ensures passed { IfNone result
+            (self.new.passed ≡ passed_after self.old.addresses.items self.old.passed w.now) }
+        ensures beats { IfNone result
+            (self.new.beats.items ≡
+            beats_after self.old.addresses.items self.old.beats.items w.now) }
     {
         let (bus, n) = (self.bus, self.passed);
         let Some(a) = self.addresses.front() else {

@@ -7,6 +7,7 @@ ghost use Rattle.axi_history.specs.PortRules.{axi4_history_fault};
 ghost use Rattle.axi_history.specs.declared.port.PortRound.{PortRound as Round};
 ghost use Rattle.port_rules.specs.Checked.{kept_fault, kept_after, HasSmallAddresses};
 ghost use Rattle.port_rules.specs.StandsFor.{StandsFor, kept_of, port_of, rounds_of};
+ghost use Rattle.port_rules.specs.Unanswered.{unanswered_writes, unanswered_reads};
 
 use crate::bursts::Bursts;
 use crate::outstanding::{
@@ -46,11 +47,16 @@ impl PortChecker {
         ensures rounds { self.new.rounds ≡ self.old.rounds }
         ensures fault { self.new.fault ≡ self.old.fault }
         ensures kept { kept_of self.new ≡ kept_of self.old }
-        ensures addresses { OnOk result (deque_len self.new.bursts.addresses < deque_capacity self.new.bursts.addresses) }
-        ensures beats { OnOk result (deque_len self.new.bursts.beats < deque_capacity self.new.bursts.beats) }
-        ensures issued { OnOk result (deque_len self.new.writes.issued < deque_capacity self.new.writes.issued) }
-        ensures whole { OnOk result (vec_len self.new.writes.whole + 2 ≤ vec_capacity self.new.writes.whole) }
-        ensures reads { OnOk result (vec_len self.new.reads.reads < vec_capacity self.new.reads.reads) }
+        ensures addresses { OnOk result
+            (deque_len self.new.bursts.addresses < deque_capacity self.new.bursts.addresses) }
+        ensures beats { OnOk result
+            (deque_len self.new.bursts.beats < deque_capacity self.new.bursts.beats) }
+        ensures issued { OnOk result
+            (deque_len self.new.writes.issued < deque_capacity self.new.writes.issued) }
+        ensures whole { OnOk result
+            (vec_len self.new.writes.whole + 2 ≤ vec_capacity self.new.writes.whole) }
+        ensures reads { OnOk result
+            (vec_len self.new.reads.reads < vec_capacity self.new.reads.reads) }
     {
         self.bursts.reserve()?;
         self.writes.reserve()?;
@@ -58,12 +64,13 @@ impl PortChecker {
         Ok(())
     }
 
-    /// The least channel on which a round breaks a rule, and the least such rule. Where it breaks none, its addresses
-    /// and W beats are added.
+    /// The least channel on which a round breaks a rule, and the least such rule. Where it breaks
+    /// none, its addresses and W beats are added.
     #[tactic(auto, using(crate::proofs::AddressLemmas::new_usable))]
     fn judge(&mut self, r: &PortRound) -> Option<(u8, u8)>
         requires small { HasSmallAddresses r.now }
-        requires addresses { deque_len self.old.bursts.addresses < deque_capacity self.old.bursts.addresses }
+        requires addresses { deque_len self.old.bursts.addresses
+            < deque_capacity self.old.bursts.addresses }
         requires beats { deque_len self.old.bursts.beats < deque_capacity self.old.bursts.beats }
         ensures port { self.new.port ≡ self.old.port }
         ensures rounds { self.new.rounds ≡ self.old.rounds }
@@ -72,9 +79,12 @@ impl PortChecker {
         ensures writes { self.new.writes ≡ self.old.writes }
         ensures reads { self.new.reads ≡ self.old.reads }
         ensures fault { result ≡ kept_fault self.old.port.bus (kept_of self.old) r.now }
-        ensures addresses { IfNone result (self.new.bursts.addresses.items ≡ (kept_after (kept_of self.old) r.now).addresses) }
-        ensures passed { IfNone result (self.new.bursts.passed ≡ (kept_after (kept_of self.old) r.now).passed) }
-        ensures beats { IfNone result (self.new.bursts.beats.items ≡ (kept_after (kept_of self.old) r.now).beats) }
+        ensures addresses { IfNone result
+            (self.new.bursts.addresses.items ≡ (kept_after (kept_of self.old) r.now).addresses) }
+        ensures passed { IfNone result
+            (self.new.bursts.passed ≡ (kept_after (kept_of self.old) r.now).passed) }
+        ensures beats { IfNone result
+            (self.new.bursts.beats.items ≡ (kept_after (kept_of self.old) r.now).beats) }
     {
         if let Some(rule) = address_channel_fault(&self.waits.aw, &r.aw, self.port.bus) {
             return Some((1, rule));
@@ -98,7 +108,8 @@ impl PortChecker {
     fn add(&mut self, r: &PortRound) -> Option<(u8, u8)>
         requires small { HasSmallAddresses r.now }
         requires rounds { self.old.rounds < 2 ^ 31 }
-        requires addresses { deque_len self.old.bursts.addresses < deque_capacity self.old.bursts.addresses }
+        requires addresses { deque_len self.old.bursts.addresses
+            < deque_capacity self.old.bursts.addresses }
         requires beats { deque_len self.old.bursts.beats < deque_capacity self.old.bursts.beats }
         requires issued { deque_len self.old.writes.issued < deque_capacity self.old.writes.issued }
         requires whole { vec_len self.old.writes.whole + 2 ≤ vec_capacity self.old.writes.whole }
@@ -108,6 +119,8 @@ impl PortChecker {
         ensures same_fault { self.new.fault ≡ self.old.fault }
         ensures fault { result ≡ kept_fault self.old.port.bus (kept_of self.old) r.now }
         ensures kept { IfNone result (kept_of self.new ≡ kept_after (kept_of self.old) r.now) }
+        ensures writes { result ≢ None → (kept_of self.new).writes ≡ (kept_of self.old).writes }
+        ensures reads { result ≢ None → (kept_of self.new).reads ≡ (kept_of self.old).reads }
     {
         self.rounds += 1;
         let fault = self.judge(r);
@@ -119,7 +132,10 @@ impl PortChecker {
         fault
     }
 
-    /// Adds the next round of the port.
+    /// Adds the next round of the port, which is of its kind, with addresses below 2^63, after fewer
+    /// than 2^31 rounds. Ok says that the rounds so far break no rule. Broken comes with the first
+    /// round that breaks one, has the least channel and its least rule, and comes again from then
+    /// on. NoMemory says that the round wasn't added.
     pub fn round(&mut self, r: &PortRound) -> Result<(), RuleFault>
         requires kind { r.now.kind ≡ port_of self.old }
         requires addresses { HasSmallAddresses r.now }
@@ -128,12 +144,20 @@ impl PortChecker {
         ensures rounds { rounds_of self.new ≤ rounds_of self.old + 1 }
 
         // What it stands for: the longer history, and without memory the same one.
-        ensures added { result ≢ Err RuleFault.NoMemory → (h : List Round) → StandsFor self.old h → StandsFor self.new (h ++ r.now ∷ []) }
-        ensures unchanged { result ≡ Err RuleFault.NoMemory → (h : List Round) → StandsFor self.old h → StandsFor self.new h }
+        ensures added { result ≢ Err RuleFault.NoMemory →
+            (h : List Round) → StandsFor self.old h → StandsFor self.new (h ++ r.now ∷ []) }
+        ensures unchanged { result ≡ Err RuleFault.NoMemory →
+            (h : List Round) → StandsFor self.old h → StandsFor self.new h }
 
         // Each answer says what the history breaks first.
-        ensures legal { IsOk result → (h : List Round) → StandsFor self.old h → axi4_history_fault (port_of self.old).bus (h ++ r.now ∷ []) ≡ None }
-        ensures broken { (rule channel : ℕ) → result ≡ Err (RuleFault.Broken rule channel) → (h : List Round) → StandsFor self.old h → axi4_history_fault (port_of self.old).bus (h ++ r.now ∷ []) ≡ Some (channel, rule) }
+        ensures legal { IsOk result → (h : List Round) → StandsFor self.old h →
+            axi4_history_fault (port_of self.old).bus (h ++ r.now ∷ []) ≡ None }
+        ensures broken { (rule channel : ℕ) → result ≡ Err (RuleFault.Broken rule channel) →
+            (h : List Round) → StandsFor self.old h →
+            axi4_history_fault (port_of self.old).bus (h ++ r.now ∷ []) ≡ Some (channel, rule) }
+        ensures stays { (rule channel : ℕ) (h : List Round) → StandsFor self.old h →
+            axi4_history_fault (port_of self.old).bus h ≡ Some (channel, rule) →
+            result ≡ Err (RuleFault.Broken rule channel) }
     {
         if let Some((channel, rule)) = self.fault {
             self.rounds += 1;
@@ -149,5 +173,18 @@ impl PortChecker {
             }
             None => Ok(()),
         }
+    }
+
+    /// How many writes and how many reads are unanswered: the AWs less the Bs that were transferred
+    /// and the ARs less the R beats with `last`, in the rounds before the first broken one. By rule
+    /// 11 these rounds have no more answers than requests, so the differences are exact; and as a
+    /// round transfers at most one request of each kind, they fit. It takes no memory.
+    pub fn unanswered(&self) -> (u32, u32)
+        ensures writes { (h : List Round) → StandsFor self.now h →
+            result.0 ≡ unanswered_writes (port_of self.now).bus h }
+        ensures reads { (h : List Round) → StandsFor self.now h →
+            result.1 ≡ unanswered_reads (port_of self.now).bus h }
+    {
+        (self.writes.unanswered(), self.reads.unanswered())
     }
 }

@@ -1,10 +1,11 @@
-//! The checker of an AXI4 port: it is given the rounds of a port one by one, and tells the first rule that they
-//! break.
+//! The checker of an AXI4 port: it is given the rounds of a port one by one, and tells the first
+//! rule that they break.
 //!
-//! The rules are definitions over whole histories. The checker keeps what is outstanding alone: the beats that
-//! wait, data without address, addresses without data, and requests without answer.
+//! The rules are definitions over whole histories. The checker keeps what is outstanding alone: the
+//! beats that wait, data without address, addresses without data, and requests without answer.
 #![tactic(auto)]
 
+pub use rule_laws::laws;
 pub use state::{PortChecker, RuleFault};
 
 mod address;
@@ -14,6 +15,7 @@ mod offer;
 mod outstanding;
 mod payload;
 mod reads;
+mod rule_laws;
 mod state;
 #[cfg(test)]
 mod tests;

@@ -3,8 +3,9 @@ ghost use Rattle.std.specs.Prelude.{◌≡◌, ◌+◌, ◌<◌, ◌≤◌, ◌^
 ghost use Rattle.axi_beats.specs.Word.{IsBusWidth};
 ghost use Rattle.std.specs.Option.{ForSome};
 ghost use Rattle.std.specs.VecDeque.{deque_len, deque_capacity};
-ghost use Rattle.axi_history.specs.PortHistory.{offer_of, transfer_of, wait_of};
+ghost use Rattle.axi_history.specs.PortHistory.{offer_of, transfer_of};
 ghost use Rattle.axi_history.specs.PortRules.{same_address, same_data, same_response, same_read, handshake_rules, rules_of_offer, address_rules, least_broken, or_else};
+ghost use Rattle.port_rules.specs.Checked.{waits_after};
 ghost use Rattle.port_rules.specs.Kept.{is_usable, response_fault};
 ghost use Rattle.port_rules.specs.Reads.{read_fault};
 ghost use Rattle.port_rules.specs.Offers.{new_offer as new_offer_of, fault_of_offer};
@@ -46,7 +47,7 @@ impl Waits {
 
     /// What waits after a round.
     pub(crate) fn after(r: &PortRound) -> Waits
-        ensures { result ≡ record { aw = wait_of r.now.aw; w = wait_of r.now.w; b = wait_of r.now.b; ar = wait_of r.now.ar; r = wait_of r.now.r } }
+        ensures { result ≡ waits_after r.now }
     {
         Waits {
             aw: waiting(&r.aw),
@@ -65,7 +66,9 @@ pub(crate) fn address_channel_fault(
     bus: u8,
 ) -> Option<u8>
     requires { IsBusWidth bus }
-    ensures { result ≡ least_broken (handshake_rules same_address waits.now (offer_of offer.now) ++ rules_of_offer (offer_of offer.now) (address_rules bus)) }
+    ensures { result ≡
+        least_broken (handshake_rules same_address waits.now (offer_of offer.now)
+        ++ rules_of_offer (offer_of offer.now) (address_rules bus)) }
 {
     if let Some(rule) = handshake_fault(waits, offer) {
         return Some(rule);
@@ -78,14 +81,32 @@ pub(crate) fn address_channel_fault(
 
 /// The first rule that is broken on W, where `bursts` has all that was offered before.
 pub(crate) fn data_channel_fault(bursts: &mut Bursts, waits: &Waits, r: &PortRound) -> Option<u8>
-    requires usable { ForSome (new_offer_of waits.now.aw (offer_of r.now.aw)) (λ a. is_usable bursts.old.bus a ≡ true) }
+    requires usable { ForSome (new_offer_of waits.now.aw (offer_of r.now.aw))
+        (λ a. is_usable bursts.old.bus a ≡ true) }
     requires address_room { deque_len bursts.old.addresses < deque_capacity bursts.old.addresses }
     requires beat_room { deque_len bursts.old.beats < deque_capacity bursts.old.beats }
     ensures bus { bursts.new.bus ≡ bursts.old.bus }
-    ensures fault { result ≡ or_else (least_broken (handshake_rules same_data waits.now.w (offer_of r.now.w))) (data_fault bursts.old.bus (new_offer_of waits.now.aw (offer_of r.now.aw)) (new_offer_of waits.now.w (offer_of r.now.w)) bursts.old.addresses.items bursts.old.passed bursts.old.beats.items) }
-    ensures addresses { IfNone result (bursts.new.addresses.items ≡ addresses_done (new_offer_of waits.now.w (offer_of r.now.w)) (addresses_then (new_offer_of waits.now.aw (offer_of r.now.aw)) bursts.old.addresses.items bursts.old.beats.items)) }
-    ensures passed { IfNone result (bursts.new.passed ≡ passed_done (new_offer_of waits.now.w (offer_of r.now.w)) (addresses_then (new_offer_of waits.now.aw (offer_of r.now.aw)) bursts.old.addresses.items bursts.old.beats.items) (passed_then (new_offer_of waits.now.aw (offer_of r.now.aw)) bursts.old.addresses.items bursts.old.beats.items bursts.old.passed)) }
-    ensures beats { IfNone result (bursts.new.beats.items ≡ beats_done (new_offer_of waits.now.w (offer_of r.now.w)) (addresses_then (new_offer_of waits.now.aw (offer_of r.now.aw)) bursts.old.addresses.items bursts.old.beats.items) (beats_then (new_offer_of waits.now.aw (offer_of r.now.aw)) bursts.old.addresses.items bursts.old.beats.items)) }
+    ensures fault { let aw = new_offer_of waits.now.aw (offer_of r.now.aw) in
+        let w = new_offer_of waits.now.w (offer_of r.now.w) in
+        result ≡ or_else
+        (least_broken (handshake_rules same_data waits.now.w (offer_of r.now.w)))
+        (data_fault bursts.old.bus aw w
+        bursts.old.addresses.items bursts.old.passed bursts.old.beats.items) }
+    ensures addresses { let aw = new_offer_of waits.now.aw (offer_of r.now.aw) in
+        let w = new_offer_of waits.now.w (offer_of r.now.w) in
+        let addresses = addresses_then aw bursts.old.addresses.items bursts.old.beats.items in
+        IfNone result (bursts.new.addresses.items ≡ addresses_done w addresses) }
+    ensures passed { let aw = new_offer_of waits.now.aw (offer_of r.now.aw) in
+        let w = new_offer_of waits.now.w (offer_of r.now.w) in
+        let addresses = addresses_then aw bursts.old.addresses.items bursts.old.beats.items in
+        let passed =
+        passed_then aw bursts.old.addresses.items bursts.old.beats.items bursts.old.passed in
+        IfNone result (bursts.new.passed ≡ passed_done w addresses passed) }
+    ensures beats { let aw = new_offer_of waits.now.aw (offer_of r.now.aw) in
+        let w = new_offer_of waits.now.w (offer_of r.now.w) in
+        let addresses = addresses_then aw bursts.old.addresses.items bursts.old.beats.items in
+        let beats = beats_then aw bursts.old.addresses.items bursts.old.beats.items in
+        IfNone result (bursts.new.beats.items ≡ beats_done w addresses beats) }
 {
     if let Some(rule) = handshake_fault(&waits.w, &r.w) {
         return Some(rule);
@@ -101,7 +122,9 @@ pub(crate) fn response_channel_fault(
     waits: &Option<RawB>,
     offer: &Option<Seen<RawB>>,
 ) -> Option<u8>
-    ensures { result ≡ or_else (least_broken (handshake_rules same_response waits.now (offer_of offer.now))) (fault_of_offer (offer_of offer.now) (response_fault writes.now.whole.items)) }
+    ensures { result ≡ or_else
+        (least_broken (handshake_rules same_response waits.now (offer_of offer.now)))
+        (fault_of_offer (offer_of offer.now) (response_fault writes.now.whole.items)) }
 {
     if let Some(rule) = handshake_fault(waits, offer) {
         return Some(rule);
@@ -118,7 +141,9 @@ pub(crate) fn read_channel_fault(
     waits: &Option<RawR>,
     offer: &Option<Seen<RawR>>,
 ) -> Option<u8>
-    ensures { result ≡ or_else (least_broken (handshake_rules same_read waits.now (offer_of offer.now))) (fault_of_offer (offer_of offer.now) (read_fault reads.now.reads.items)) }
+    ensures { result ≡ or_else
+        (least_broken (handshake_rules same_read waits.now (offer_of offer.now)))
+        (fault_of_offer (offer_of offer.now) (read_fault reads.now.reads.items)) }
 {
     if let Some(rule) = handshake_fault(waits, offer) {
         return Some(rule);
@@ -135,7 +160,11 @@ pub(crate) fn transfer_writes(writes: &mut Writes, r: &PortRound)
     requires whole { vec_len writes.old.whole + 2 ≤ vec_capacity writes.old.whole }
     requires surplus { writes.old.surplus + 1 < 2 ^ 32 }
     ensures surplus { writes.new.surplus ≤ writes.old.surplus + 1 }
-    ensures writes { writes_of writes.new ≡ add_aw (transfer_of r.now.aw) (add_last (transfer_of r.now.w) (add_b (transfer_of r.now.b) (writes_of writes.old))) }
+    ensures count { length writes.new.issued.items + length writes.new.whole.items
+        ≤ length writes.old.issued.items + length writes.old.whole.items + 1 }
+    ensures writes { let answered = add_b (transfer_of r.now.b) (writes_of writes.old) in
+        writes_of writes.new ≡
+        add_aw (transfer_of r.now.aw) (add_last (transfer_of r.now.w) answered) }
 {
     if let Some(b) = transferred(&r.b) {
         writes.response(b.id);
@@ -153,7 +182,9 @@ pub(crate) fn transfer_writes(writes: &mut Writes, r: &PortRound)
 /// Counts what a round transfers on AR and R.
 pub(crate) fn transfer_reads(reads: &mut Reads, r: &PortRound)
     requires { vec_len reads.old.reads < vec_capacity reads.old.reads }
-    ensures { reads.new.reads.items ≡ add_ar (transfer_of r.now.ar) (add_r (transfer_of r.now.r) reads.old.reads.items) }
+    ensures reads { reads.new.reads.items ≡
+        add_ar (transfer_of r.now.ar) (add_r (transfer_of r.now.r) reads.old.reads.items) }
+    ensures count { length reads.new.reads.items ≤ length reads.old.reads.items + 1 }
 {
     if let Some(beat) = transferred(&r.r) {
         reads.beat(beat.id);

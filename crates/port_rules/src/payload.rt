@@ -66,7 +66,7 @@ fn is_same_tag(a: Tag, b: Tag) -> bool
     a.txn == b.txn && a.low == b.low && a.high == b.high
 }
 
-#[tactic(auto, using(crate::proofs::PayloadLemmas::bytes_each, crate::proofs::PayloadLemmas::bytes_differ))]
+#[tactic(auto, using(crate::proofs::PayloadLemmas::bytes_each, crate::proofs::PayloadLemmas::bytes_differ,))]
 fn are_same_lanes(a: &Lanes, b: &Lanes) -> bool
     ensures { result ≡ same_bytes a.now b.now }
 {
@@ -81,8 +81,8 @@ fn are_same_lanes(a: &Lanes, b: &Lanes) -> bool
     true
 }
 
-/// The first broken one of the rules 1 and 2, for a beat that waits since the round before, and what the channel
-/// offers now.
+/// The first broken one of rules 1 and 2, for a beat that waits since the round before and what the
+/// channel offers now.
 pub(crate) fn handshake_fault<T: Payload>(waits: &Option<T>, offer: &Option<Seen<T>>) -> Option<u8>
     ensures { result ≡ least_broken (handshake_rules T.same waits.now (offer_of offer.now)) }
 {

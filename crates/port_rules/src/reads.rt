@@ -59,7 +59,7 @@ impl Reads {
     }
 
     /// How many beats are left of the oldest read of an ID.
-    #[tactic(auto, using(crate::proofs::PlaceLemmas::left_at, crate::proofs::PlaceLemmas::left_nowhere))]
+    #[tactic(auto, using(crate::proofs::PlaceLemmas::left_at, crate::proofs::PlaceLemmas::left_nowhere,))]
     fn left(&self, id: u32) -> Option<u32>
         ensures { result ≡ left_of id self.now.reads.items }
     {
@@ -79,7 +79,7 @@ impl Reads {
     }
 
     /// A read beat was transferred.
-    #[tactic(auto, using(crate::proofs::PlaceLemmas::read_removed, crate::proofs::PlaceLemmas::read_counted, crate::proofs::PlaceLemmas::read_absent))]
+    #[tactic(auto, using(crate::proofs::PlaceLemmas::read_removed, crate::proofs::PlaceLemmas::read_counted, crate::proofs::PlaceLemmas::read_absent,))]
     pub(crate) fn beat(&mut self, id: u32)
         ensures reads { self.new.reads.items ≡ read_one id self.old.reads.items }
         ensures room { vec_capacity self.new.reads ≡ vec_capacity self.old.reads }

@@ -1,5 +1,5 @@
 //! What a checker is.
-ghost use Rattle.std.specs.Prelude.{◌≡◌, ◌≤◌};
+ghost use Rattle.std.specs.Prelude.{◌≡◌, ◌+◌, ◌<◌, ◌≤◌, ◌^◌, length};
 
 use crate::bursts::Bursts;
 use crate::outstanding::Waits;
@@ -29,4 +29,7 @@ pub struct PortChecker {
     pub(crate) reads: Reads,
     ghost bus: { bursts.bus ≡ port.bus },
     ghost surplus: { writes.surplus ≤ rounds },
+    ghost writes_within: { length writes.issued.items + length writes.whole.items ≤ rounds },
+    ghost reads_within: { length reads.reads.items ≤ rounds },
+    ghost rounds_within: { rounds < 2 ^ 32 },
 }

@@ -8,8 +8,8 @@ use axi_history::RawB;
 use std::alloc::Global;
 use std::collections::VecDeque;
 
-/// The n-th last W beat belongs to the n-th address. What is kept are those that were transferred before the other,
-/// and the writes of which both were.
+/// The n-th last W beat belongs to the n-th address. What is kept are those that were transferred
+/// before the other, and the writes of which both were.
 #[derive(Drop)]
 pub(crate) struct Writes {
     /// The IDs of the addresses whose last W beat wasn't transferred, oldest first.
@@ -38,8 +38,10 @@ impl Writes {
         ensures issued { self.new.issued.items ≡ self.old.issued.items }
         ensures surplus { self.new.surplus ≡ self.old.surplus }
         ensures whole { self.new.whole.items ≡ self.old.whole.items }
-        ensures issued_room { OnOk result (deque_len self.new.issued < deque_capacity self.new.issued) }
-        ensures whole_room { OnOk result (vec_len self.new.whole + 2 ≤ vec_capacity self.new.whole) }
+        ensures issued_room { OnOk result
+            (deque_len self.new.issued < deque_capacity self.new.issued) }
+        ensures whole_room { OnOk result
+            (vec_len self.new.whole + 2 ≤ vec_capacity self.new.whole) }
     {
         self.issued.reserve(1)?;
         self.whole.reserve(2)?;
@@ -70,9 +72,15 @@ impl Writes {
     pub(crate) fn address(&mut self, id: u32)
         requires issued { deque_len self.old.issued < deque_capacity self.old.issued }
         requires whole { vec_len self.old.whole < vec_capacity self.old.whole }
-        ensures issued { self.new.issued.items ≡ (if nat_lt 0 self.old.surplus then self.old.issued.items else self.old.issued.items ++ id ∷ []) }
+        ensures issued { self.new.issued.items ≡
+            (if nat_lt 0 self.old.surplus
+            then self.old.issued.items
+            else self.old.issued.items ++ id ∷ []) }
         ensures surplus { self.new.surplus ≡ self.old.surplus - 1 }
-        ensures whole { self.new.whole.items ≡ (if nat_lt 0 self.old.surplus then self.old.whole.items ++ id ∷ [] else self.old.whole.items) }
+        ensures whole { self.new.whole.items ≡
+            (if nat_lt 0 self.old.surplus
+            then self.old.whole.items ++ id ∷ []
+            else self.old.whole.items) }
         ensures room { vec_capacity self.new.whole ≡ vec_capacity self.old.whole }
         ensures length { vec_len self.new.whole ≤ vec_len self.old.whole + 1 }
     {
@@ -89,8 +97,10 @@ impl Writes {
         requires whole { vec_len self.old.whole < vec_capacity self.old.whole }
         requires surplus { self.old.surplus + 1 < 2 ^ 32 }
         ensures issued { self.new.issued.items ≡ drop 1 self.old.issued.items }
-        ensures surplus { self.new.surplus ≡ (if length self.old.issued.items == 0 then self.old.surplus + 1 else self.old.surplus) }
-        ensures whole { self.new.whole.items ≡ self.old.whole.items ++ take 1 self.old.issued.items }
+        ensures surplus { self.new.surplus ≡
+            (if length self.old.issued.items == 0 then self.old.surplus + 1 else self.old.surplus) }
+        ensures whole { self.new.whole.items ≡
+            self.old.whole.items ++ take 1 self.old.issued.items }
         ensures room { vec_capacity self.new.whole ≡ vec_capacity self.old.whole }
         ensures length { vec_len self.new.whole ≤ vec_len self.old.whole + 1 }
         ensures issued_room { deque_capacity self.new.issued ≡ deque_capacity self.old.issued }
@@ -103,7 +113,7 @@ impl Writes {
     }
 
     /// A response was transferred.
-    #[tactic(auto, using(crate::proofs::PlaceLemmas::id_removed, crate::proofs::PlaceLemmas::id_absent))]
+    #[tactic(auto, using(crate::proofs::PlaceLemmas::id_removed, crate::proofs::PlaceLemmas::id_absent,))]
     pub(crate) fn response(&mut self, id: u32)
         ensures issued { self.new.issued.items ≡ self.old.issued.items }
         ensures surplus { self.new.surplus ≡ self.old.surplus }

@@ -1,9 +1,9 @@
 use Rattle.std.proofs.Common.{◌≡◌, ◌+◌, ℕ, Some, refl, sym, ap, ◌∙◌}
-use Rattle.port_rules.proofs.StandsLemmas.{stays_broken, broken_stays, breaks, broken_told, grows, legal_told, if_none}
+use Rattle.port_rules.proofs.StandsLemmas.{stays_broken, broken_stays, breaks, broken_told, grows, legal_told, if_none, not_none}
 use Rattle.port_rules.proofs.state.PortChecker.round.Goals as goal
 
 pub returns-in-Some-clause-added : goal.returns-in-Some-clause-added
-returns-in-Some-clause-added c = λ _ h s. stays_broken c.args.self.now _ h c.args.r.now (c.in-Some.channel, c.in-Some.rule) s c.in-Some.is c.in-Some.is refl refl
+returns-in-Some-clause-added c = λ _ h s. stays_broken c.args.self.now _ h c.args.r.now (c.in-Some.channel, c.in-Some.rule) s c.in-Some.is c.in-Some.is refl refl refl refl
 
 pub returns-in-Some-clause-broken : goal.returns-in-Some-clause-broken
 returns-in-Some-clause-broken c = λ rule channel e h s.
@@ -15,7 +15,9 @@ returns-in-Some-clause-broken c = λ rule channel e h s.
 pub returns-in-Some-add-clause-added : goal.returns-in-Some-add-clause-added
 returns-in-Some-add-clause-added c = λ _ h s.
     breaks c.args.self.now c.reserve.new.self _ h c.args.r.now (c.in-Some-add.channel, c.in-Some-add.rule) s c.in_default.is c.reserve.ensures.port c.reserve.ensures.kept
-    (sym c.add.ensures.fault ∙ c.in-Some-add.is) refl (c.add.ensures.port ∙ c.reserve.ensures.port) (c.add.ensures.rounds ∙ ap (λ (n : ℕ). n + 1) c.reserve.ensures.rounds)
+    (sym c.add.ensures.fault ∙ c.in-Some-add.is) refl
+    (c.add.ensures.writes (not_none c.in-Some-add.is)) (c.add.ensures.reads (not_none c.in-Some-add.is))
+    (c.add.ensures.port ∙ c.reserve.ensures.port) (c.add.ensures.rounds ∙ ap (λ (n : ℕ). n + 1) c.reserve.ensures.rounds)
 
 pub returns-in-Some-add-clause-broken : goal.returns-in-Some-add-clause-broken
 returns-in-Some-add-clause-broken c = λ rule channel e h s.

@@ -1,0 +1,41 @@
+-- How many requests of a history are unanswered.
+use Rattle.std.specs.Prelude.{ℕ, ◌-◌, ◌++◌, ◌∷◌, [], List, Option, is_none, length, count_by, if◌then◌else◌}
+use Rattle.axi_history.specs.declared.port.PortRound.{PortRound}
+use Rattle.axi_history.specs.declared.port.RawR.{RawR}
+use Rattle.axi_history.specs.PortHistory.{transferred, on_aw, on_b, on_ar, on_r}
+use Rattle.axi_history.specs.PortRules.{axi4_fault}
+
+-- of rounds that follow earlier ones, those before the first one in which `fault` finds something;
+-- all where it finds nothing
+abbrev pub before_fault :
+    (List PortRound → PortRound → Option (ℕ × ℕ)) → List PortRound → List PortRound → List PortRound
+before_fault fault earlier [] = []
+before_fault fault earlier (now ∷ rounds) =
+    if is_none (fault earlier now) then now ∷ before_fault fault (earlier ++ now ∷ []) rounds else []
+
+-- the longest beginning of a history that breaks no rule of AXI4
+abbrev pub legal_beginning : ℕ → List PortRound → List PortRound
+legal_beginning bus history = before_fault (axi4_fault bus) [] history
+
+-- the transfers that make and that end a request: AW and B, AR and the beat of R with `last`
+abbrev pub writes_asked : List PortRound → ℕ
+writes_asked rounds = length (transferred on_aw rounds)
+
+abbrev pub writes_answered : List PortRound → ℕ
+writes_answered rounds = length (transferred on_b rounds)
+
+abbrev pub reads_asked : List PortRound → ℕ
+reads_asked rounds = length (transferred on_ar rounds)
+
+abbrev pub reads_answered : List PortRound → ℕ
+reads_answered rounds = count_by (λ (beat : RawR). beat.last) (transferred on_r rounds)
+
+-- The requests less their answers, in the rounds before the first one that breaks a rule. By rule 11
+-- there are no more answers than requests there.
+abbrev pub unanswered_writes : ℕ → List PortRound → ℕ
+unanswered_writes bus history =
+    let rounds = legal_beginning bus history in writes_asked rounds - writes_answered rounds
+
+abbrev pub unanswered_reads : ℕ → List PortRound → ℕ
+unanswered_reads bus history =
+    let rounds = legal_beginning bus history in reads_asked rounds - reads_answered rounds
