@@ -244,9 +244,9 @@ quiet_again bus h q r a o kept =
     let of_data : least_broken (write_data_rules bus h q) ≡ None = data_kept (write_address_rules bus h q) (write_data_rules bus h q) (write_response_rules h q) (read_address_rules bus h q) (read_data_rules h q) kept in
     let both : least_broken ((9, last_is_on_the_last_beat bus g) ∷ (10, strobes_are_on_valid_lanes bus g) ∷ []) ≡ None = later_kept (handshake_rules same_data (waiting on_w h) (offer_of q.w)) ((9, last_is_on_the_last_beat bus g) ∷ (10, strobes_are_on_valid_lanes bus g) ∷ []) of_data in
     let both' : least_broken ((9, last_is_on_the_last_beat bus (g ++ r ∷ [])) ∷ (10, strobes_are_on_valid_lanes bus (g ++ r ∷ [])) ∷ []) ≡ None =
-        ap (λ (v : Bool). least_broken ((9, v) ∷ (10, strobes_are_on_valid_lanes bus (g ++ r ∷ [])) ∷ [])) (nine_alike bus (g ++ r ∷ []) g same)
-        ∙ ap (λ (v : Bool). least_broken ((9, last_is_on_the_last_beat bus g) ∷ (10, v) ∷ [])) (ten_alike bus (g ++ r ∷ []) g same)
-        ∙ both in
+    ap (λ (v : Bool). least_broken ((9, v) ∷ (10, strobes_are_on_valid_lanes bus (g ++ r ∷ [])) ∷ [])) (nine_alike bus (g ++ r ∷ []) g same)
+    ∙ ap (λ (v : Bool). least_broken ((9, last_is_on_the_last_beat bus g) ∷ (10, v) ∷ [])) (ten_alike bus (g ++ r ∷ []) g same)
+    ∙ both in
     no_channel (write_address_rules bus g r) (write_data_rules bus g r) (write_response_rules g r) (read_address_rules bus g r) (read_data_rules g r)
     (quiet_rules same_address (waiting on_aw g) r.aw (address_rules bus) (waiting_more on_aw h q ∙ ap wait_of a.aw) o.aw)
     (quiet_data (waiting on_w g) r.w (last_is_on_the_last_beat bus (g ++ r ∷ [])) (strobes_are_on_valid_lanes bus (g ++ r ∷ [])) (waiting_more on_w h q ∙ ap wait_of a.w) o.w both')
@@ -266,6 +266,7 @@ again_same bus h q r a o = go (axi4_history_fault bus (h ++ q ∷ [])) refl
     legal : (f : Option (ℕ × ℕ)) → axi4_history_fault bus h ≡ f → axi4_history_fault bus (h ++ q ∷ []) ≡ None → axi4_fault bus h q ≡ None
     legal None e kept = sym (anew bus h q e) ∙ kept
     legal (Some f) e kept = let bad : Some f ≡ None = sym (stays bus h q f e) ∙ kept in absurd cc
+
     go : (f : Option (ℕ × ℕ)) → axi4_history_fault bus (h ++ q ∷ []) ≡ f → axi4_history_fault bus ((h ++ q ∷ []) ++ r ∷ []) ≡ axi4_history_fault bus (h ++ q ∷ [])
     go (Some f) e = stays bus (h ++ q ∷ []) r f e ∙ sym e
     go None e = anew bus (h ++ q ∷ []) r e ∙ quiet_again bus h q r a o (legal (axi4_history_fault bus h) refl e) ∙ sym e

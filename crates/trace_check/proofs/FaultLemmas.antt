@@ -29,6 +29,7 @@ not_lite p (y ∷ xs) x e none = go (p y) (y.kind.lite) refl (not_lite p xs x) e
     rest_none : (o : Option ℕ) → option_map (λ n. n + 1) o ≡ None → o ≡ None
     rest_none None e = refl
     rest_none (Some n) e = absurd cc
+
     go : (b lite : Bool) → y.kind.lite ≡ lite → (find p xs ≡ Some x → number_of is_lite xs ≡ None → x.kind.lite ≡ false) → (if b then Some y else find p xs) ≡ Some x → (if lite then Some 1 else option_map (λ n. n + 1) (number_of is_lite xs)) ≡ None → x.kind.lite ≡ false
     go b true is h e none = absurd cc
     go true false is h e none = let same : x ≡ y = cc in ap (λ (r : PortRound). r.kind.lite) same ∙ is
@@ -91,8 +92,7 @@ least_round answer at (suc m) b e = go (least answer m) (least_round answer at m
 
 -- up to a round that comes before the fault of the one more, and from there on
 module _ (lines : List PortRound) (answer more : ℕ → Option PortFault) (link : ℕ) (f : LinkFault) (top : ℕ) (at : (n : ℕ) (b : PortFault) → answer n ≡ Some b → b.round ≡ n)
-  (told : (n : ℕ) → n < top → more n ≡ broken_by lines link (Some f) n) (line : f.line ≡ number_in lines link f.round) where
-
+    (told : (n : ℕ) → n < top → more n ≡ broken_by lines link (Some f) n) (line : f.line ≡ number_in lines link f.round) where
   none_before : (n : ℕ) → n < top → n < f.round → more n ≡ None
   none_before n h lt = told n h ∙ ap (λ b. if b then None else Some (record { line = number_in lines link n; round = n; link = link; channel = f.channel; rule = f.rule })) (lt-ltb n f.round lt)
 

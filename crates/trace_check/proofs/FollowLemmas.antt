@@ -54,7 +54,7 @@ follows_line j passed after kind xs r line is_next one h f port1 few1 rounds1 ju
     let number : ℕ → ℕ = number_in (xs ++ r ∷ []) r.link in
     let none : find (is_line_of r.round r.link) xs ≡ None = f.last r.round h in
     let row : (n : ℕ) → j.rounds < n → n ≤ r.round - 1 → IsQuiet (shown n) × (number n ≡ 0) =
-        λ n lo hi. (let ne : r.round ≢ n = omega arith in no_line_is_quiet (xs ++ r ∷ []) kind r.link n (find_other (is_line_of n r.link) xs r (is_not_in r n r.link ne) ∙ f.last n lo)) in
+    λ n lo hi. (let ne : r.round ≢ n = omega arith in no_line_is_quiet (xs ++ r ∷ []) kind r.link n (find_other (is_line_of n r.link) xs r (is_not_in r n r.link ne) ∙ f.last n lo)) in
     let before : IsJudged passed.checker passed.fault passed.rounds shown number = judged1 shown number row (judged_with j kind xs r h f) in
     let longer : length (xs ++ r ∷ []) ≡ length xs + 1 = length-append xs (r ∷ []) in
     let greater : greatest_round (xs ++ r ∷ []) ≡ max (greatest_round xs) r.round = greatest_more xs r in
@@ -74,7 +74,7 @@ pub tells_rest : (j after : LinkJudge) (kind : PortKind) (xs : List PortRound) (
     TellsOf after.fault kind xs link
 tells_rest j after kind xs link last greatest f port rounds judged =
     let all : IsJudged after.checker after.fault after.rounds (shown_in xs kind link) (number_in xs link) =
-        judged (shown_in xs kind link) (number_in xs link) (λ n lo hi. no_line_is_quiet xs kind link n (f.last n lo)) f.judged in
+    judged (shown_in xs kind link) (number_in xs link) (λ n lo hi. no_line_is_quiet xs kind link n (f.last n lo)) f.judged in
     let inside : j.rounds ≤ greatest_round xs = f.within in
     let same : after.rounds ≡ greatest_round xs = omega arith in
     record {

@@ -41,9 +41,8 @@ fault_within None line n number e at = tt
 fault_within (Some f) line n number e at = (omega (arith, at.1), at.0 ∙ sym e ∙ ap number (sym at.1))
 
 module _ (c c' : PortChecker) (fault : Option LinkFault) (line k : ℕ) (r : PortRound) (shown : ℕ → PortRound) (number : ℕ → ℕ) (port : port_of c' ≡ port_of c)
-  (added : (h : List PortRound) → StandsFor c h → StandsFor c' (h ++ r ∷ []))
-  (told : (h : List PortRound) → StandsFor c h → axi4_history_fault (port_of c).bus (h ++ r ∷ []) ≡ told_by fault) where
-
+    (added : (h : List PortRound) → StandsFor c h → StandsFor c' (h ++ r ∷ []))
+    (told : (h : List PortRound) → StandsFor c h → axi4_history_fault (port_of c).bus (h ++ r ∷ []) ≡ told_by fault) where
   judged_suc : SameOffers (shown (suc k)) r → number (suc k) ≡ line → IsAt fault line (suc k) → IsJudged c None k shown number → IsJudged c' fault (suc k) shown number
   judged_suc same is at j =
       let bus : ℕ = (port_of c).bus in
@@ -52,10 +51,10 @@ module _ (c c' : PortChecker) (fault : Option LinkFault) (line k : ℕ) (r : Por
       let now : axi4_fault bus old.given r ≡ told_by fault = sym (anew bus old.given r old.legal) ∙ told old.given old.stands in
       let here : axi4_history_fault bus (history shown (suc k)) ≡ told_by fault = anew bus (history shown k) (shown (suc k)) legal ∙ judged_alike bus (history shown k) old.given (shown (suc k)) r old.alike same ∙ now in
       let all : (m : ℕ) → m ≤ suc k → axi4_history_fault bus (history shown m) ≡ fault_by fault m =
-          λ m h. elim (at_most m k h) [
-            inl le ↦ (let lt : m < suc k = omega arith in j.told m le ∙ sym (fault_before fault line (suc k) m at lt))
-          | inr e ↦ ap (λ (n : ℕ). axi4_history_fault bus (history shown n)) e ∙ here ∙ sym (fault_at fault line (suc k) at) ∙ ap (fault_by fault) (sym e)
-          ] in
+      λ m h. elim (at_most m k h) [
+        | inl le ↦ (let lt : m < suc k = omega arith in j.told m le ∙ sym (fault_before fault line (suc k) m at lt))
+        | inr e ↦ ap (λ (n : ℕ). axi4_history_fault bus (history shown n)) e ∙ here ∙ sym (fault_at fault line (suc k) at) ∙ ap (fault_by fault) (sym e)
+      ] in
       record {
         told = λ m h. ap (λ (p : PortKind). axi4_history_fault p.bus (history shown m)) port ∙ all m h;
         within = fault_within fault line (suc k) number is at;
@@ -85,8 +84,8 @@ broken_suc c f k shown number j =
     let here : axi4_history_fault bus (history shown (suc k)) ≡ Some (f.channel, f.rule) = stays bus (history shown k) (shown (suc k)) (f.channel, f.rule) was in
     record {
       told = λ m h. elim (at_most m k h) [
-        inl le ↦ j.told m le
-      | inr e ↦ ap (λ (n : ℕ). axi4_history_fault bus (history shown n)) e ∙ here ∙ sym (fault_later f (suc k) (omega arith)) ∙ ap (fault_by (Some f)) (sym e)
+        | inl le ↦ j.told m le
+        | inr e ↦ ap (λ (n : ℕ). axi4_history_fault bus (history shown n)) e ∙ here ∙ sym (fault_later f (suc k) (omega arith)) ∙ ap (fault_by (Some f)) (sym e)
       ];
       within = (omega arith, j.within.1);
       checked = λ none. absurd cc;
@@ -106,8 +105,8 @@ quiet_suc c None k shown number q q' j =
     let here : axi4_history_fault bus (history shown (suc (suc k))) ≡ None = again_same bus (history shown k) (shown (suc k)) (shown (suc (suc k))) q q' ∙ legal in
     record {
       told = λ m h. elim (at_most m (suc k) h) [
-        inl le ↦ j.told m le
-      | inr e ↦ ap (λ (n : ℕ). axi4_history_fault bus (history shown n)) e ∙ here
+        | inl le ↦ j.told m le
+        | inr e ↦ ap (λ (n : ℕ). axi4_history_fault bus (history shown n)) e ∙ here
       ];
       within = tt;
       checked = λ none. record {

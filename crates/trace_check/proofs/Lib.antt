@@ -5,3 +5,4 @@ pub mod LineLemmas
 pub mod FollowLemmas
 pub mod TableLemmas
 pub mod FaultLemmas
+pub mod ReadLemmas

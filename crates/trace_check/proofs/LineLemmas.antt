@@ -33,8 +33,10 @@ number_more p (x ∷ xs) r = go (p x) (number_more p xs r)
     up None true n = refl
     up None false n = refl
     up (Some m) b n = refl
+
     longer : length xs + 1 + 1 ≡ length (x ∷ xs) + 1
     longer = omega arith
+
     go : (b : Bool) → number_of p (xs ++ r ∷ []) ≡ or_else (number_of p xs) (numbered (p r) (length xs + 1)) →
         (if b then Some 1 else option_map (λ m. m + 1) (number_of p (xs ++ r ∷ []))) ≡ or_else (if b then Some 1 else option_map (λ m. m + 1) (number_of p xs)) (numbered (p r) (length (x ∷ xs) + 1))
     go true e = refl

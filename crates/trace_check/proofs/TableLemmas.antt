@@ -38,12 +38,12 @@ or_parts false b e = inr e
 
 pub before_parts : (r s : PortRound) → is_before r s ≡ true → (r.round ≤ s.round) × (r.round ≡ s.round → r.link < s.link)
 before_parts r s e = elim (or_parts (nat_lt r.round s.round) ((r.round == s.round) && nat_lt r.link s.link) e) [
-    inl lt ↦ (let h : r.round < s.round = ltb-true r.round s.round lt in (omega arith, λ same. omega arith))
+  | inl lt ↦ (let h : r.round < s.round = ltb-true r.round s.round lt in (omega arith, λ same. omega arith))
   | inr both ↦ (let p = and_parts (r.round == s.round) (nat_lt r.link s.link) both in
       let same : r.round ≡ s.round = eqb-true r.round s.round p.0 in
       let lt : r.link < s.link = ltb-true r.link s.link p.1 in
       (omega arith, λ _. lt))
-  ]
+]
 
 last_more : (o : Option PortRound) (xs : List PortRound) (r : PortRound) → last_or o (xs ++ r ∷ []) ≡ Some r
 last_more o [] r = refl
@@ -67,8 +67,8 @@ not_judged None r p = tt
 not_judged (Some j) r p =
     let le : j.rounds ≤ r.round = p.0 in
     elim (eqb_tells j.rounds r.round) [
-      inl e ↦ (let l : r.link < r.link = p.1 e.1 in absurd (omega arith))
-    | inr e ↦ (let ne : j.rounds ≢ r.round = e.1 in omega arith)
+      | inl e ↦ (let l : r.link < r.link = p.1 e.1 in absurd (omega arith))
+      | inr e ↦ (let ne : j.rounds ≢ r.round = e.1 in omega arith)
     ]
 
 -- ---- the ports of a link
@@ -110,6 +110,7 @@ disagree (y ∷ xs) r x e other = go (y.link == r.link) (disagree xs r x) e
     and_false : (b : Bool) → (b && false) ≡ false
     and_false true = refl
     and_false false = refl
+
     go : (b : Bool) → (find (is_of_link r.link) xs ≡ Some x → is_same_port x.kind r.kind ≡ false → list_all (agrees_with r) xs ≡ false) → (if b then Some y else find (is_of_link r.link) xs) ≡ Some x → ((not b || is_same_port y.kind r.kind) && list_all (agrees_with r) xs) ≡ false
     go true h n =
         let same : y ≡ x = cc in
@@ -212,7 +213,7 @@ follows_other (Some j) kind xs r link ne f =
     record {
       port = f.port;
       judged = judged_same j.checker j.fault j.rounds (shown_in xs kind link) (shown_in (xs ++ r ∷ []) kind link) (number_in xs link) (number_in (xs ++ r ∷ []) link)
-        (λ m le. sym (shown_other xs r kind link m (is_not_on r m link ne))) (λ m le. sym (numbered_other xs r link m (is_not_on r m link ne))) f.judged;
+          (λ m le. sym (shown_other xs r kind link m (is_not_on r m link ne))) (λ m le. sym (numbered_other xs r link m (is_not_on r m link ne))) f.judged;
       last = λ round lo. find_other (is_line_of round link) xs r (is_not_on r round link ne) ∙ f.last round lo;
       within = omega arith;
       few = omega arith;
@@ -266,11 +267,11 @@ table_grows t after xs r small s may lines last lite size others state is port t
       size = omega arith;
       few = omega arith;
       links = λ link. elim (eqb_tells link r.link) [
-          inl e ↦ (let P : ℕ → Type 0 = λ k. EntryStands (entry_of after.links.items k) (xs ++ r ∷ []) k in
+        | inl e ↦ (let P : ℕ → Type 0 = λ k. EntryStands (entry_of after.links.items k) (xs ++ r ∷ []) k in
             subst P (sym e.1) (subst (λ (entry : Option LinkState). EntryStands entry (xs ++ r ∷ []) r.link) (sym is) new))
         | inr e ↦ (let ne : r.link ≢ link = λ same. e.1 (sym same) in
             subst (λ (entry : Option LinkState). EntryStands entry (xs ++ r ∷ []) link) (sym (others link e.1)) (entry_other (entry_of t.links.items link) xs r link ne p.0 (s.links link)))
-        ];
+      ];
     }
 
 pub table_empty : (t : TraceTable) → t.lines ≡ 0 → t.last ≡ None → t.lite ≡ None → t.links.items ≡ [] → TableStands t []

@@ -45,11 +45,7 @@ fn fault_of(entry: Option<LinkState>, last: u64) -> Result<Option<LinkFault>, No
 }
 
 /// The first fault of some links, with what one more link breaks, which comes after them.
-fn with_link(
-    first: Option<PortFault>,
-    link: u32,
-    fault: Option<LinkFault>,
-) -> Option<PortFault>
+fn with_link(first: Option<PortFault>, link: u32, fault: Option<LinkFault>) -> Option<PortFault>
     ensures { result ≡ with_link first link fault }
 {
     let Some(fault) = fault else {

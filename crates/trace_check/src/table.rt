@@ -50,7 +50,7 @@ impl TraceTable {
     pub(crate) fn take_line(&mut self, alloc: Global, line: &str) -> Result<bool, NoMemory>
         requires stands { (lines : List Round) × TableStands self.old lines }
         requires few { self.old.lines < 2 ^ 25 }
-        ensures lines { IfOk result (λ taken. self.new.lines ≤ self.old.lines + 1) }
+        ensures lines { IfOk result (λ taken. self.new.lines ≡ self.old.lines + (if taken then 1 else 0)) }
         ensures taken { IfOk result (λ taken. (lines : List Round) → TableStands self.old lines → TakesLine taken self.new lines (taken_after lines (line_of line.now))) }
     {
         match read_trace_line(line) {
@@ -63,7 +63,7 @@ impl TraceTable {
         requires ranges { IsTraceRound r.now }
         requires stands { (lines : List Round) × TableStands self.old lines }
         requires few { self.old.lines < 2 ^ 25 }
-        ensures lines { IfOk result (λ taken. self.new.lines ≤ self.old.lines + 1) }
+        ensures lines { IfOk result (λ taken. self.new.lines ≡ self.old.lines + (if taken then 1 else 0)) }
         ensures taken { IfOk result (λ taken. (lines : List Round) → TableStands self.old lines → TakesLine taken self.new lines (taken_after lines (Some r.now))) }
     {
         if !self.may_follow(r) {

@@ -1,5 +1,5 @@
 //! The judge of a whole trace.
-ghost use Rattle.std.specs.Prelude.{◌≡◌, ◌≤◌, ◌<◌, ◌^◌, [], ℕ, List, length, IfOk};
+ghost use Rattle.std.specs.Prelude.{◌≡◌, ◌≤◌, ◌<◌, ◌^◌, [], ℕ, List, length, IfOk, OnOk};
 ghost use Rattle.axi_history.specs.declared.port.PortRound.{PortRound as Round};
 ghost use Rattle.trace_check.specs.Histories.{number_of};
 ghost use Rattle.trace_check.specs.Lines.{judged_lines, shown_by};
@@ -28,15 +28,11 @@ pub fn judge(alloc: Global, text: &str) -> Result<Verdict, NoMemory>
 }
 
 /// Gives the lines of a trace to an empty table, up to the first one that is refused, whose number it answers.
-fn read_lines(
-    table: &mut TraceTable,
-    alloc: Global,
-    text: &str,
-) -> Result<Option<u32>, NoMemory>
+fn read_lines(table: &mut TraceTable, alloc: Global, text: &str) -> Result<Option<u32>, NoMemory>
     requires empty { TableStands table.old [] }
     requires short { length text.now ≤ 16777216 }
     ensures read { IfOk result (λ refused. IsRead refused table.new (shown_by (judged_lines text.now))) }
-    ensures few { table.new.lines < 2 ^ 25 }
+    ensures few { OnOk result (table.new.lines < 2 ^ 25) }
 {
     for line in text.lines() {
         if is_separator(line.as_bytes()) {

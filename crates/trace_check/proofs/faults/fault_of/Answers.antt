@@ -10,5 +10,5 @@ returns-in-Some c = record {
       let P : Option LinkState → Type 0 = λ e. EntryStands e lines link in
       let s = subst P c.in-Some.is stands in
       told_fault fault c.in-Some.state lines link s (tells lines link greatest (state_not_lite c.in-Some.state lines link s none) s.follows))
-    c.fault.result c.fault.ensures.tells;
+      c.fault.result c.fault.ensures.tells;
 }

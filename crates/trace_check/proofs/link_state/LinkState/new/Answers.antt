@@ -9,6 +9,6 @@ pub returns-clause-follows : goal.returns-clause-follows
 returns-clause-follows c = λ lines link none.
     let P : Option LinkJudge → Type 0 = λ j. Follows j c.args.port lines link in
     elim c.if-port.branch [
-      then-port w ↦ subst P (sym w.judge-is) w.if-port.true
-    | else-port w ↦ subst P (sym w.judge-is) (follows_none w.new.result c.args.port lines link w.new.ensures.port w.new.ensures.given w.new.ensures.rounds w.new.ensures.judged none)
+      | then-port w ↦ subst P (sym w.judge-is) w.if-port.true
+      | else-port w ↦ subst P (sym w.judge-is) (follows_none w.new.result c.args.port lines link w.new.ensures.port w.new.ensures.given w.new.ensures.rounds w.new.ensures.judged none)
     ]
