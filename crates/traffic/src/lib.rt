@@ -1,0 +1,6 @@
+//! The reader of traffic: the lines that say what the managers of a network write and read, and in
+//! which order.
+#![tactic(auto)]
+
+mod data;
+mod line;
