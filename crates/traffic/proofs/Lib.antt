@@ -1,1 +1,2 @@
 pub mod WordCounts
+pub mod FaultLemmas

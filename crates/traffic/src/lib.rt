@@ -3,4 +3,9 @@
 #![tactic(auto)]
 
 mod data;
+mod fault;
 mod line;
+mod port;
+
+pub use fault::TrafficFault;
+pub use port::ManagerPort;
