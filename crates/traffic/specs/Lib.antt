@@ -5,3 +5,5 @@ pub mod Ports
 pub mod Faults
 pub mod Orders
 pub mod Traffic
+pub mod Steps
+pub mod Inside

@@ -4,6 +4,9 @@ use Rattle.manager_end.specs.declared.script.WriteByte.{WriteByte}
 use Rattle.plain_text.specs.Words.{words}
 use Rattle.traffic.specs.Data.{data_bytes}
 use Rattle.traffic.specs.Line.{Start, Access, Line, Passed, Waits, Asks}
+use Rattle.traffic.specs.Orders.{Order, Holds, Issues}
+use Rattle.traffic.specs.declared.order.TextOrder.{TextOrder}
+use Rattle.traffic.specs.declared.order.TextOrder.TheVariants.{Hold, Issue}
 use Rattle.traffic.specs.declared.line.TextStart.{TextStart}
 use Rattle.traffic.specs.declared.line.TextAccess.{TextAccess}
 use Rattle.traffic.specs.declared.line.TextLine.{TextLine}
@@ -24,3 +27,7 @@ abbrev pub line_seen : TextLine → Line
 line_seen Nothing = Passed
 line_seen (Wait manager) = Waits manager.now
 line_seen (Burst access) = Asks (access_seen access)
+
+abbrev pub order_seen : TextOrder → Order
+order_seen (Hold place) = Holds place
+order_seen (Issue place access) = Issues place (access_seen access)

@@ -4,23 +4,26 @@ use Rattle.manager_end.specs.declared.script.Txn.{Txn}
 use Rattle.manager_end.specs.declared.script.WriteByte.{WriteByte}
 use Rattle.traffic.specs.Faults.{least, least_fault, request_of}
 use Rattle.traffic.specs.Line.{Access}
+use Rattle.traffic.specs.declared.build.Count.{Count}
 use Rattle.traffic.specs.Orders.{Order, Holds, Issues, is_too_much, issued, orders_of}
 use Rattle.traffic.specs.declared.port.ManagerPort.{ManagerPort}
 use Rattle.traffic.specs.declared.fault.TrafficFault.{TrafficFault}
 use Rattle.traffic.specs.declared.fault.TrafficFault.TheVariants.{TooMuchTraffic}
 
--- how many transactions of a manager there are, and how many of them stand before its latest `wait` line
-pub record Count : Type 0 where
-  pub all : ℕ
-  pub awaited : ℕ
-
+-- Of a manager it is counted how many transactions it has, and how many of them stand before its latest `wait` line.
 abbrev pub none_yet : Count
 none_yet = record { all = 0; awaited = 0 }
 
--- one more line, which asks something of the manager at this place or of another one
+abbrev pub held : Count → Count
+held count = record { all = count.all; awaited = count.all }
+
+abbrev pub one_more : Count → Count
+one_more count = record { all = count.all + 1; awaited = count.awaited }
+
+-- after one more order, which is for the manager at this place or for another one
 abbrev pub counted : ℕ → Count → Order → Count
-counted place count (Holds other) = if other == place then record { all = count.all; awaited = count.all } else count
-counted place count (Issues other access) = if other == place then record { all = count.all + 1; awaited = count.awaited } else count
+counted place count (Holds other) = if other == place then held count else count
+counted place count (Issues other access) = if other == place then one_more count else count
 
 abbrev pub count_of : ℕ → List Order → Count
 count_of place orders = fold (counted place) none_yet orders

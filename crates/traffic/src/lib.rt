@@ -2,9 +2,11 @@
 //! which order.
 #![tactic(auto)]
 
+mod build;
 mod data;
 mod fault;
 mod line;
+mod order;
 mod port;
 
 pub use fault::TrafficFault;

@@ -1,6 +1,6 @@
 //! The managers that the lines of a traffic can name.
 
-ghost use Rattle.std.specs.Prelude.{◌≡◌, All, IfSome};
+ghost use Rattle.std.specs.Prelude.{◌≡◌, ◌<◌, All, IfSome, length};
 ghost use Rattle.traffic.specs.Ports.{IsPort, place_of, port_of};
 
 use plain_text::words::is_word;
@@ -18,7 +18,8 @@ pub struct ManagerPort<'a> {
 
 /// The place of the first manager of this name.
 pub(crate) fn place_of(managers: &[ManagerPort<'_>], name: &[u8]) -> Option<usize>
-    ensures { result ≡ place_of managers.now name.now }
+    ensures place { result ≡ place_of managers.now name.now }
+    ensures inside { IfSome result (λ place. place < length managers.now) }
 {
     managers
         .iter()
