@@ -1,7 +1,5 @@
 -- One order's part in the making of the transactions.
-use Rattle.std.specs.Prelude.{ℕ, ◌-◌, ◌<◌, ◌≤◌, ◌≡◌, List, [], ◌∷◌, Option, None, Some, length, slice_index_or, slice_set}
-use Rattle.std.specs.List.{slice_get}
-use Rattle.burst_address.specs.Legal.{IsLegal}
+use Rattle.std.specs.Prelude.{ℕ, ◌-◌, ◌<◌, ◌≤◌, List, [], ◌∷◌, Option, None, Some, slice_index_or, slice_set}
 use Rattle.traffic.specs.Faults.{request_of}
 use Rattle.traffic.specs.Line.{Access}
 use Rattle.traffic.specs.Orders.{Order, Holds, Issues}
@@ -25,6 +23,15 @@ item_of number after place access = record {
 abbrev pub items_of : List Count → ℕ → Order → List TrafficItem
 items_of counts number (Holds place) = []
 items_of counts number (Issues place access) = item_of number (slice_index_or counts place none_yet).awaited place access ∷ []
+
+-- the same for a line that asks for something or for nothing
+abbrev pub counts_by : List Count → Option Order → List Count
+counts_by counts None = counts
+counts_by counts (Some order) = counts_after counts order
+
+abbrev pub items_by : List Count → ℕ → Option Order → List TrafficItem
+items_by counts number None = []
+items_by counts number (Some order) = items_of counts number order
 
 -- an order is for one of so many managers, and the number of its beats fits a request
 abbrev pub IsFitting : ℕ → Order → Type 0

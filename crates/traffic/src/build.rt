@@ -1,12 +1,13 @@
 //! The transactions that lines ask for, made one by one.
 
-ghost use Rattle.std.specs.Prelude.{◌≡◌, ◌+◌, ◌-◌, ◌<◌, ◌≤◌, ◌++◌, ◌^◌, [], ◌∷◌, All, length, IfOk, OnOk};
+ghost use Rattle.std.specs.Prelude.{◌≡◌, ◌+◌, ◌-◌, ◌<◌, ◌≤◌, ◌++◌, ◌^◌, [], ◌∷◌, All, length, IfOk, IfSome, OnOk, replicate};
+ghost use Rattle.std.specs.List.{AllByRecursion};
 ghost use Rattle.plain_text.specs.Lines.{lines};
 ghost use Rattle.traffic.specs.Inside.{item_view, items_view};
-ghost use Rattle.traffic.specs.Orders.{orders_of};
+ghost use Rattle.traffic.specs.Orders.{order_of, orders_of};
 ghost use Rattle.traffic.specs.Seen.{access_seen, order_seen};
-ghost use Rattle.traffic.specs.Steps.{counts_after, item_of, items_of, IsFitting};
-ghost use Rattle.traffic.specs.Traffic.{held, one_more, traffic_of};
+ghost use Rattle.traffic.specs.Steps.{counts_after, counts_by, item_of, items_by, items_of, IsFitting};
+ghost use Rattle.traffic.specs.Traffic.{held, none_yet, one_more, traffic_of};
 
 use crate::data::push_data;
 use crate::fault::request_of;
@@ -20,7 +21,7 @@ use std::alloc::Global;
 
 /// Of a manager: how many transactions it has, and how many of them stand before its latest `wait`
 /// line.
-#[derive(Debug, Clone, Copy, PartialEq, Eq, Default)]
+#[derive(Debug, Clone, Copy, PartialEq, Eq)]
 pub struct Count {
     pub all: u32,
     pub awaited: u32,
@@ -32,6 +33,64 @@ pub struct Item {
     pub manager: u32,
     pub txn: Txn,
     pub bytes: Vec<WriteByte>,
+}
+
+/// The transactions that all lines ask for.
+pub(crate) fn collect_items(
+    alloc: Global,
+    text: &[u8],
+    managers: &[ManagerPort<'_>],
+) -> Result<Vec<Item>, NoMemory>
+    requires short { length text.now ≤ 16777216 }
+    requires managers { length managers.now < 2 ^ 32 }
+    requires fits { AllByRecursion (IsFitting (length managers.now)) (orders_of managers.now (lines text.now)) }
+    ensures { IfOk result (λ items. items_view items.items ≡ traffic_of managers.now (lines text.now)) }
+{
+    let mut counts = no_counts(alloc, managers.len())?;
+    let mut items = Vec::new(alloc);
+    let mut rest = text;
+    while !rest.is_empty() {
+        let (line, more) = next_line(rest);
+        add_line(alloc, &mut items, &mut counts, line, managers)?;
+        rest = more;
+    }
+    Ok(items)
+}
+
+// The counts of so many managers, none of which has a transaction.
+fn no_counts(alloc: Global, managers: usize) -> Result<Vec<Count>, NoMemory>
+    ensures { IfOk result (λ counts. counts.items ≡ replicate managers none_yet) }
+{
+    let mut counts = Vec::new(alloc);
+    counts.resize(
+        managers,
+        Count {
+            all: 0,
+            awaited: 0,
+        },
+    )?;
+    Ok(counts)
+}
+
+// Adds what a line asks for, if it asks for anything.
+fn add_line(
+    alloc: Global,
+    items: &mut Vec<Item>,
+    counts: &mut Vec<Count>,
+    line: &[u8],
+    managers: &[ManagerPort<'_>],
+) -> Result<(), NoMemory>
+    requires fits { IfSome (order_of managers.now line.now) (IsFitting (length counts.old.items)) }
+    requires managers { length counts.old.items < 2 ^ 32 }
+    requires short { length items.old.items < 2 ^ 32 - 1 }
+    requires small { All (λ count. count.all ≤ length items.old.items) counts.old.items }
+    ensures items { OnOk result (items_view items.new.items ≡ items_view items.old.items ++ items_by counts.old.items (length items.old.items + 1) (order_of managers.now line.now)) }
+    ensures counts { OnOk result (counts.new.items ≡ counts_by counts.old.items (order_of managers.now line.now)) }
+{
+    match read_order(line, managers) {
+        Some(order) => add_order(alloc, items, counts, &order),
+        None => Ok(()),
+    }
 }
 
 // Adds what an order gives, and counts it.
