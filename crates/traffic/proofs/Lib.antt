@@ -1,3 +1,4 @@
 pub mod WordCounts
 pub mod FaultLemmas
 pub mod BuildLemmas
+pub mod FormLemmas

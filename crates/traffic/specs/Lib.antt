@@ -7,3 +7,4 @@ pub mod Orders
 pub mod Traffic
 pub mod Steps
 pub mod Inside
+pub mod Accepted
