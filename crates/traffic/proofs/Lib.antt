@@ -2,3 +2,5 @@ pub mod WordCounts
 pub mod FaultLemmas
 pub mod BuildLemmas
 pub mod FormLemmas
+pub mod BurstLemmas
+pub mod AcceptLemmas
