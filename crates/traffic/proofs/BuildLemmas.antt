@@ -66,7 +66,7 @@ items-step counts number before more (Issues place access) fits is each =
     ap (λ n. item_of (n + 1) (get_or counts place none_yet).awaited place access ∷ items_after (before ++ Issues place access ∷ []) more) is
     ∙ ap (λ (count : Count). item_of (length (issued before) + 1) count.awaited place access ∷ items_after (before ++ Issues place access ∷ []) more) (each place fits.0)
 
-issued-append : (xs ys : List Order) → issued (xs ++ ys) ≡ issued xs ++ issued ys
+pub issued-append : (xs ys : List Order) → issued (xs ++ ys) ≡ issued xs ++ issued ys
 issued-append [] ys = refl
 issued-append (Holds place ∷ xs) ys = issued-append xs ys
 issued-append (Issues place access ∷ xs) ys = ap (λ t. access ∷ t) (issued-append xs ys)

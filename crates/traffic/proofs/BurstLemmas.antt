@@ -17,10 +17,10 @@ use Rattle.burst_address.proofs.Legality.{legal-start}
 use Rattle.burst_address.proofs.Numbers.{aligned-le, aligned-near}
 
 -- the valid bytes of the first beat, and of each other one
-abbrev first_of : Addr → ℕ
+abbrev pub first_of : Addr → ℕ
 first_of a = size_of a - a.addr % size_of a
 
-abbrev other_by : Burst → Addr → ℕ
+abbrev pub other_by : Burst → Addr → ℕ
 other_by Fixed a = first_of a
 other_by Incr a = size_of a
 other_by Wrap a = size_of a

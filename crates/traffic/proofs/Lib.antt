@@ -4,3 +4,4 @@ pub mod BuildLemmas
 pub mod FormLemmas
 pub mod BurstLemmas
 pub mod AcceptLemmas
+pub mod KnownLemmas
