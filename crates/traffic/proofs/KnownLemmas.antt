@@ -1,15 +1,20 @@
 -- What is known of the transactions of lines that aren't refused.
-use Rattle.std.proofs.Common.{◌≡◌, ℕ, ◌+◌, ◌-◌, ◌*◌, ◌<◌, ◌≤◌, ◌==◌, ◌⊎◌, ◌||◌, Bool, true, false, cond, List, [], ◌∷◌, ◌++◌, Option, Some, None, length, nat_lt, suc, inl, inr, refl, sym, ◌∙◌, ap, subst, arith, append_assoc}
+use Rattle.std.proofs.Common.{◌≡◌, ℕ, ◌+◌, ◌-◌, ◌*◌, ◌^◌, ◌<◌, ◌≤◌, ◌==◌, ◌⊎◌, ◌||◌, Bool, true, false, cond, List, [], ◌∷◌, ◌++◌, Option, Some, None, length, nat_lt, suc, inl, inr, refl, sym, ◌∙◌, ap, subst, arith, append_assoc}
 use Rattle.std.specs.Prelude.{All, filter, fold}
-use Rattle.std.specs.List.{AllByRecursion}
-use Rattle.std.proofs.lemmas.Bool.{cases_Bool, eqb-true, eq-eqb, ltb-false, or_parts}
+use Rattle.std.specs.List.{AllByRecursion, slice_get}
+use Rattle.std.specs.Option.{option_or}
+use Rattle.std.proofs.lemmas.Bool.{cases_Bool, eqb-true, eq-eqb, ltb-false, ltb-true, or_parts}
 use Rattle.std.proofs.lemmas.List.{append-nil, length-append}
 use Rattle.std.proofs.lemmas.List.Elements.{All-from_recursion}
 use Rattle.std.proofs.lemmas.Grind.{fold-append}
 use Rattle.axi_beats.specs.declared.beat.Burst.{Burst}
 use Rattle.axi_beats.specs.declared.beat.Burst.TheVariants.{Fixed, Incr, Wrap}
 use Rattle.burst_address.specs.Bytes.{burst_bytes}
-use Rattle.burst_address.specs.Legal.{IsLegal}
+use Rattle.burst_address.specs.Legal.{IsLegal, is_length_of}
+use Rattle.burst_address.proofs.Legality.{legal-length, wrap_length}
+use Rattle.std.proofs.Math.Nat.{pow-le-pow_right}
+use Rattle.std.proofs.lemmas.Option.{slice_get_within}
+use Rattle.traffic.specs.Steps.{IsFitting}
 use Rattle.traffic.specs.Accepted.{AcceptedSuits, AreInOrder, Follows, IsTraffic, Suits, beats_in, last_after, of_manager}
 use Rattle.traffic.specs.Faults.{least_fault, request_of}
 use Rattle.traffic.specs.Line.{Access, first_pairs, other_pairs, other_pairs_of}
@@ -19,7 +24,7 @@ use Rattle.traffic.specs.declared.build.Count.{Count}
 use Rattle.traffic.specs.declared.fault.TrafficFault.{TrafficFault}
 use Rattle.traffic.specs.declared.fault.TrafficFault.TheVariants.{TooMuchTraffic}
 use Rattle.traffic.specs.declared.port.ManagerPort.{ManagerPort}
-use Rattle.traffic.proofs.AcceptLemmas.{IsAccepted, IsAllowed, least-none, lines-allowed}
+use Rattle.traffic.proofs.AcceptLemmas.{IsAccepted, IsAllowed, lines-allowed}
 use Rattle.traffic.proofs.BuildLemmas.{issued-append}
 use Rattle.traffic.proofs.BurstLemmas.{burst-length, other_by}
 use Rattle.traffic.proofs.FormLemmas.{IsForm}
@@ -152,20 +157,44 @@ items-beats managers before (Issues place access ∷ more) all =
     let some : 0 < access.beats = form.some in
     omega arith
 
+-- ---- what the making of transactions needs
+
+length-most : (burst : Burst) (beats : ℕ) → is_length_of burst beats ≡ true → beats ≤ 256
+length-most Fixed beats e = omega (arith, ltb-true beats 17 e)
+length-most Incr beats e = omega (arith, ltb-true beats 257 e)
+length-most Wrap beats e = let power : (j : ℕ) × (beats ≡ 2 ^ j) × (j ≤ 4) = wrap_length beats e in
+    let most : 2 ^ power.0 ≤ 2 ^ 4 = pow-le-pow_right {n = 2} (omega arith) power.2 in
+    omega (arith, power.1)
+
+fits-all : (managers : List ManagerPort) (orders : List Order) → AllByRecursion (IsAllowed managers) orders → AllByRecursion (IsFitting (length managers)) orders
+fits-all managers [] all = tt
+fits-all managers (Holds place ∷ more) all = (all.0, fits-all managers more all.1)
+fits-all managers (Issues place access ∷ more) all =
+    let a : IsAccepted managers place access = all.0 in
+    let most : (access.beats - 1) + 1 ≤ 256 = length-most access.start.burst ((access.beats - 1) + 1) (legal-length (request_of access) a.port.bus a.legal) in
+    ((slice_get_within managers place a.port a.is_manager, omega arith), fits-all managers more all.1)
+
 -- ---- all of it
 
+neither : (a b : Option TrafficFault) → option_or a b ≡ None → (a ≡ None) × (b ≡ None)
+neither None b e = (refl, e)
+neither (Some a) b e = absurd (cc)
+
 -- where lines aren't refused, none is faulty, and they aren't too much
-pub accepted : (managers : List ManagerPort) (lines : List (List ℕ)) → refusal_of managers lines ≡ None → (least_fault managers 1 lines ≡ None) × (is_too_much (issued (orders_of managers lines)) ≡ false)
+accepted : (managers : List ManagerPort) (lines : List (List ℕ)) → refusal_of managers lines ≡ None → (least_fault managers 1 lines ≡ None) × (is_too_much (issued (orders_of managers lines)) ≡ false)
 accepted managers lines e =
-    let both = least-none (least_fault managers 1 lines) (cond (is_too_much (issued (orders_of managers lines))) (Some TooMuchTraffic) None) e in
+    let both = neither (least_fault managers 1 lines) (cond (is_too_much (issued (orders_of managers lines))) (Some TooMuchTraffic) None) e in
     (both.0, by (is_too_much (issued (orders_of managers lines))) both.1)
     where
       by : (b : Bool) → cond b (Some TooMuchTraffic) None ≡ None → b ≡ false
       by true e = absurd (cc)
       by false e = refl
 
-pub accepted-suits-all : AcceptedSuits
-accepted-suits-all managers lines e =
+pub lines-fit : (managers : List ManagerPort) (lines : List (List ℕ)) → refusal_of managers lines ≡ None → AllByRecursion (IsFitting (length managers)) (orders_of managers lines)
+lines-fit managers lines e = fits-all managers (orders_of managers lines) (lines-allowed managers 1 lines (accepted managers lines e).0)
+
+pub accepted_suits_all : AcceptedSuits
+accepted_suits_all managers lines e =
     let both = accepted managers lines e in
     let all : AllByRecursion (IsAllowed managers) (orders_of managers lines) = lines-allowed managers 1 lines both.0 in
     let few = or_parts (nat_lt 16384 (length (issued (orders_of managers lines)))) (nat_lt 262144 (total_beats (issued (orders_of managers lines)))) both.1 in

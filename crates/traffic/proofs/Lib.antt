@@ -5,3 +5,4 @@ pub mod FormLemmas
 pub mod BurstLemmas
 pub mod AcceptLemmas
 pub mod KnownLemmas
+pub mod RefusalLemmas

@@ -1,14 +1,15 @@
 -- The transactions that the lines ask for, and what a text comes to.
-use Rattle.std.specs.Prelude.{ℕ, ◌+◌, ◌==◌, List, [], ◌∷◌, ◌++◌, fold, length, Option, None, Some, if◌then◌else◌}
+use Rattle.std.specs.Prelude.{◌≡◌, ℕ, ◌+◌, ◌==◌, List, [], ◌∷◌, ◌++◌, fold, length, Option, None, Some, if◌then◌else◌}
+use Rattle.std.specs.Option.{option_or}
 use Rattle.manager_end.specs.declared.script.Txn.{Txn}
 use Rattle.manager_end.specs.declared.script.WriteByte.{WriteByte}
-use Rattle.traffic.specs.Faults.{least, least_fault, request_of}
+use Rattle.traffic.specs.Faults.{least_fault, request_of}
 use Rattle.traffic.specs.Line.{Access}
 use Rattle.traffic.specs.declared.build.Count.{Count}
 use Rattle.traffic.specs.Orders.{Order, Holds, Issues, is_too_much, issued, orders_of}
 use Rattle.traffic.specs.declared.port.ManagerPort.{ManagerPort}
 use Rattle.traffic.specs.declared.fault.TrafficFault.{TrafficFault}
-use Rattle.traffic.specs.declared.fault.TrafficFault.TheVariants.{TooMuchTraffic}
+use Rattle.traffic.specs.declared.fault.TrafficFault.TheVariants.{BadLine, UnknownManager, BadId, IllegalBurst, TooMuchTraffic, NoMemory}
 
 -- Of a manager it is counted how many transactions it has, and how many of them stand before its latest `wait` line.
 abbrev pub none_yet : Count
@@ -52,7 +53,12 @@ items_after before (Issues place access ∷ more) = item_after before place acce
 abbrev pub traffic_of : List ManagerPort → List (List ℕ) → List TrafficItem
 traffic_of managers lines = items_after [] (orders_of managers lines)
 
--- why the lines are refused: for a line, or, where no line is refused, because they ask for too much
+-- why the lines are refused: for one of them, or, where none is refused, because they ask for too much
 abbrev pub refusal_of : List ManagerPort → List (List ℕ) → Option TrafficFault
 refusal_of managers lines =
-    least (least_fault managers 1 lines) (if is_too_much (issued (orders_of managers lines)) then Some TooMuchTraffic else None)
+    option_or (least_fault managers 1 lines) (if is_too_much (issued (orders_of managers lines)) then Some TooMuchTraffic else None)
+
+-- a fault is why lines are refused; memory is wanting only where they aren't
+abbrev pub IsRefusal : Option TrafficFault → TrafficFault → Type 0
+IsRefusal refusal NoMemory = refusal ≡ None
+IsRefusal refusal fault = refusal ≡ Some fault
