@@ -6,3 +6,4 @@ pub mod BurstLemmas
 pub mod AcceptLemmas
 pub mod KnownLemmas
 pub mod RefusalLemmas
+mod KnownValues
