@@ -7,3 +7,4 @@ pub mod AcceptLemmas
 pub mod KnownLemmas
 pub mod RefusalLemmas
 mod KnownValues
+pub mod LeastLemmas

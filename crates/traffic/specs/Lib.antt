@@ -8,3 +8,4 @@ pub mod Traffic
 pub mod Steps
 pub mod Inside
 pub mod Accepted
+pub mod Refusals

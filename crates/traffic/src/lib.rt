@@ -16,7 +16,7 @@ mod read;
 mod transactions;
 
 pub use fault::TrafficFault;
-pub use laws::accepted_traffic_suits;
+pub use laws::{accepted_traffic_suits, least_is_told};
 pub use port::ManagerPort;
 pub use read::read_traffic;
 pub use transactions::Traffic;
