@@ -41,12 +41,12 @@ port-at managers name place e = rw e
 -- what a burst keeps that isn't refused
 kept : (number : ℕ) (access : Access) (port : ManagerPort) → burst_fault number access (Some port) ≡ None → (access.start.id < 2 ^ port.id_width) × IsLegal (request_of access) port.bus
 kept number access port e = by (nat_lt access.start.id (2 ^ port.id_width)) refl (broken_rule (request_of access) port.bus) refl e
-    where
-      by : (small : Bool) → nat_lt access.start.id (2 ^ port.id_width) ≡ small → (rule : Option BurstRule) → broken_rule (request_of access) port.bus ≡ rule
-          → cond small (option_map (λ r. IllegalBurst number r) rule) (Some (BadId number)) ≡ None → (access.start.id < 2 ^ port.id_width) × IsLegal (request_of access) port.bus
-      by true is None legal e = (ltb-true access.start.id (2 ^ port.id_width) is, legal)
-      by true is (Some rule) broken e = absurd (cc)
-      by false is rule broken e = absurd (cc)
+  where
+    by : (small : Bool) → nat_lt access.start.id (2 ^ port.id_width) ≡ small → (rule : Option BurstRule) → broken_rule (request_of access) port.bus ≡ rule
+        → cond small (option_map (λ r. IllegalBurst number r) rule) (Some (BadId number)) ≡ None → (access.start.id < 2 ^ port.id_width) × IsLegal (request_of access) port.bus
+    by true is None legal e = (ltb-true access.start.id (2 ^ port.id_width) is, legal)
+    by true is (Some rule) broken e = absurd (cc)
+    by false is rule broken e = absurd (cc)
 
 waits-allowed : (managers : List ManagerPort) (name : List ℕ) (o : Option ℕ) → place_of managers name ≡ o → IfSome (option_map Holds o) (IsAllowed managers)
 waits-allowed managers name None e = tt

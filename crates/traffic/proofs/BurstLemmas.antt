@@ -75,8 +75,8 @@ fixed-length a e = fixed-before a (beats_of a) e ∙ omega arith
 
 pub burst-length : (a : Addr) (bus : ℕ) → IsLegal a bus → length (burst_bytes a) ≡ first_of a + a.len * other_by a.burst a
 burst-length a bus legal = by a.burst refl
-    where
-      by : (burst : Burst) → a.burst ≡ burst → length (burst_bytes a) ≡ first_of a + a.len * other_by burst a
-      by Fixed e = fixed-length a e
-      by Incr e = incr-length a e
-      by Wrap e = wrap-length a bus legal e
+  where
+    by : (burst : Burst) → a.burst ≡ burst → length (burst_bytes a) ≡ first_of a + a.len * other_by burst a
+    by Fixed e = fixed-length a e
+    by Incr e = incr-length a e
+    by Wrap e = wrap-length a bus legal e

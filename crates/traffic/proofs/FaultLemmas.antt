@@ -17,13 +17,13 @@ lesser-assoc : (a b c : TrafficFault) → lesser (lesser a b) c ≡ lesser a (le
 lesser-assoc a b c =
     elim (cases_lt (code_of b) (code_of a)) [
       | inl below ↦ elim (cases_lt (code_of c) (code_of b)) [
-          | inl under ↦ ap (λ f. lesser f c) (gives a b below) ∙ gives b c under ∙ sym (ap (λ f. lesser a f) (gives b c under) ∙ gives a c (omega arith))
-          | inr over ↦ ap (λ f. lesser f c) (gives a b below) ∙ keeps b c over ∙ sym (ap (λ f. lesser a f) (keeps b c over) ∙ gives a b below)
-        ]
+        | inl under ↦ ap (λ f. lesser f c) (gives a b below) ∙ gives b c under ∙ sym (ap (λ f. lesser a f) (gives b c under) ∙ gives a c (omega arith))
+        | inr over ↦ ap (λ f. lesser f c) (gives a b below) ∙ keeps b c over ∙ sym (ap (λ f. lesser a f) (keeps b c over) ∙ gives a b below)
+      ]
       | inr above ↦ elim (cases_lt (code_of c) (code_of b)) [
-          | inl under ↦ ap (λ f. lesser f c) (keeps a b above) ∙ ap (λ f. lesser a f) (sym (gives b c under))
-          | inr over ↦ ap (λ f. lesser f c) (keeps a b above) ∙ keeps a c (omega arith) ∙ sym (ap (λ f. lesser a f) (keeps b c over) ∙ keeps a b above)
-        ]
+        | inl under ↦ ap (λ f. lesser f c) (keeps a b above) ∙ ap (λ f. lesser a f) (sym (gives b c under))
+        | inr over ↦ ap (λ f. lesser f c) (keeps a b above) ∙ keeps a c (omega arith) ∙ sym (ap (λ f. lesser a f) (keeps b c over) ∙ keeps a b above)
+      ]
     ]
 
 -- the least of three faults is found in any order of search

@@ -34,11 +34,11 @@ use Rattle.traffic.proofs.FormLemmas.{IsForm}
 -- a write has a byte for each valid byte
 write-bytes : (access : Access) (bus : ℕ) → IsLegal (request_of access) bus → length (burst_bytes (request_of access)) ≡ first_pairs access.start + (access.beats - 1) * other_pairs access.start
 write-bytes access bus legal = burst-length (request_of access) bus legal ∙ ap (λ n. first_pairs access.start + (access.beats - 1) * n) (other access.start.burst)
-    where
-      other : (burst : Burst) → other_by burst (request_of access) ≡ other_pairs_of burst access.start
-      other Fixed = refl
-      other Incr = refl
-      other Wrap = refl
+  where
+    other : (burst : Burst) → other_by burst (request_of access) ≡ other_pairs_of burst access.start
+    other Fixed = refl
+    other Incr = refl
+    other Wrap = refl
 
 accepted-suits : (managers : List ManagerPort) (before : List Order) (place : ℕ) (access : Access) → IsAccepted managers place access → Suits managers (item_after before place access)
 accepted-suits managers before place access a =
@@ -115,16 +115,16 @@ tells-other place items after count is t =
 tells-issue : (place other : ℕ) (access : Access) (items : List TrafficItem) (item : TrafficItem) (count : Count) → item.manager ≡ other → (other ≡ place → item.txn.after ≡ count.awaited)
     → Tells place items count → Tells place (items ++ item ∷ []) (counted place count (Issues other access))
 tells-issue place other access items item count is waits t = by (other == place) refl
-    where
-      by : (same : Bool) → (other == place) ≡ same → Tells place (items ++ item ∷ []) (cond same (one_more count) count)
-      by true e =
-          tells-mine place items (items ++ item ∷ []) item count
-          (mine-push place items item ∙ ap (λ n. cond (n == place) (of_manager place items ++ item ∷ []) (of_manager place items)) is ∙ ap (λ b. cond b (of_manager place items ++ item ∷ []) (of_manager place items)) e)
-          (waits (eqb-true other place e)) t
-      by false e =
-          tells-other place items (items ++ item ∷ []) count
-          (mine-push place items item ∙ ap (λ n. cond (n == place) (of_manager place items ++ item ∷ []) (of_manager place items)) is ∙ ap (λ b. cond b (of_manager place items ++ item ∷ []) (of_manager place items)) e)
-          t
+  where
+    by : (same : Bool) → (other == place) ≡ same → Tells place (items ++ item ∷ []) (cond same (one_more count) count)
+    by true e =
+        tells-mine place items (items ++ item ∷ []) item count
+        (mine-push place items item ∙ ap (λ n. cond (n == place) (of_manager place items ++ item ∷ []) (of_manager place items)) is ∙ ap (λ b. cond b (of_manager place items ++ item ∷ []) (of_manager place items)) e)
+        (waits (eqb-true other place e)) t
+    by false e =
+        tells-other place items (items ++ item ∷ []) count
+        (mine-push place items item ∙ ap (λ n. cond (n == place) (of_manager place items ++ item ∷ []) (of_manager place items)) is ∙ ap (λ b. cond b (of_manager place items ++ item ∷ []) (of_manager place items)) e)
+        t
 
 in-order : (before orders : List Order) (items : List TrafficItem) → length items ≡ length (issued before) → ((place : ℕ) → Tells place items (count_of place before)) → AreInOrder items (items_after before orders)
 in-order before [] items number tells = tt
@@ -133,13 +133,14 @@ in-order before (Holds place ∷ more) items number tells =
     (number ∙ sym (ap length (issued-append before (Holds place ∷ [])) ∙ ap length (append-nil (issued before))))
     (λ other. subst (λ (count : Count). Tells other items count) (sym (fold-append (counted other) none_yet before (Holds place ∷ []))) (tells-hold other place items (count_of other before) (tells other)))
 in-order before (Issues place access ∷ more) items number tells =
-    let here : Tells place items (count_of place before) = tells place in
-    (record { number = ap (λ n. n + 1) (sym number); within = here.within; after = here.awaited },
-    in-order (before ++ Issues place access ∷ []) more (items ++ item_after before place access ∷ [])
-    (length-append items (item_after before place access ∷ []) ∙ ap (λ n. n + 1) number ∙ sym (ap length (issued-append before (Issues place access ∷ [])) ∙ length-append (issued before) (access ∷ [])))
-    (λ other.
-    subst (λ (count : Count). Tells other (items ++ item_after before place access ∷ []) count) (sym (fold-append (counted other) none_yet before (Issues place access ∷ [])))
-    (tells-issue other place access items (item_after before place access) (count_of other before) refl (λ same. ap (λ p. (count_of p before).awaited) same) (tells other))))
+    let here : Tells place items (count_of place before) = tells place in (
+      record { number = ap (λ n. n + 1) (sym number); within = here.within; after = here.awaited },
+      in-order (before ++ Issues place access ∷ []) more (items ++ item_after before place access ∷ [])
+          (length-append items (item_after before place access ∷ []) ∙ ap (λ n. n + 1) number ∙ sym (ap length (issued-append before (Issues place access ∷ [])) ∙ length-append (issued before) (access ∷ [])))
+          (λ other.
+          subst (λ (count : Count). Tells other (items ++ item_after before place access ∷ []) count) (sym (fold-append (counted other) none_yet before (Issues place access ∷ [])))
+          (tells-issue other place access items (item_after before place access) (count_of other before) refl (λ same. ap (λ p. (count_of p before).awaited) same) (tells other))),
+    )
 
 -- ---- how much it is
 
@@ -185,10 +186,10 @@ accepted : (managers : List ManagerPort) (lines : List (List ℕ)) → refusal_o
 accepted managers lines e =
     let both = neither (least_fault managers 1 lines) (cond (is_too_much (issued (orders_of managers lines))) (Some TooMuchTraffic) None) e in
     (both.0, by (is_too_much (issued (orders_of managers lines))) both.1)
-    where
-      by : (b : Bool) → cond b (Some TooMuchTraffic) None ≡ None → b ≡ false
-      by true e = absurd (cc)
-      by false e = refl
+  where
+    by : (b : Bool) → cond b (Some TooMuchTraffic) None ≡ None → b ≡ false
+    by true e = absurd (cc)
+    by false e = refl
 
 pub lines-fit : (managers : List ManagerPort) (lines : List (List ℕ)) → refusal_of managers lines ≡ None → AllByRecursion (IsFitting (length managers)) (orders_of managers lines)
 lines-fit managers lines e = fits-all managers (orders_of managers lines) (lines-allowed managers 1 lines (accepted managers lines e).0)

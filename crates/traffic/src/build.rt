@@ -62,13 +62,7 @@ fn no_counts(alloc: Global, managers: usize) -> Result<Vec<Count>, NoMemory>
     ensures { IfOk result (λ counts. counts.items ≡ replicate managers none_yet) }
 {
     let mut counts = Vec::new(alloc);
-    counts.resize(
-        managers,
-        Count {
-            all: 0,
-            awaited: 0,
-        },
-    )?;
+    counts.resize(managers, Count { all: 0, awaited: 0 })?;
     Ok(counts)
 }
 

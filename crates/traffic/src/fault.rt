@@ -44,9 +44,7 @@ fn code_of(fault: TrafficFault) -> u8
         TrafficFault::BadLine(_) => 17,
         TrafficFault::UnknownManager(_) => 18,
         TrafficFault::BadId(_) => 19,
-        TrafficFault::IllegalBurst {
-            ..
-        } => 20,
+        TrafficFault::IllegalBurst { .. } => 20,
         TrafficFault::TooMuchTraffic => 21,
         TrafficFault::NoMemory => 0,
     }
@@ -104,7 +102,11 @@ fn line_fault(line: &[u8], number: u32, managers: &[ManagerPort<'_>]) -> Option<
 }
 
 // Why a burst is refused, where the line with this number asks it of this manager.
-fn burst_fault(access: &TextAccess<'_>, number: u32, manager: &ManagerPort<'_>) -> Option<TrafficFault>
+fn burst_fault(
+    access: &TextAccess<'_>,
+    number: u32,
+    manager: &ManagerPort<'_>,
+) -> Option<TrafficFault>
     requires { IsPort manager.now }
     ensures { result ≡ burst_fault number (access_seen access.now) (Some manager.now) }
 {
@@ -112,10 +114,7 @@ fn burst_fault(access: &TextAccess<'_>, number: u32, manager: &ManagerPort<'_>) 
         return Some(TrafficFault::BadId(number));
     }
     let rule = broken_rule(access, manager.bus)?;
-    Some(TrafficFault::IllegalBurst {
-        line: number,
-        rule,
-    })
+    Some(TrafficFault::IllegalBurst { line: number, rule })
 }
 
 // The first rule that a burst breaks on a bus.

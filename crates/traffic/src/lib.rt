@@ -13,6 +13,8 @@ mod line;
 mod order;
 mod port;
 mod read;
+#[cfg(test)]
+mod tests;
 mod transactions;
 
 pub use fault::TrafficFault;

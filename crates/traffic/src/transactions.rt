@@ -34,9 +34,7 @@ impl Traffic {
         requires { length items.items ≤ 16384 }
         ensures { result ≡ items_view items.items }
     {
-        Traffic {
-            items,
-        }
+        Traffic { items }
     }
 
     /// The number of transactions.
