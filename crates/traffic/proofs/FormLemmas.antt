@@ -11,7 +11,7 @@ use Rattle.std.proofs.lemmas.List.Concat.{flat_map-cons}
 use Rattle.plain_text.specs.Numbers.{is_numeral, number_in, read_decimal, read_hexadecimal}
 use Rattle.plain_text.specs.Words.{words, next_word, has_no_word}
 use Rattle.traffic.specs.Data.{are_pairs, are_data_words, data_bytes, is_data_word, pair_byte, is_pair, word_bytes}
-use Rattle.traffic.specs.Line.{Access, Line, Passed, Waits, Asks, Start, at_end, beats_named, burst_named, first_pairs, is_passed, line_of, order_by, order_of, other_pairs, read_of, said_by, size_named, start_of, wait_of, write_of, write_with}
+use Rattle.traffic.specs.Line.{Access, Line, Passed, Waits, Asks, Start, at_end, beats_named, burst_named, first_pairs, is_passed, line_of, form_by, form_of, other_pairs, read_of, said_by, size_named, start_of, wait_of, write_of, write_with}
 
 -- ---- optional values
 
@@ -149,10 +149,10 @@ choose : {A : Type 0} (b : Bool) (x y : Option A) (P : A → Type 0) → IfSome 
 choose true x y P h k = h
 choose false x y P h k = k
 
-order-form : (line : List (List ℕ)) → IfSome (order_of line) IsFormLine
-unfolding order_of
-order-form line =
-    bind (next_word line) (λ verb. order_by verb.0 verb.1) (λ _. Unit {0}) IsFormLine (free (next_word line)) (λ verb _.
+form-of : (line : List (List ℕ)) → IfSome (form_of line) IsFormLine
+unfolding form_of
+form-of line =
+    bind (next_word line) (λ verb. form_by verb.0 verb.1) (λ _. Unit {0}) IsFormLine (free (next_word line)) (λ verb _.
     choose (bytes_eq verb.0 (codes "write")) (write_of verb.1) _ IsFormLine (write-form verb.1)
     (choose (bytes_eq verb.0 (codes "read")) (read_of verb.1) _ IsFormLine (read-form verb.1)
     (choose (bytes_eq verb.0 (codes "wait")) (wait_of verb.1) None IsFormLine (wait-form verb.1) tt)))
@@ -160,4 +160,4 @@ order-form line =
 -- what a line says has a form
 pub line-form : (line : List ℕ) → IfSome (line_of line) IsFormLine
 unfolding said_by
-line-form line = choose (is_passed (words line)) (Some Passed) (order_of (words line)) IsFormLine tt (order-form (words line))
+line-form line = choose (is_passed (words line)) (Some Passed) (form_of (words line)) IsFormLine tt (form-of (words line))

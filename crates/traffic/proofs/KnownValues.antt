@@ -8,8 +8,8 @@ use Rattle.plain_text.specs.Lines.{lines}
 use Rattle.plain_text.specs.Numbers.{number_in, read_byte_pair, read_decimal, read_hexadecimal}
 use Rattle.plain_text.specs.Words.{words}
 use Rattle.traffic.specs.Data.{are_data_words, data_bytes, is_pair, lane_byte, pair_byte}
-use Rattle.traffic.specs.Line.{Passed, Waits, Asks, beats_named, burst_named, line_of, order_of, read_of, said_by, size_named, start_of, wait_of, write_of}
-use Rattle.traffic.specs.Orders as orders
+use Rattle.traffic.specs.Line.{Passed, Waits, Asks, beats_named, burst_named, line_of, form_of, read_of, said_by, size_named, start_of, wait_of, write_of}
+use Rattle.traffic.specs.Orders.{order_of}
 use Rattle.traffic.specs.Ports.{port_of}
 use Rattle.traffic.specs.Traffic.{TrafficItem, refusal_of, traffic_of}
 use Rattle.traffic.specs.declared.fault.TrafficFault.TheVariants.{BadLine, UnknownManager, BadId, IllegalBurst, TooMuchTraffic}
@@ -43,7 +43,7 @@ unfolding said_by words
 nothing = refl
 
 waits : line_of (codes "\twait  dma ") ≡ Some (Waits (codes "dma"))
-unfolding said_by order_of wait_of words
+unfolding said_by form_of wait_of words
 waits = refl
 
 -- from 0x3 on: one lane of four, and then four
@@ -55,7 +55,7 @@ unaligned_write :
       beats = 2;
       bytes = lane_byte (Some 255) ∷ lane_byte (Some 0) ∷ lane_byte (Some 1) ∷ lane_byte None ∷ lane_byte (Some 3) ∷ [];
     }))
-unfolding said_by order_of write_of start_of size_named burst_named is_pair pair_byte read_byte_pair read_decimal read_hexadecimal number_in words
+unfolding said_by form_of write_of start_of size_named burst_named is_pair pair_byte read_byte_pair read_decimal read_hexadecimal number_in words
 unaligned_write = refl
 
 -- each beat of a FIXED burst has the lanes of the first one
@@ -67,7 +67,7 @@ fixed_write :
       beats = 2;
       bytes = lane_byte (Some 10) ∷ lane_byte (Some 11) ∷ [];
     }))
-unfolding said_by order_of write_of start_of size_named burst_named is_pair pair_byte read_byte_pair read_decimal read_hexadecimal number_in words
+unfolding said_by form_of write_of start_of size_named burst_named is_pair pair_byte read_byte_pair read_decimal read_hexadecimal number_in words
 fixed_write = refl
 
 wrap_read :
@@ -78,7 +78,7 @@ wrap_read :
       beats = 4294967295;
       bytes = [];
     }))
-unfolding said_by order_of read_of start_of size_named burst_named beats_named read_decimal read_hexadecimal number_in words
+unfolding said_by form_of read_of start_of size_named burst_named beats_named read_decimal read_hexadecimal number_in words
 wrap_read = refl
 
 bad_lines :
@@ -97,7 +97,7 @@ bad_lines :
     ∷ codes "Wait m"
     ∷ [])
     ≡ None ∷ None ∷ None ∷ None ∷ None ∷ None ∷ None ∷ None ∷ None ∷ None ∷ None ∷ None ∷ []
-unfolding said_by order_of read_of wait_of start_of size_named burst_named beats_named read_decimal read_hexadecimal number_in words
+unfolding said_by form_of read_of wait_of start_of size_named burst_named beats_named read_decimal read_hexadecimal number_in words
 bad_lines = refl
 
 -- ---- whole texts, for a manager `m` on a bus of 4 bytes with IDs of 4 bits
@@ -107,17 +107,17 @@ managers = record { name = record { ref_ptr = (0, 0); now = codes "m" }; bus = 4
 
 a_bad_line_before_all :
     refusal_of managers (lines (codes "read m 16 0x0 4 incr 1\nwait dma\n\nread m 0 0x0 4 incr\nread\n")) ≡ Some (BadLine 4)
-unfolding said_by order_of orders.order_of read_of wait_of start_of size_named burst_named beats_named read_decimal read_hexadecimal number_in words port_of
+unfolding said_by form_of order_of read_of wait_of start_of size_named burst_named beats_named read_decimal read_hexadecimal number_in words port_of
 a_bad_line_before_all = refl
 
 an_unknown_manager_next :
     refusal_of managers (lines (codes "read m 16 0x0 4 incr 1\nread m 0 0x0 8 incr 1\nwait dma\nwait dma\n")) ≡ Some (UnknownManager 3)
-unfolding said_by order_of orders.order_of read_of wait_of start_of size_named burst_named beats_named read_decimal read_hexadecimal number_in words port_of
+unfolding said_by form_of order_of read_of wait_of start_of size_named burst_named beats_named read_decimal read_hexadecimal number_in words port_of
 an_unknown_manager_next = refl
 
 then_an_id :
     refusal_of managers (lines (codes "read m 0 0x0 8 incr 1\nread m 15 0x0 4 incr 1\nread m 16 0x0 4 incr 1\n")) ≡ Some (BadId 3)
-unfolding said_by order_of orders.order_of read_of wait_of start_of size_named burst_named beats_named read_decimal read_hexadecimal number_in words port_of
+unfolding said_by form_of order_of read_of wait_of start_of size_named burst_named beats_named read_decimal read_hexadecimal number_in words port_of
 then_an_id = refl
 
 broken_rules :
@@ -131,7 +131,7 @@ broken_rules :
     ∷ codes "read m 0 0xffc 4 incr 1"
     ∷ [])
     ≡ Some (IllegalBurst 1 Size) ∷ Some (IllegalBurst 1 Length) ∷ Some (IllegalBurst 1 Length) ∷ Some (IllegalBurst 1 WrapAlign) ∷ Some (IllegalBurst 1 Page) ∷ None ∷ []
-unfolding said_by order_of orders.order_of read_of wait_of start_of size_named burst_named beats_named read_decimal read_hexadecimal number_in words port_of
+unfolding said_by form_of order_of read_of wait_of start_of size_named burst_named beats_named read_decimal read_hexadecimal number_in words port_of
 broken_rules = refl
 
 -- the third transaction waits for the first two, as the fourth does
@@ -139,5 +139,5 @@ after_a_wait :
     map (λ (item : TrafficItem). item.txn.number ∷ item.txn.after ∷ item.txn.request.len ∷ [])
     (traffic_of managers (lines (codes "read m 0 0x0 4 incr 1\nread m 1 0x4 4 incr 2\nwait m\nread m 2 0x8 4 incr 3\n# as before\nread m 3 0xc 4 incr 4\n")))
     ≡ (1 ∷ 0 ∷ 0 ∷ []) ∷ (2 ∷ 0 ∷ 1 ∷ []) ∷ (3 ∷ 2 ∷ 2 ∷ []) ∷ (4 ∷ 2 ∷ 3 ∷ []) ∷ []
-unfolding said_by order_of orders.order_of read_of wait_of start_of size_named burst_named beats_named read_decimal read_hexadecimal number_in words port_of
+unfolding said_by form_of order_of read_of wait_of start_of size_named burst_named beats_named read_decimal read_hexadecimal number_in words port_of
 after_a_wait = refl

@@ -4,6 +4,7 @@ use Rattle.std.specs.List.{slice_get}
 use Rattle.burst_address.specs.Bytes.{burst_bytes}
 use Rattle.burst_address.specs.Formulas.{beats_of}
 use Rattle.burst_address.specs.Legal.{IsLegal}
+use Rattle.traffic.specs.Orders.{most_beats, most_transactions}
 use Rattle.traffic.specs.Traffic.{TrafficItem, refusal_of, traffic_of}
 use Rattle.traffic.specs.declared.port.ManagerPort.{ManagerPort}
 
@@ -48,8 +49,8 @@ beats_in (item ∷ more) = beats_of item.txn.request + beats_in more
 pub record IsTraffic (managers : List ManagerPort) (items : List TrafficItem) : Type 0 where
   pub suit : All (Suits managers) items
   pub in_order : AreInOrder [] items
-  pub transactions : length items ≤ 16384
-  pub beats : beats_in items ≤ 262144
+  pub transactions : length items ≤ most_transactions
+  pub beats : beats_in items ≤ most_beats
 
 -- the transactions of lines that aren't refused
 abbrev pub AcceptedSuits : Type 0

@@ -123,17 +123,17 @@ wait_of line = do
   at_end (Waits manager.0) manager.1
 
 -- what the first word says of the words after it
-abbrev pub order_by : List ℕ → List (List ℕ) → Option Line
-order_by verb line =
+abbrev pub form_by : List ℕ → List (List ℕ) → Option Line
+form_by verb line =
     if bytes_eq verb (codes "write") then write_of line
     else if bytes_eq verb (codes "read") then read_of line
     else if bytes_eq verb (codes "wait") then wait_of line
     else None
 
-unfoldable pub order_of : List (List ℕ) → Option Line
-order_of line = do
+unfoldable pub form_of : List (List ℕ) → Option Line
+form_of line = do
   verb ← next_word line
-  order_by verb.0 verb.1
+  form_by verb.0 verb.1
 
 -- a line without a word, and a line whose first word begins with `#`, are passed over
 abbrev pub is_passed : List (List ℕ) → Bool
@@ -142,7 +142,7 @@ is_passed (word ∷ more) = starts_with nat_eq word (codes "#")
 
 -- what the words of a line say, where they are of one of the forms
 unfoldable pub said_by : List (List ℕ) → Option Line
-said_by line = if is_passed line then Some Passed else order_of line
+said_by line = if is_passed line then Some Passed else form_of line
 
 -- what a line says
 abbrev pub line_of : List ℕ → Option Line

@@ -34,6 +34,12 @@ abbrev pub total_beats : List Access → ℕ
 total_beats [] = 0
 total_beats (access ∷ more) = access.beats + total_beats more
 
--- over 16,384 transactions or over 262,144 beats
+-- how many transactions and how many beats a traffic has at most
+abbrev pub most_transactions : ℕ
+most_transactions = 16384
+
+abbrev pub most_beats : ℕ
+most_beats = 262144
+
 abbrev pub is_too_much : List Access → Bool
-is_too_much bursts = nat_lt 16384 (length bursts) || nat_lt 262144 (total_beats bursts)
+is_too_much bursts = nat_lt most_transactions (length bursts) || nat_lt most_beats (total_beats bursts)

@@ -1,4 +1,4 @@
--- What the reader's values stand for, which lie in the text.
+-- What the reader's values stand for. Their names and data words lie in the text.
 use Rattle.std.specs.Prelude.{ℕ, List, [], if◌then◌else◌}
 use Rattle.manager_end.specs.declared.script.WriteByte.{WriteByte}
 use Rattle.plain_text.specs.Words.{words}

@@ -22,14 +22,14 @@ use std::alloc::Global;
 /// Of a manager: how many transactions it has, and how many of them stand before its latest `wait`
 /// line.
 #[derive(Debug, Clone, Copy, PartialEq, Eq)]
-pub struct Count {
+pub(crate) struct Count {
     pub all: u32,
     pub awaited: u32,
 }
 
 /// A transaction, the place of its manager, and its bytes.
 #[derive(Drop)]
-pub struct Item {
+pub(crate) struct Item {
     pub manager: u32,
     pub txn: Txn,
     pub bytes: Vec<WriteByte>,

@@ -19,6 +19,7 @@ mod transactions;
 
 pub use fault::TrafficFault;
 pub use laws::{accepted_traffic_suits, least_is_told};
+pub use order::{MOST_BEATS, MOST_TRANSACTIONS};
 pub use port::ManagerPort;
 pub use read::read_traffic;
 pub use transactions::Traffic;

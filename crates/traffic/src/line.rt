@@ -2,7 +2,7 @@
 
 ghost use Rattle.std.specs.Prelude.{◌≡◌, ◌<◌, ◌≤◌, ◌^◌, ◌-◌, ◌%◌, option_map, IfSome};
 ghost use Rattle.plain_text.specs.Words.{words};
-ghost use Rattle.traffic.specs.Line.{beats_named, burst_named, first_pairs, is_passed, line_of, order_of, other_pairs, read_of, size_named, start_of, wait_of, write_of};
+ghost use Rattle.traffic.specs.Line.{beats_named, burst_named, first_pairs, form_of, is_passed, line_of, other_pairs, read_of, size_named, start_of, wait_of, write_of};
 ghost use Rattle.traffic.specs.Seen.{line_seen, start_seen};
 
 use crate::data::count_data_words;
@@ -49,7 +49,7 @@ pub(crate) fn read_line(line: &[u8]) -> Option<TextLine<'_>>
     if is_passed(line) {
         Some(TextLine::Nothing)
     } else {
-        parse_order(line)
+        parse_form(line)
     }
 }
 
@@ -64,9 +64,9 @@ fn is_passed(line: &[u8]) -> bool
 }
 
 // What a line says that isn't passed over.
-#[tactic(auto, unfolding(crate::specs::Line::order_of))]
-fn parse_order(line: &[u8]) -> Option<TextLine<'_>>
-    ensures { option_map line_seen result ≡ order_of (words line.now) }
+#[tactic(auto, unfolding(crate::specs::Line::form_of))]
+fn parse_form(line: &[u8]) -> Option<TextLine<'_>>
+    ensures { option_map line_seen result ≡ form_of (words line.now) }
 {
     let (verb, line) = next_word(line)?;
     if is_word(verb, b"write") {

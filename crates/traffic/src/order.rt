@@ -9,6 +9,12 @@ use crate::line::{TextAccess, TextLine, read_line};
 use crate::port::{ManagerPort, place_of};
 use plain_text::lines::next_line;
 
+/// How many transactions a traffic has at most.
+pub const MOST_TRANSACTIONS: u64 = 16_384;
+
+/// How many beats a traffic has at most.
+pub const MOST_BEATS: u64 = 262_144;
+
 /// What a line asks of the manager at a place.
 #[derive(Debug, Clone, Copy)]
 pub(crate) enum TextOrder<'a> {
@@ -46,7 +52,7 @@ pub(crate) fn is_too_much(text: &[u8], managers: &[ManagerPort<'_>]) -> bool
     while !rest.is_empty() {
         let (line, more) = next_line(rest);
         if let Some(TextOrder::Issue(_, access)) = read_order(line, managers) {
-            if bursts == 16_384 || access.beats > 262_144 - beats {
+            if bursts == MOST_TRANSACTIONS || access.beats > MOST_BEATS - beats {
                 return true;
             }
             bursts += 1;
