@@ -1,0 +1,171 @@
+-- Orders that are turned into transactions one by one.
+use Rattle.std.proofs.Common.{◌≡◌, ℕ, ◌+◌, ◌<◌, ◌≤◌, ◌==◌, Bool, true, false, cond, List, [], ◌∷◌, ◌++◌, Option, Some, None, length, get_or, set, inl, inr, refl, sym, ◌∙◌, ap, subst, append_assoc, arith}
+use Rattle.std.specs.Prelude.{All, IfSome, fold}
+use Rattle.std.specs.List.{AllByRecursion, cons_option}
+use Rattle.std.proofs.lemmas.Bool.{cases_eq, cond-true, cond-false, eq-eqb, ne_eqb}
+use Rattle.std.proofs.lemmas.List.{append-nil, get_or-set_other, get_or-replicate, length-append, length-replicate, length-set}
+use Rattle.std.proofs.Math.ListN.{replicate}
+use Rattle.std.proofs.lemmas.List.Elements.{All-from_get_or}
+use Rattle.std.proofs.lemmas.Grind.{fold-append, get_or-set_at}
+use Rattle.plain_text.specs.Lines.{lines}
+use Rattle.traffic.specs.Line.{Access}
+use Rattle.traffic.specs.Orders.{Order, Holds, Issues, issued, order_of, orders_of}
+use Rattle.traffic.specs.Steps.{counts_after, counts_by, item_of, items_by, items_of, IsFitting}
+use Rattle.traffic.specs.Traffic.{TrafficItem, count_of, counted, held, items_after, none_yet, one_more, traffic_of}
+use Rattle.traffic.specs.declared.build.Count.{Count}
+use Rattle.traffic.specs.declared.port.ManagerPort.{ManagerPort}
+
+-- a manager has no more transactions than there are
+count-from : (place : ℕ) (orders : List Order) (count : Count) → (fold (counted place) count orders).all ≤ count.all + length (issued orders)
+count-from place [] count = omega arith
+count-from place (Holds other ∷ more) count =
+    elim (other == place) as (λ b. (fold (counted place) (cond b (held count) count) more).all ≤ count.all + length (issued more)) [
+      | true ↦ count-from place more (held count)
+      | false ↦ count-from place more count
+    ]
+count-from place (Issues other access ∷ more) count =
+    elim (other == place) as (λ b. (fold (counted place) (cond b (one_more count) count) more).all ≤ count.all + length (access ∷ issued more)) [
+      | true ↦ let rest : (fold (counted place) (one_more count) more).all ≤ count.all + 1 + length (issued more) = count-from place more (one_more count) in omega arith
+      | false ↦ let rest : (fold (counted place) count more).all ≤ count.all + length (issued more) = count-from place more count in omega arith
+    ]
+
+-- a count that changes at one place
+at-place : (counts : List Count) (place k : ℕ) (change : Count → Count) (now : ℕ → Count)
+    → place < length counts → ((j : ℕ) → j < length counts → get_or counts j none_yet ≡ now j) → k < length counts
+    → get_or (set counts place (change (get_or counts place none_yet))) k none_yet ≡ cond (place == k) (change (now k)) (now k)
+at-place counts place k change now inside each within =
+    elim (cases_eq place k) [
+      | inl same ↦
+          get_or-set_at counts place k (change (get_or counts place none_yet)) none_yet (sym same) inside
+          ∙ ap change (each place inside ∙ ap now same)
+          ∙ sym (cond-true (place == k) (change (now k)) (now k) (eq-eqb place k same))
+      | inr apart ↦
+          get_or-set_other counts place k (change (get_or counts place none_yet)) none_yet (λ same. apart (sym same))
+          ∙ each k within
+          ∙ sym (cond-false (place == k) (change (now k)) (now k) (ne_eqb place k apart))
+    ]
+
+counts-step : (counts : List Count) (before : List Order) (order : Order) → IsFitting (length counts) order
+    → ((j : ℕ) → j < length counts → get_or counts j none_yet ≡ count_of j before)
+    → (k : ℕ) → k < length counts → get_or (counts_after counts order) k none_yet ≡ count_of k (before ++ order ∷ [])
+counts-step counts before (Holds place) fits each k within =
+    at-place counts place k held (λ j. count_of j before) fits each within ∙ sym (fold-append (counted k) none_yet before (Holds place ∷ []))
+counts-step counts before (Issues place access) fits each k within =
+    at-place counts place k one_more (λ j. count_of j before) fits.0 each within ∙ sym (fold-append (counted k) none_yet before (Issues place access ∷ []))
+
+counts-length : (counts : List Count) (order : Order) → length (counts_after counts order) ≡ length counts
+counts-length counts (Holds place) = length-set counts place (held (get_or counts place none_yet))
+counts-length counts (Issues place access) = length-set counts place (one_more (get_or counts place none_yet))
+
+-- what an order adds
+items-step : (counts : List Count) (number : ℕ) (before more : List Order) (order : Order) → IsFitting (length counts) order → number ≡ length (issued before)
+    → ((j : ℕ) → j < length counts → get_or counts j none_yet ≡ count_of j before)
+    → items_of counts (number + 1) order ++ items_after (before ++ order ∷ []) more ≡ items_after before (order ∷ more)
+items-step counts number before more (Holds place) fits is each = refl
+items-step counts number before more (Issues place access) fits is each =
+    ap (λ n. item_of (n + 1) (get_or counts place none_yet).awaited place access ∷ items_after (before ++ Issues place access ∷ []) more) is
+    ∙ ap (λ (count : Count). item_of (length (issued before) + 1) count.awaited place access ∷ items_after (before ++ Issues place access ∷ []) more) (each place fits.0)
+
+pub issued-append : (xs ys : List Order) → issued (xs ++ ys) ≡ issued xs ++ issued ys
+issued-append [] ys = refl
+issued-append (Holds place ∷ xs) ys = issued-append xs ys
+issued-append (Issues place access ∷ xs) ys = ap (λ t. access ∷ t) (issued-append xs ys)
+
+number-step : (counts : List Count) (number : ℕ) (before : List Order) (order : Order) → length (issued (before ++ order ∷ [])) ≡ length (issued before) + length (items_of counts number order)
+number-step counts number before (Holds place) = ap length (issued-append before (Holds place ∷ [])) ∙ length-append (issued before) []
+number-step counts number before (Issues place access) = ap length (issued-append before (Issues place access ∷ [])) ∙ length-append (issued before) (access ∷ [])
+
+items-short : (counts : List Count) (number : ℕ) (order : Order) → length (items_of counts number order) ≤ 1
+items-short counts number (Holds place) = omega arith
+items-short counts number (Issues place access) = omega arith
+
+-- the transactions of the lines before the rest of a text, after which the counts stand as they do
+pub record IsBuilt (managers : List ManagerPort) (text : List ℕ) (items : List TrafficItem) (counts : List Count) (rest : List ℕ) : Type 0 where
+  before : List Order
+  pub made : items ++ items_after before (orders_of managers (lines rest)) ≡ traffic_of managers (lines text)
+  number : length items ≡ length (issued before)
+  pub as_many : length counts ≡ length managers
+  counts_are : (k : ℕ) → k < length counts → get_or counts k none_yet ≡ count_of k before
+  fits : AllByRecursion (IsFitting (length counts)) (orders_of managers (lines rest))
+  pub left : length items + length rest ≤ length text
+
+-- at the start
+pub built-first : (managers : List ManagerPort) (text : List ℕ) (counts : List Count) → counts ≡ replicate (length managers) none_yet
+    → AllByRecursion (IsFitting (length managers)) (orders_of managers (lines text)) → IsBuilt managers text [] counts text
+built-first managers text counts is fits =
+    let many : length counts ≡ length managers = ap length is ∙ length-replicate (length managers) none_yet in
+    record {
+      before = [];
+      made = refl;
+      number = refl;
+      as_many = many;
+      counts_are = λ k within. ap (λ c. get_or c k none_yet) is ∙ get_or-replicate (length managers) k none_yet none_yet (omega arith);
+      fits = subst (λ (n : ℕ). AllByRecursion (IsFitting n) (orders_of managers (lines text))) (sym many) fits;
+      left = omega arith;
+    }
+
+-- a line that asks for something or for nothing, before further orders
+step-by : (managers : List ManagerPort) (text : List ℕ) (items : List TrafficItem) (counts : List Count) (rest more : List ℕ)
+    → (o : Option Order) → orders_of managers (lines rest) ≡ cons_option o (orders_of managers (lines more)) → length more < length rest
+    → IsBuilt managers text items counts rest
+    → IsBuilt managers text (items ++ items_by counts (length items + 1) o) (counts_by counts o) more
+step-by managers text items counts rest more None is shorter b =
+    let same : items ++ [] ≡ items = append-nil items in
+    let left : length items + length rest ≤ length text = b.left in
+    subst (λ (t : List TrafficItem). IsBuilt managers text t counts more) (sym same) (record {
+      before = b.before;
+      made = ap (λ os. items ++ items_after b.before os) (sym is) ∙ b.made;
+      number = b.number;
+      as_many = b.as_many;
+      counts_are = b.counts_are;
+      fits = subst (λ (os : List Order). AllByRecursion (IsFitting (length counts)) os) is b.fits;
+      left = omega arith;
+    })
+step-by managers text items counts rest more (Some order) is shorter b =
+    let all : AllByRecursion (IsFitting (length counts)) (order ∷ orders_of managers (lines more)) = subst (λ (os : List Order). AllByRecursion (IsFitting (length counts)) os) is b.fits in
+    let long : length (counts_after counts order) ≡ length counts = counts-length counts order in
+    let left : length items + length rest ≤ length text = b.left in
+    let few : length (items_of counts (length items + 1) order) ≤ 1 = items-short counts (length items + 1) order in
+    let sum : length (items ++ items_of counts (length items + 1) order) ≡ length items + length (items_of counts (length items + 1) order) = length-append items (items_of counts (length items + 1) order) in
+    record {
+      before = b.before ++ order ∷ [];
+      made =
+          append_assoc items (items_of counts (length items + 1) order) (items_after (b.before ++ order ∷ []) (orders_of managers (lines more)))
+          ∙ ap (λ t. items ++ t) (items-step counts (length items) b.before (orders_of managers (lines more)) order all.0 b.number b.counts_are)
+          ∙ ap (λ os. items ++ items_after b.before os) (sym is)
+          ∙ b.made;
+      number = sum ∙ ap (λ n. n + length (items_of counts (length items + 1) order)) b.number ∙ sym (number-step counts (length items + 1) b.before order);
+      as_many = long ∙ b.as_many;
+      counts_are = λ k within. counts-step counts b.before order all.0 b.counts_are k (omega arith);
+      fits = subst (λ (n : ℕ). AllByRecursion (IsFitting n) (orders_of managers (lines more))) (sym long) all.1;
+      left = omega arith;
+    }
+
+-- after one more line
+pub built-line : (managers : List ManagerPort) (text : List ℕ) (items after : List TrafficItem) (counts later : List Count) (line rest more : List ℕ)
+    → lines rest ≡ line ∷ lines more → length more < length rest
+    → after ≡ items ++ items_by counts (length items + 1) (order_of managers line) → later ≡ counts_by counts (order_of managers line)
+    → IsBuilt managers text items counts rest → IsBuilt managers text after later more
+built-line managers text items after counts later line rest more is shorter items_are counts_are b =
+    subst (λ (t : List TrafficItem). IsBuilt managers text t later more) (sym items_are)
+    (subst (λ (c : List Count). IsBuilt managers text (items ++ items_by counts (length items + 1) (order_of managers line)) c more) (sym counts_are)
+    (step-by managers text items counts rest more (order_of managers line) (ap (λ ls. orders_of managers ls) is) shorter b))
+
+-- what the next line needs
+fits-head : (n : ℕ) (o : Option Order) (more : List Order) → AllByRecursion (IsFitting n) (cons_option o more) → IfSome o (IsFitting n)
+fits-head n None more all = tt
+fits-head n (Some order) more all = all.0
+
+pub built-fits : (managers : List ManagerPort) (text : List ℕ) (items : List TrafficItem) (counts : List Count) (line rest more : List ℕ)
+    → lines rest ≡ line ∷ lines more → IsBuilt managers text items counts rest → IfSome (order_of managers line) (IsFitting (length counts))
+built-fits managers text items counts line rest more is b =
+    fits-head (length counts) (order_of managers line) (orders_of managers (lines more))
+    (subst (λ (ls : List (List ℕ)). AllByRecursion (IsFitting (length counts)) (orders_of managers ls)) is b.fits)
+
+pub built-small : (managers : List ManagerPort) (text : List ℕ) (items : List TrafficItem) (counts : List Count) (rest : List ℕ)
+    → IsBuilt managers text items counts rest → All (λ count. count.all ≤ length items) counts
+built-small managers text items counts rest b =
+    All-from_get_or (λ (count : Count). count.all ≤ length items) counts none_yet (λ k within.
+    let most : (count_of k b.before).all ≤ 0 + length (issued b.before) = count-from k b.before none_yet in
+    let number : length items ≡ length (issued b.before) = b.number in
+    subst (λ (count : Count). count.all ≤ length items) (sym (b.counts_are k within)) (omega arith))

@@ -1,0 +1,59 @@
+-- What is known of every traffic that is accepted.
+use Rattle.std.specs.Prelude.{◌≡◌, ℕ, ◌+◌, ◌^◌, ◌<◌, ◌≤◌, ◌==◌, ◌⊎◌, List, [], ◌∷◌, ◌++◌, All, filter, length, Some, None, if◌then◌else◌}
+use Rattle.std.specs.List.{slice_get}
+use Rattle.burst_address.specs.Bytes.{burst_bytes}
+use Rattle.burst_address.specs.Formulas.{beats_of}
+use Rattle.burst_address.specs.Legal.{IsLegal}
+use Rattle.traffic.specs.Orders.{most_beats, most_transactions}
+use Rattle.traffic.specs.Traffic.{TrafficItem, refusal_of, traffic_of}
+use Rattle.traffic.specs.declared.port.ManagerPort.{ManagerPort}
+
+-- A transaction suits its manager: its ID has no more bits than the manager's, and its burst is legal on the manager's
+-- bus. A write has a byte for each valid byte of its burst, and a read has none.
+pub record Suits (managers : List ManagerPort) (item : TrafficItem) : Type 0 where
+  pub port : ManagerPort
+  pub is_manager : slice_get managers item.manager ≡ Some port
+  pub id : item.txn.request.id < 2 ^ port.id_width
+  pub legal : IsLegal item.txn.request port.bus
+  pub addr : item.txn.request.addr < 2 ^ 63
+  pub untagged : item.txn.request.tag ≡ record { txn = 0; low = 0; high = 0 }
+  pub bytes : length item.bytes ≡ (if item.txn.write then length (burst_bytes item.txn.request) else 0)
+
+-- the transactions of the manager at this place
+abbrev pub of_manager : ℕ → List TrafficItem → List TrafficItem
+of_manager place items = filter (λ item. item.manager == place) items
+
+-- how many transactions the last one waits for; none where there is no transaction
+abbrev pub last_after : List TrafficItem → ℕ
+last_after [] = 0
+last_after (item ∷ []) = item.txn.after
+last_after (item ∷ next ∷ more) = last_after (next ∷ more)
+
+-- A transaction comes after these: it has the next number, and it waits for some of its manager's first transactions,
+-- for all of them or for as many as the manager's last one.
+pub record Follows (before : List TrafficItem) (item : TrafficItem) : Type 0 where
+  pub number : item.txn.number ≡ length before + 1
+  pub within : item.txn.after ≤ length (of_manager item.manager before)
+  pub after : (item.txn.after ≡ length (of_manager item.manager before)) ⊎ (item.txn.after ≡ last_after (of_manager item.manager before))
+
+-- each transaction comes after those before it
+abbrev pub AreInOrder : List TrafficItem → List TrafficItem → Type 0
+AreInOrder before [] = Unit {0}
+AreInOrder before (item ∷ more) = Follows before item × AreInOrder (before ++ item ∷ []) more
+
+-- the beats of all bursts
+abbrev pub beats_in : List TrafficItem → ℕ
+beats_in [] = 0
+beats_in (item ∷ more) = beats_of item.txn.request + beats_in more
+
+pub record IsTraffic (managers : List ManagerPort) (items : List TrafficItem) : Type 0 where
+  pub suit : All (Suits managers) items
+  pub in_order : AreInOrder [] items
+  pub transactions : length items ≤ most_transactions
+  pub beats : beats_in items ≤ most_beats
+
+-- the transactions of lines that aren't refused
+abbrev pub AcceptedSuits : Type 0
+AcceptedSuits =
+    (managers : List ManagerPort) (lines : List (List ℕ)) → refusal_of managers lines ≡ None →
+    IsTraffic managers (traffic_of managers lines)

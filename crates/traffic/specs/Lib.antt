@@ -1,0 +1,11 @@
+pub mod Data
+pub mod Line
+pub mod Seen
+pub mod Ports
+pub mod Faults
+pub mod Orders
+pub mod Traffic
+pub mod Steps
+pub mod Inside
+pub mod Accepted
+pub mod Refusals

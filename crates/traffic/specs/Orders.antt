@@ -1,0 +1,45 @@
+-- What the lines ask of the managers, one after the other.
+use Rattle.std.specs.Prelude.{ℕ, ◌+◌, ◌||◌, nat_lt, Bool, List, [], ◌∷◌, length, Option, None, Some, option_map}
+use Rattle.std.specs.List.{filter_map}
+use Rattle.traffic.specs.Line.{Access, Line, Passed, Waits, Asks, line_of}
+use Rattle.traffic.specs.Ports.{place_of}
+use Rattle.traffic.specs.declared.port.ManagerPort.{ManagerPort}
+
+-- the manager at a place waits, or issues a burst
+pub data Order : Type 0 where
+  Holds : ℕ → Order
+  Issues : ℕ → Access → Order
+
+-- what is asked by what a line says, where the line has a form and names a manager
+abbrev pub order_by : List ManagerPort → Option Line → Option Order
+order_by managers None = None
+order_by managers (Some Passed) = None
+order_by managers (Some (Waits name)) = option_map Holds (place_of managers name)
+order_by managers (Some (Asks access)) = option_map (λ place. Issues place access) (place_of managers access.start.manager)
+
+unfoldable pub order_of : List ManagerPort → List ℕ → Option Order
+order_of managers line = order_by managers (line_of line)
+
+abbrev pub orders_of : List ManagerPort → List (List ℕ) → List Order
+orders_of managers lines = filter_map (order_of managers) lines
+
+-- the bursts that are issued
+abbrev pub issued : List Order → List Access
+issued [] = []
+issued (Holds place ∷ more) = issued more
+issued (Issues place access ∷ more) = access ∷ issued more
+
+-- the number of all their beats
+abbrev pub total_beats : List Access → ℕ
+total_beats [] = 0
+total_beats (access ∷ more) = access.beats + total_beats more
+
+-- how many transactions and how many beats a traffic has at most
+abbrev pub most_transactions : ℕ
+most_transactions = 16384
+
+abbrev pub most_beats : ℕ
+most_beats = 262144
+
+abbrev pub is_too_much : List Access → Bool
+is_too_much bursts = nat_lt most_transactions (length bursts) || nat_lt most_beats (total_beats bursts)

@@ -1,0 +1,64 @@
+-- The transactions that the lines ask for, and what a text comes to.
+use Rattle.std.specs.Prelude.{◌≡◌, ℕ, ◌+◌, ◌==◌, List, [], ◌∷◌, ◌++◌, fold, length, Option, None, Some, if◌then◌else◌}
+use Rattle.std.specs.Option.{option_or}
+use Rattle.manager_end.specs.declared.script.Txn.{Txn}
+use Rattle.manager_end.specs.declared.script.WriteByte.{WriteByte}
+use Rattle.traffic.specs.Faults.{least_fault, request_of}
+use Rattle.traffic.specs.Line.{Access}
+use Rattle.traffic.specs.declared.build.Count.{Count}
+use Rattle.traffic.specs.Orders.{Order, Holds, Issues, is_too_much, issued, orders_of}
+use Rattle.traffic.specs.declared.port.ManagerPort.{ManagerPort}
+use Rattle.traffic.specs.declared.fault.TrafficFault.{TrafficFault}
+use Rattle.traffic.specs.declared.fault.TrafficFault.TheVariants.{BadLine, UnknownManager, BadId, IllegalBurst, TooMuchTraffic, NoMemory}
+
+-- Of a manager it is counted how many transactions it has, and how many of them stand before its latest `wait` line.
+abbrev pub none_yet : Count
+none_yet = record { all = 0; awaited = 0 }
+
+abbrev pub held : Count → Count
+held count = record { all = count.all; awaited = count.all }
+
+abbrev pub one_more : Count → Count
+one_more count = record { all = count.all + 1; awaited = count.awaited }
+
+-- after one more order, which is for the manager at this place or for another one
+abbrev pub counted : ℕ → Count → Order → Count
+counted place count (Holds other) = if other == place then held count else count
+counted place count (Issues other access) = if other == place then one_more count else count
+
+abbrev pub count_of : ℕ → List Order → Count
+count_of place orders = fold (counted place) none_yet orders
+
+-- a transaction, the place of its manager, and the bytes that a write names, one for each valid lane
+pub record TrafficItem : Type 0 where
+  pub manager : ℕ
+  pub txn : Txn
+  pub bytes : List WriteByte
+
+-- a burst that the manager at this place issues after these orders: all bursts are numbered from 1
+abbrev pub item_after : List Order → ℕ → Access → TrafficItem
+item_after before place access = record {
+  manager = place;
+  txn = record { number = length (issued before) + 1; write = access.write; request = request_of access; after = (count_of place before).awaited };
+  bytes = access.bytes;
+}
+
+-- the transactions of further orders
+abbrev pub items_after : List Order → List Order → List TrafficItem
+items_after before [] = []
+items_after before (Holds place ∷ more) = items_after (before ++ Holds place ∷ []) more
+items_after before (Issues place access ∷ more) = item_after before place access ∷ items_after (before ++ Issues place access ∷ []) more
+
+-- the transactions of all lines
+abbrev pub traffic_of : List ManagerPort → List (List ℕ) → List TrafficItem
+traffic_of managers lines = items_after [] (orders_of managers lines)
+
+-- why the lines are refused: for one of them, or, where none is refused, because they ask for too much
+abbrev pub refusal_of : List ManagerPort → List (List ℕ) → Option TrafficFault
+refusal_of managers lines =
+    option_or (least_fault managers 1 lines) (if is_too_much (issued (orders_of managers lines)) then Some TooMuchTraffic else None)
+
+-- a fault is why lines are refused; memory is wanting only where they aren't
+abbrev pub IsRefusal : Option TrafficFault → TrafficFault → Type 0
+IsRefusal refusal NoMemory = refusal ≡ None
+IsRefusal refusal fault = refusal ≡ Some fault

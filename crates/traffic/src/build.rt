@@ -1,0 +1,185 @@
+//! The transactions that lines ask for, made one by one.
+
+ghost use Rattle.std.specs.Prelude.{◌≡◌, ◌+◌, ◌-◌, ◌<◌, ◌≤◌, ◌++◌, ◌^◌, [], ◌∷◌, All, length, IfOk, IfSome, OnOk, replicate};
+ghost use Rattle.std.specs.List.{AllByRecursion};
+ghost use Rattle.plain_text.specs.Lines.{lines};
+ghost use Rattle.traffic.specs.Inside.{item_view, items_view};
+ghost use Rattle.traffic.specs.Orders.{order_of, orders_of};
+ghost use Rattle.traffic.specs.Seen.{access_seen, order_seen};
+ghost use Rattle.traffic.specs.Steps.{counts_after, counts_by, item_of, items_by, items_of, IsFitting};
+ghost use Rattle.traffic.specs.Traffic.{held, none_yet, one_more, traffic_of};
+
+use crate::data::push_data;
+use crate::fault::request_of;
+use crate::line::TextAccess;
+use crate::order::{TextOrder, read_order};
+use crate::port::ManagerPort;
+use axi_beats::NoMemory;
+use manager_end::{Txn, WriteByte};
+use plain_text::lines::next_line;
+use std::alloc::Global;
+
+/// Of a manager: how many transactions it has, and how many of them stand before its latest `wait`
+/// line.
+#[derive(Debug, Clone, Copy, PartialEq, Eq)]
+pub(crate) struct Count {
+    pub all: u32,
+    pub awaited: u32,
+}
+
+/// A transaction, the place of its manager, and its bytes.
+#[derive(Drop)]
+pub(crate) struct Item {
+    pub manager: u32,
+    pub txn: Txn,
+    pub bytes: Vec<WriteByte>,
+}
+
+/// The transactions that all lines ask for.
+pub(crate) fn collect_items(
+    alloc: Global,
+    text: &[u8],
+    managers: &[ManagerPort<'_>],
+) -> Result<Vec<Item>, NoMemory>
+    requires short { length text.now ≤ 16777216 }
+    requires managers { length managers.now < 2 ^ 32 }
+    requires fits { AllByRecursion (IsFitting (length managers.now)) (orders_of managers.now (lines text.now)) }
+    ensures { IfOk result (λ items. items_view items.items ≡ traffic_of managers.now (lines text.now)) }
+{
+    let mut counts = no_counts(alloc, managers.len())?;
+    let mut items = Vec::new(alloc);
+    let mut rest = text;
+    while !rest.is_empty() {
+        let (line, more) = next_line(rest);
+        add_line(alloc, &mut items, &mut counts, line, managers)?;
+        rest = more;
+    }
+    Ok(items)
+}
+
+// The counts of so many managers, none of which has a transaction.
+fn no_counts(alloc: Global, managers: usize) -> Result<Vec<Count>, NoMemory>
+    ensures { IfOk result (λ counts. counts.items ≡ replicate managers none_yet) }
+{
+    let mut counts = Vec::new(alloc);
+    counts.resize(managers, Count { all: 0, awaited: 0 })?;
+    Ok(counts)
+}
+
+// Adds what a line asks for, if it asks for anything.
+fn add_line(
+    alloc: Global,
+    items: &mut Vec<Item>,
+    counts: &mut Vec<Count>,
+    line: &[u8],
+    managers: &[ManagerPort<'_>],
+) -> Result<(), NoMemory>
+    requires fits { IfSome (order_of managers.now line.now) (IsFitting (length counts.old.items)) }
+    requires managers { length counts.old.items < 2 ^ 32 }
+    requires short { length items.old.items < 2 ^ 32 - 1 }
+    requires small { All (λ count. count.all ≤ length items.old.items) counts.old.items }
+    ensures items { OnOk result (items_view items.new.items ≡ items_view items.old.items ++ items_by counts.old.items (length items.old.items + 1) (order_of managers.now line.now)) }
+    ensures counts { OnOk result (counts.new.items ≡ counts_by counts.old.items (order_of managers.now line.now)) }
+{
+    match read_order(line, managers) {
+        Some(order) => add_order(alloc, items, counts, &order),
+        None => Ok(()),
+    }
+}
+
+// Adds what an order gives, and counts it.
+fn add_order(
+    alloc: Global,
+    items: &mut Vec<Item>,
+    counts: &mut Vec<Count>,
+    order: &TextOrder<'_>,
+) -> Result<(), NoMemory>
+    requires fits { IsFitting (length counts.old.items) (order_seen order.now) }
+    requires managers { length counts.old.items < 2 ^ 32 }
+    requires short { length items.old.items < 2 ^ 32 - 1 }
+    requires small { All (λ count. count.all ≤ length items.old.items) counts.old.items }
+    ensures items { OnOk result (items_view items.new.items ≡ items_view items.old.items ++ items_of counts.old.items (length items.old.items + 1) (order_seen order.now)) }
+    ensures counts { OnOk result (counts.new.items ≡ counts_after counts.old.items (order_seen order.now)) }
+{
+    match order {
+        TextOrder::Hold(place) => {
+            counts[*place] = held(counts[*place]);
+            Ok(())
+        }
+        TextOrder::Issue(place, access) => {
+            let number = items.len() as u32 + 1;
+            let after = counts[*place].awaited;
+            counts[*place] = one_more(counts[*place]);
+            let item = make_item(alloc, number, after, *place as u32, access)?;
+            push_item(items, item)
+        }
+    }
+}
+
+// The count after a `wait` line.
+fn held(count: Count) -> Count
+    ensures { result ≡ held count }
+{
+    Count {
+        all: count.all,
+        awaited: count.all,
+    }
+}
+
+// The count after one more transaction.
+fn one_more(count: Count) -> Count
+    requires { count.all < 2 ^ 32 - 1 }
+    ensures { result ≡ one_more count }
+{
+    Count {
+        all: count.all + 1,
+        awaited: count.awaited,
+    }
+}
+
+// A transaction with this number, for which so many others are awaited.
+fn make_item(
+    alloc: Global,
+    number: u32,
+    after: u32,
+    manager: u32,
+    access: &TextAccess<'_>,
+) -> Result<Item, NoMemory>
+    requires { access.now.beats - 1 ≤ 255 }
+    ensures { IfOk result (λ item. item_view item ≡ item_of number after manager (access_seen access.now)) }
+{
+    let len = access.beats.saturating_sub(1) as u8;
+    let txn = Txn {
+        number,
+        write: access.write,
+        request: request_of(access, len),
+        after,
+    };
+    let bytes = access_bytes(alloc, access)?;
+    Ok(Item {
+        manager,
+        txn,
+        bytes,
+    })
+}
+
+// The bytes that an access names: those of a write's data words, and none of a read.
+fn access_bytes(alloc: Global, access: &TextAccess<'_>) -> Result<Vec<WriteByte>, NoMemory>
+    ensures { IfOk result (λ bytes. bytes.items ≡ (access_seen access.now).bytes) }
+{
+    let mut bytes = Vec::new(alloc);
+    if access.write {
+        push_data(&mut bytes, access.data)?;
+    }
+    Ok(bytes)
+}
+
+// Adds an item.
+fn push_item(items: &mut Vec<Item>, item: Item) -> Result<(), NoMemory>
+    ensures { OnOk result (items_view items.new.items ≡ items_view items.old.items ++ item_view item ∷ []) }
+{
+    match items.push(item) {
+        Ok(()) => Ok(()),
+        Err(_) => Err(NoMemory),
+    }
+}

@@ -1,0 +1,25 @@
+//! The reader of traffic: the lines that say what the managers of a network write and read, and in
+//! which order.
+//!
+//! [`read_traffic`] accepts exactly the texts that the definitions of `specs/` accept, and answers
+//! their transactions; else it answers the fault with the least code, of the first line that has it.
+#![tactic(auto)]
+
+mod build;
+mod data;
+mod fault;
+mod laws;
+mod line;
+mod order;
+mod port;
+mod read;
+#[cfg(test)]
+mod tests;
+mod transactions;
+
+pub use fault::TrafficFault;
+pub use laws::{accepted_traffic_suits, least_is_told};
+pub use order::{MOST_BEATS, MOST_TRANSACTIONS};
+pub use port::ManagerPort;
+pub use read::read_traffic;
+pub use transactions::Traffic;

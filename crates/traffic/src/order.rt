@@ -1,0 +1,64 @@
+//! What lines ask of the managers, and how much it is.
+
+ghost use Rattle.std.specs.Prelude.{◌≡◌, ◌<◌, length, option_map, IfSome};
+ghost use Rattle.plain_text.specs.Lines.{lines};
+ghost use Rattle.traffic.specs.Orders.{is_too_much, issued, order_of, orders_of};
+ghost use Rattle.traffic.specs.Seen.{order_seen};
+
+use crate::line::{TextAccess, TextLine, read_line};
+use crate::port::{ManagerPort, place_of};
+use plain_text::lines::next_line;
+
+/// How many transactions a traffic has at most.
+pub const MOST_TRANSACTIONS: u64 = 16_384;
+
+/// How many beats a traffic has at most.
+pub const MOST_BEATS: u64 = 262_144;
+
+/// What a line asks of the manager at a place.
+#[derive(Debug, Clone, Copy)]
+pub(crate) enum TextOrder<'a> {
+    /// Its later transactions wait for those before the line.
+    Hold(usize),
+    /// It issues a transaction.
+    Issue(usize, TextAccess<'a>),
+}
+
+/// What the line asks, or `None` where it asks nothing, is of none of the forms or names no manager.
+#[tactic(auto, unfolding(crate::specs::Orders::order_of))]
+pub(crate) fn read_order<'a>(line: &'a [u8], managers: &[ManagerPort<'_>]) -> Option<TextOrder<'a>>
+    ensures { option_map order_seen result ≡ order_of managers.now line.now }
+{
+    match read_line(line)? {
+        TextLine::Nothing => None,
+        TextLine::Wait(name) => {
+            let place = place_of(managers, name)?;
+            Some(TextOrder::Hold(place))
+        }
+        TextLine::Burst(access) => {
+            let place = place_of(managers, access.start.manager)?;
+            Some(TextOrder::Issue(place, access))
+        }
+    }
+}
+
+/// Whether the lines ask for over 16,384 transactions or over 262,144 beats.
+pub(crate) fn is_too_much(text: &[u8], managers: &[ManagerPort<'_>]) -> bool
+    ensures { result ≡ is_too_much (issued (orders_of managers.now (lines text.now))) }
+{
+    let mut bursts: u64 = 0;
+    let mut beats: u64 = 0;
+    let mut rest = text;
+    while !rest.is_empty() {
+        let (line, more) = next_line(rest);
+        if let Some(TextOrder::Issue(_, access)) = read_order(line, managers) {
+            if bursts == MOST_TRANSACTIONS || access.beats > MOST_BEATS - beats {
+                return true;
+            }
+            bursts += 1;
+            beats += access.beats;
+        }
+        rest = more;
+    }
+    false
+}

@@ -1,0 +1,38 @@
+//! The managers that the lines of a traffic can name.
+
+ghost use Rattle.std.specs.Prelude.{◌≡◌, ◌<◌, All, IfSome, length};
+ghost use Rattle.traffic.specs.Ports.{IsPort, place_of, port_of};
+
+use plain_text::words::is_word;
+
+/// What the reader knows of a manager.
+#[derive(Debug, Clone, Copy)]
+pub struct ManagerPort<'a> {
+    /// The name that lines call it by.
+    pub name: &'a str,
+    /// The width of its bus in bytes: 4, 8, 16, 32, 64 or 128.
+    pub bus: u8,
+    /// The width of its IDs in bits, at most 32.
+    pub id_width: u8,
+}
+
+/// The place of the first manager of this name.
+pub(crate) fn place_of(managers: &[ManagerPort<'_>], name: &[u8]) -> Option<usize>
+    ensures place { result ≡ place_of managers.now name.now }
+    ensures inside { IfSome result (λ place. place < length managers.now) }
+{
+    managers
+        .iter()
+        .position(|manager| is_word(manager.name.as_bytes(), name))
+}
+
+/// The first manager of this name.
+#[tactic(auto, unfolding(crate::specs::Ports::port_of))]
+pub(crate) fn port_of<'a>(managers: &[ManagerPort<'a>], name: &[u8]) -> Option<ManagerPort<'a>>
+    requires { All IsPort managers.now }
+    ensures found { result ≡ port_of managers.now name.now }
+    ensures port { IfSome result IsPort }
+{
+    let place = place_of(managers, name)?;
+    managers.get(place).copied()
+}
