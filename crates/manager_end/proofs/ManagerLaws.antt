@@ -1,14 +1,14 @@
 -- The laws of the manager's table.
 use Rattle.std.proofs.Common.{◌≡◌, ◌≢◌, ℕ, ◌+◌, ◌<◌, ◌≤◌, ◌==◌, ◌&&◌, suc, Bool, true, false, cond, List, [], ◌∷◌, ◌++◌, Option, Some, None, length, map, take, drop, get_or, refl, sym, ◌∙◌, ap, subst, arith, add-zero, zero-add, length-append}
 use Rattle.std.specs.List.{enumerate_from}
-use Rattle.std.specs.Prelude.{All, filter, find, is_some, nat_lt, not, slice_get}
+use Rattle.std.specs.Prelude.{All, count_by, filter, find, is_some, nat_lt, not, slice_get}
 use Rattle.std.specs.Option.{option_map}
-use Rattle.std.proofs.lemmas.Bool.{ltb-true, and_parts, not-true}
+use Rattle.std.proofs.lemmas.Bool.{eqb-true, ltb-true, and_parts, not-true}
 use Rattle.std.proofs.lemmas.List.Elements.{All-cons, All-head, All-tail, All-map, All-filter, All-weaker, filter_passes}
 use Rattle.std.proofs.lemmas.List.FromFn.{length-enumerate_from, get_or-enumerate_from}
 use Rattle.std.proofs.lemmas.List.Sums.{sum_by-le}
 use Rattle.std.proofs.lemmas.List.{get_or-map, get_or_default, length-map}
-use Rattle.std.proofs.lemmas.Option.{slice_get_within}
+use Rattle.std.proofs.lemmas.Option.{slice_get_within, slice_get-get_or}
 use Rattle.axi_beats.specs.declared.beat.BBeat.{BBeat}
 use Rattle.axi_beats.specs.declared.beat.RBeat.{RBeat}
 use Rattle.axi_beats.specs.Word.{IsBusWidth}
@@ -18,41 +18,15 @@ use Rattle.axi_link.specs.Table.{link_of, head_of, has_room, passing, put_of, ta
 use Rattle.flight.specs.Entries.{without_oldest}
 use Rattle.manager_end.specs.Answer.{AnswerView, unanswered}
 use Rattle.manager_end.specs.Beats.{request_of, data_of}
-use Rattle.manager_end.specs.Laws.{ManagerBegins, ManagerMovesFit}
-use Rattle.manager_end.specs.ManagerState.{ManagerState, is_answered, IsManager, IsUnanswered, AreWaiting, AreDistinct, waiting, writes_of, reads_of, due_bytes}
+use Rattle.manager_end.specs.Laws.{DoneIsAnswered, ManagerBegins, ManagerMovesFit}
+use Rattle.manager_end.specs.ManagerState.{ManagerState, answered_one, is_answered, IsManager, IsUnanswered, AreWaiting, AreDistinct, waiting, writes_of, reads_of, due_bytes}
 use Rattle.manager_end.specs.ManagerTable.{below, answering, left_waiting, with_issued, more, note_write, note_read, note_issue, ready, fits, manager_aw, manager_w, manager_ar, manager_b, manager_r, manager_next}
 use Rattle.manager_end.specs.Script.{ScriptItem}
 use Rattle.manager_end.specs.declared.entry.Entry.{Entry}
+use Rattle.manager_end.proofs.IssueLemmas.{issues-begin, issues-stay}
+use Rattle.manager_end.proofs.ListLemmas.{all-counted}
+use Rattle.manager_end.proofs.RowLemmas.{All-middle, answering-found, aw-next, aw-fits, ar-next, ar-fits, w-issued, bus-some}
 use Rattle.manager_end.proofs.WaitingLemmas.{AreKept, kept-turned, kept-answered, kept-issued, oldest-id, waiting-issued, waiting-next}
-
-module _ {X : Type 0} where
-  -- what passes is there, and its condition holds
-  pub passing-some : (b : Bool) (o : Option X) (x : X) → passing b o ≡ Some x → (b ≡ true) × (o ≡ Some x)
-  passing-some true o x is = (refl, is)
-  passing-some false o x is = absurd (cc)
-
-  -- an answer is that of the oldest entry of its ID
-  pub answering-found : (id_of : X → ℕ) (entries : List Entry) (head : Option X) (answer : Entry × X) → answering id_of entries head ≡ Some answer → find (λ (entry : Entry). entry.id == answer.0.id) entries ≡ Some answer.0
-  answering-found id_of entries None answer is = absurd (cc)
-  answering-found id_of entries (Some head) answer is =
-      let go : (oldest : Option Entry) → find (λ (entry : Entry). entry.id == id_of head) entries ≡ oldest → option_map (λ (entry : Entry). (entry, head)) oldest ≡ Some answer → find (λ (entry : Entry). entry.id == answer.0.id) entries ≡ Some answer.0 =
-      elim [
-        | None ↦ λ found none. absurd (cc)
-        | Some entry ↦ λ found some.
-            let same : (entry, head) ≡ answer = cc
-            in subst (λ (a : Entry × X). find (λ (e : Entry). e.id == a.0.id) entries ≡ Some a.0) same
-            (subst (λ (id : ℕ). find (λ (e : Entry). e.id == id) entries ≡ Some entry) (sym (oldest-id (id_of head) entries entry found)) found)
-      ]
-      in go (find (λ (entry : Entry). entry.id == id_of head) entries) refl is
-
--- the next transaction that is ready is the next one
-pub ready-some : (answered : ℕ) (o : Option (ℕ × ScriptItem)) (next : ℕ × ScriptItem) → ready answered o ≡ Some next → o ≡ Some next
-ready-some answered None next is = absurd (cc)
-ready-some answered (Some x) next is = (passing-some _ (Some x) next is).1
-
-All-middle : (P : ℕ → Type 0) (xs ys : List ℕ) (y : ℕ) → All P (xs ++ y ∷ ys) → P y
-All-middle P [] ys y all = All-head P y ys all
-All-middle P (x ∷ xs) ys y all = All-middle P xs ys y (All-tail P x (xs ++ y ∷ ys) all)
 
 -- B in a round
 kept-b : (n m size round : ℕ) (answers : List AnswerView) (answered : ℕ) (entries : List Entry) (others own : List ℕ) (o : Option (Entry × BBeat)) → 0 < round → n ≢ m → ((a : Entry × BBeat) → o ≡ Some a → find (λ (entry : Entry). entry.id == a.0.id) entries ≡ Some a.0) → AreKept n m size answers answered (map (λ (entry : Entry). entry.place) entries ++ own) others → AreKept n m size (note_write round o answers) (answered + more (is_some o)) (map (λ (entry : Entry). entry.place) (left_waiting o entries) ++ own) others
@@ -103,25 +77,7 @@ module _ {X : Type 0} where
       in let one = length-append (left_waiting gone entries) (record { place = x.0; id = x.1.txn.request.id } ∷ [])
       in omega (arith, waiting-most entries gone, one)
 
-bus-some : (bus : ℕ) → IsBusWidth bus → bus ≢ 0
-bus-some bus is none = let wide : IsBusWidth 0 = subst IsBusWidth none is in absurd (cc)
-
 module _ (links : List LinkView) (s : ManagerState) where
-  aw-next : (next : ℕ × ScriptItem) → manager_aw links s ≡ Some next → slice_get (writes_of s.script) s.issued_writes ≡ Some next
-  aw-next next is = ready-some s.answered (slice_get (writes_of s.script) s.issued_writes) next (passing-some _ (ready s.answered (slice_get (writes_of s.script) s.issued_writes)) next is).1
-
-  aw-fits : (next : ℕ × ScriptItem) → manager_aw links s ≡ Some next → length s.write_entries < 16
-  aw-fits next is = ltb-true (length s.write_entries) 16 (and_parts (fits s.write_entries) _ (passing-some _ (ready s.answered (slice_get (writes_of s.script) s.issued_writes)) next is).0).0
-
-  ar-next : (next : ℕ × ScriptItem) → manager_ar links s ≡ Some next → slice_get (reads_of s.script) s.issued_reads ≡ Some next
-  ar-next next is = ready-some s.answered (slice_get (reads_of s.script) s.issued_reads) next (passing-some _ (ready s.answered (slice_get (reads_of s.script) s.issued_reads)) next is).1
-
-  ar-fits : (next : ℕ × ScriptItem) → manager_ar links s ≡ Some next → length s.read_entries < 16
-  ar-fits next is = ltb-true (length s.read_entries) 16 (and_parts (fits s.read_entries) _ (passing-some _ (ready s.answered (slice_get (reads_of s.script) s.issued_reads)) next is).0).0
-
-  w-issued : (next : ℕ × ScriptItem) → manager_w links s ≡ Some next → s.sent_writes < s.issued_writes
-  w-issued next is = ltb-true s.sent_writes s.issued_writes (and_parts (nat_lt s.sent_writes s.issued_writes) _ (passing-some _ (slice_get (writes_of s.script) s.sent_writes) next is).0).0
-
   at-start : IsManager s → AreKept 0 s.bus (length s.script) s.answers s.answered (waiting s.write_entries s.issued_writes (writes_of s.script)) (waiting s.read_entries s.issued_reads (reads_of s.script))
   at-start is = record { own_waiting = is.writes_waiting; other_waiting = is.reads_waiting; counted = is.counted; one_each = is.one_each }
 
@@ -136,21 +92,22 @@ module _ (links : List LinkView) (s : ManagerState) where
   -- what holds of a manager holds after a round
   pub manager-stays : (round : ℕ) → 0 < round → IsManager s → IsManager (manager_next round links s)
   manager-stays round counts is =
-      let after_aw = kept-a 0 s.bus (length s.script) round _ _ (left_waiting (manager_b links s) s.write_entries) s.issued_writes (writes_of s.script) _ (manager_aw links s) aw-next (kept-turned s.bus 0 (length s.script) _ _ _ _ (after-r round counts is))
-      in let after_ar = kept-a s.bus 0 (length s.script) round _ _ (left_waiting (manager_r links s) s.read_entries) s.issued_reads (reads_of s.script) _ (manager_ar links s) ar-next (kept-turned 0 s.bus (length s.script) _ _ _ _ after_aw)
+      let after_aw = kept-a 0 s.bus (length s.script) round _ _ (left_waiting (manager_b links s) s.write_entries) s.issued_writes (writes_of s.script) _ (manager_aw links s) (aw-next links s) (kept-turned s.bus 0 (length s.script) _ _ _ _ (after-r round counts is))
+      in let after_ar = kept-a s.bus 0 (length s.script) round _ _ (left_waiting (manager_r links s) s.read_entries) s.issued_reads (reads_of s.script) _ (manager_ar links s) (ar-next links s) (kept-turned 0 s.bus (length s.script) _ _ _ _ after_aw)
       in record {
         is_script = is.is_script;
         bus_width = is.bus_width;
         words = is.words;
-        writes_issued = issued-most s.issued_writes (writes_of s.script) (manager_aw links s) aw-next is.writes_issued;
-        reads_issued = issued-most s.issued_reads (reads_of s.script) (manager_ar links s) ar-next is.reads_issued;
-        writes_sent = sent-most s.sent_writes s.issued_writes (more (is_some (manager_aw links s))) (manager_w links s) w-issued is.writes_sent;
-        writes_fit = fit-most s.write_entries (manager_aw links s) (manager_b links s) aw-fits is.writes_fit;
-        reads_fit = fit-most s.read_entries (manager_ar links s) (manager_r links s) ar-fits is.reads_fit;
+        writes_issued = issued-most s.issued_writes (writes_of s.script) (manager_aw links s) (aw-next links s) is.writes_issued;
+        reads_issued = issued-most s.issued_reads (reads_of s.script) (manager_ar links s) (ar-next links s) is.reads_issued;
+        writes_sent = sent-most s.sent_writes s.issued_writes (more (is_some (manager_aw links s))) (manager_w links s) (w-issued links s) is.writes_sent;
+        writes_fit = fit-most s.write_entries (manager_aw links s) (manager_b links s) (aw-fits links s) is.writes_fit;
+        reads_fit = fit-most s.read_entries (manager_ar links s) (manager_r links s) (ar-fits links s) is.reads_fit;
         one_each = after_ar.one_each;
         writes_waiting = after_ar.other_waiting;
         reads_waiting = after_ar.own_waiting;
         counted = after_ar.counted;
+        issues = issues-stay links s round counts is;
       }
 
 module _ {X : Type 0} where
@@ -211,6 +168,7 @@ manager-begins script lower bus is_script wide words = record {
   counted =
       let none = sum_by-le (λ (a : AnswerView). cond (is_answered a) 1 0) 0 (map (λ (item : ScriptItem). unanswered (due_bytes bus item.txn)) script) (All-map (λ (a : AnswerView). cond (is_answered a) 1 0 ≤ 0) (λ (item : ScriptItem). unanswered (due_bytes bus item.txn)) script (λ k d lt. omega arith))
       in omega arith;
+  issues = issues-begin script lower bus;
 }
 
 module _ (links : List LinkView) (number : ℕ) where
@@ -250,3 +208,12 @@ manager-fits links s = record {
   r_take = take-fits links s.lower (λ l. l.r) (is_some (manager_r links s)) (answering-head links s.lower (λ l. l.r) (λ beat. beat.id) s.read_entries (below links s).r);
   r_put = tt;
 }
+
+-- a manager that is done has an answer to each transaction
+pub manager-done : DoneIsAnswered
+manager-done s is done n within =
+    let whole : s.answered ≡ length s.script = eqb-true s.answered (length s.script) done
+    in let all : count_by is_answered s.answers ≡ length s.answers = sym is.counted ∙ whole ∙ sym is.one_each
+    in let at = slice_get-get_or s.answers n (unanswered 0) (subst (λ (size : ℕ). n < size) (sym is.one_each) within)
+    in let came = all-counted is_answered s.answers n (get_or s.answers n (unanswered 0)) all at
+    in ap (λ (o : Option AnswerView). is_some (answered_one o)) at ∙ ap (λ (b : Bool). is_some (cond b (Some (get_or s.answers n (unanswered 0))) None)) came

@@ -1,9 +1,9 @@
 -- What holds of the manager's table, whatever the links bring.
-use Rattle.std.specs.Prelude.{◌<◌, ℕ, List, All}
+use Rattle.std.specs.Prelude.{◌≡◌, ◌<◌, ℕ, List, true, All, IsSome, length}
 use Rattle.axi_beats.specs.Word.{IsWholeWord, IsBusWidth}
 use Rattle.axi_link.specs.Fits.{MovesFit}
 use Rattle.axi_link.specs.LinkView.{LinkView}
-use Rattle.manager_end.specs.ManagerState.{ManagerState, IsManager, new_manager}
+use Rattle.manager_end.specs.ManagerState.{ManagerState, IsManager, answer_of, is_done, new_manager}
 use Rattle.manager_end.specs.ManagerTable.{manager_next, manager_out}
 use Rattle.manager_end.specs.Script.{ScriptItem, IsScript}
 
@@ -20,3 +20,7 @@ ManagerBegins =
 -- what holds of a manager holds after a round
 abbrev pub ManagerStays : Type 0
 ManagerStays = (round : ℕ) (links : List LinkView) (s : ManagerState) → 0 < round → IsManager s → IsManager (manager_next round links s)
+
+-- a manager that is done has an answer to each transaction
+abbrev pub DoneIsAnswered : Type 0
+DoneIsAnswered = (s : ManagerState) → IsManager s → is_done s ≡ true → (n : ℕ) → n < length s.script → IsSome (answer_of s n)

@@ -1,12 +1,11 @@
 -- The rounds that a manager notes: each issue and each answer in its place, whatever the link brings.
 -- (Arm IHI 0022, transaction ordering.)
-use Rattle.std.specs.Prelude.{◌≡◌, ◌<◌, ◌≤◌, ◌⊎◌, ℕ, suc, List, Some, All, slice_get, slice_index_or}
-use Rattle.axi_beats.specs.Word.{IsBusWidth, IsWholeWord}
+use Rattle.std.specs.Prelude.{◌≡◌, ◌<◌, ◌≤◌, ◌⊎◌, ℕ, Bool, List, Some, filter, map, not, slice_get, slice_index_or, take}
 use Rattle.axi_link.specs.LinkView.{LinkView}
 use Rattle.manager_end.specs.Answer.{AnswerView, unanswered}
-use Rattle.manager_end.specs.ManagerState.{ManagerState, IsManager, new_manager}
+use Rattle.manager_end.specs.ManagerState.{ManagerState, IsManager, entries_of, entry_of, is_answered, issued_of, of_direction}
 use Rattle.manager_end.specs.ManagerTable.{manager_next}
-use Rattle.manager_end.specs.Script.{ScriptItem, IsScript}
+use Rattle.manager_end.specs.Script.{ScriptItem}
 
 -- what is noted of the transaction at a place of the script
 abbrev pub note_at : ManagerState → ℕ → AnswerView
@@ -41,6 +40,8 @@ pub record AreInOrder (rounds : ℕ) (s : ManagerState) : Type 0 where
   pub issues : (earlier later : ℕ) → AreOfDirection s earlier later → 0 < (note_at s later).issued → (0 < (note_at s earlier).issued) × ((note_at s earlier).issued < (note_at s later).issued)
   -- those of one ID are answered in their order
   pub answers : (earlier later : ℕ) → AreOfId s earlier later → 0 < (note_at s later).answered → (0 < (note_at s earlier).answered) × ((note_at s earlier).answered < (note_at s later).answered)
+  -- those wait for their answers that are issued and not answered, in their order
+  pub waiting : (write : Bool) → entries_of write s ≡ map entry_of (filter (λ p. not (is_answered (note_at s p.0))) (take (issued_of write s) (of_direction write s.script)))
   -- a transaction is issued after the first ones of the script were answered that it waits for
   pub waits :
       (before place : ℕ) (item : ScriptItem) → IsAt s place item → before < item.txn.after → 0 < (note_at s place).issued →

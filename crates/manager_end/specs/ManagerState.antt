@@ -1,5 +1,5 @@
 -- What a manager keeps.
-use Rattle.std.specs.Prelude.{◌≡◌, ◌≢◌, ◌==◌, ◌<◌, ◌≤◌, ◌++◌, ◌∷◌, [], ℕ, List, Bool, true, false, Option, Some, None, All, length, map, drop, filter, count_by, not, nat_lt, slice_get, slice_index_or, if◌then◌else◌}
+use Rattle.std.specs.Prelude.{◌≡◌, ◌≢◌, ◌↔◌, ◌==◌, ◌<◌, ◌≤◌, ◌++◌, ◌∷◌, [], ℕ, List, Bool, true, false, Option, Some, None, All, length, map, drop, filter, count_by, not, nat_lt, slice_get, slice_index_or, if◌then◌else◌}
 use Rattle.std.specs.List.{enumerate_from}
 use Rattle.axi_beats.specs.Word.{IsWholeWord, IsBusWidth}
 use Rattle.axi_link.specs.LinkView.{LinkView}
@@ -78,6 +78,20 @@ pub record CanManager (round : ℕ) (links : List LinkView) (s : ManagerState) :
   pub counted : 0 < round
   pub linked : s.lower < length links
 
+-- how many transactions of a direction are issued
+abbrev pub issued_of : Bool → ManagerState → ℕ
+issued_of true s = s.issued_writes
+issued_of false s = s.issued_reads
+
+-- those of a direction that wait for their answers
+abbrev pub entries_of : Bool → ManagerState → List Entry
+entries_of true s = s.write_entries
+entries_of false s = s.read_entries
+
+-- the entry of an issued transaction
+abbrev pub entry_of : ℕ × ScriptItem → Entry
+entry_of p = record { place = p.0; id = p.1.txn.request.id }
+
 -- nothing came yet for a transaction: there is room for one response and for so many bytes
 pub record IsUnanswered (bytes : ℕ) (a : AnswerView) : Type 0 where
   pub answered : a.answered ≡ 0
@@ -102,9 +116,15 @@ pub record AreWaiting (bytes : ℕ) (answers : List AnswerView) (places : List �
   pub nothing_came : All (λ place. IsUnanswered bytes (slice_index_or answers place (unanswered 0))) places
   pub distinct : AreDistinct places
 
+-- of each direction the first transactions are noted as issued, as many as are issued, and the others aren't
+abbrev pub NotesIssues : ManagerState → Type 0
+NotesIssues s =
+    (write : Bool) (n : ℕ) (next : ℕ × ScriptItem) → slice_get (of_direction write s.script) n ≡ Some next →
+    (0 < (slice_index_or s.answers next.0 (unanswered 0)).issued) ↔ (n < issued_of write s)
+
 -- What holds of a manager in every round: it has a script of whole words of its bus; it issued no more than that,
 -- and sent no more data than it issued writes; at most 16 of a direction wait for their answers; nothing came for
--- those that wait; and it counted the answers.
+-- those that wait; it counted the answers; and it noted its issues.
 pub record IsManager (s : ManagerState) : Type 0 where
   pub is_script : IsScript s.script
   pub bus_width : IsBusWidth s.bus
@@ -118,3 +138,4 @@ pub record IsManager (s : ManagerState) : Type 0 where
   pub writes_waiting : AreWaiting 0 s.answers (waiting s.write_entries s.issued_writes (writes_of s.script))
   pub reads_waiting : AreWaiting s.bus s.answers (waiting s.read_entries s.issued_reads (reads_of s.script))
   pub counted : s.answered ≡ count_by is_answered s.answers
+  pub issues : NotesIssues s

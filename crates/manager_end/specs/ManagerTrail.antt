@@ -6,14 +6,13 @@ use Rattle.axi_trail.specs.LinkContracts.{Asks, Answers, without_id}
 use Rattle.axi_trail.specs.Schedule.{Schedule, Share, Progress, SameChain, bytes_on}
 use Rattle.axi_trail.specs.Trail.{Beats, no_beats, joined, moved_above}
 use Rattle.axi_trail.specs.Waiting.{held, request_of}
-use Rattle.axi_trail.specs.Words.{number_of_address, number_of_response, number_of_read_data}
+use Rattle.axi_trail.specs.Words.{InOrderOfId, number_of_address, number_of_response, number_of_read_data, reads_asked, read_replies, writes_asked, write_replies}
 use Rattle.flight.specs.Entries.{of_key}
 use Rattle.manager_end.specs.Beats.{data_of, request_of as request_of_item}
 use Rattle.manager_end.specs.ManagerOrder.{AreInOrder, IsAt, note_at}
-use Rattle.manager_end.specs.ManagerState.{ManagerState, IsManager, new_manager, writes_of, reads_of}
+use Rattle.manager_end.specs.ManagerState.{ManagerState, IsManager, entry_of, new_manager, writes_of, reads_of}
 use Rattle.manager_end.specs.ManagerTable.{manager_next, manager_out}
 use Rattle.manager_end.specs.Script.{ScriptItem, IsScript}
-use Rattle.manager_end.specs.declared.entry.Entry.{Entry}
 
 -- the shares of a direction
 abbrev pub shares_of : Schedule → Bool → ℕ → Share
@@ -48,10 +47,6 @@ pub record IsPlanOf (plan : Schedule) (bus : ℕ) (script : List ScriptItem) : T
 abbrev pub held_items : List (ℕ × ScriptItem) → List ℕ → List (ℕ × ScriptItem)
 held_items issued ids = map request_of (held (λ (p : ℕ × ScriptItem). p.1.txn.request.len) (λ (p : ℕ × ScriptItem). p.1.txn.request.id) issued ids)
 
--- the entry of an issued transaction
-abbrev pub entry_of : ℕ × ScriptItem → Entry
-entry_of p = record { place = p.0; id = p.1.txn.request.id }
-
 -- What is noted of a write: the responses that came for it, and nothing else.
 pub record IsWriteNote (s : ManagerState) (trail : Beats) (place : ℕ) (item : ScriptItem) : Type 0 where
   pub issued : (0 < (note_at s place).issued) ↔ Contains (map number_of_address trail.aw) item.txn.number
@@ -76,6 +71,9 @@ pub record HasPassed (plan : Schedule) (s : ManagerState) (trail : Beats) : Type
   -- those wait that are held
   pub write_entries : s.write_entries ≡ map entry_of (held_items (take s.issued_writes (writes_of s.script)) (map (λ b. b.id) trail.b))
   pub read_entries : s.read_entries ≡ map entry_of (held_items (take s.issued_reads (reads_of s.script)) (map (λ r. r.id) trail.r))
+  -- what came, came in order
+  pub writes_in_order : InOrderOfId (writes_asked trail) (write_replies trail)
+  pub reads_in_order : InOrderOfId (reads_asked trail) (read_replies trail)
   -- what is noted has come
   pub write_notes : (place : ℕ) (item : ScriptItem) → IsAt s place item → item.txn.write ≡ true → IsWriteNote s trail place item
   pub read_notes : (place : ℕ) (item : ScriptItem) → IsAt s place item → item.txn.write ≡ false → IsReadNote plan s trail place item

@@ -1,6 +1,8 @@
 //! What holds of the manager's definitions alone.
 
-ghost use Rattle.manager_end.specs.Laws.{ManagerMovesFit, ManagerBegins, ManagerStays};
+ghost use Rattle.manager_end.specs.Laws.{DoneIsAnswered, ManagerMovesFit, ManagerBegins, ManagerStays};
+ghost use Rattle.manager_end.specs.ManagerOrder.{NotesStay};
+ghost use Rattle.manager_end.specs.ManagerTrail.{ManagerAsks, ManagerOpens, ManagerSteps};
 
 /// The laws of the manager's decision table.
 pub fn laws()
@@ -10,4 +12,22 @@ pub fn laws()
     // What holds of a manager holds at the start and after each round.
     ensures begins { ManagerBegins }
     ensures stays { ManagerStays }
+
+    // Where it is done, all is answered.
+    ensures done { DoneIsAnswered }
+{}
+
+/// The law of the rounds that a manager notes, whatever its link brings.
+pub fn laws_of_rounds()
+    ensures { NotesStay }
+{}
+
+/// The laws of a manager and of what it has passed on its link.
+pub fn laws_of_trails()
+    // Its invariant holds at the start, and after each round in which the link answers as it should.
+    ensures opens { ManagerOpens }
+    ensures steps { ManagerSteps }
+
+    // And it asks as it should.
+    ensures asks { ManagerAsks }
 {}

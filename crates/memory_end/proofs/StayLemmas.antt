@@ -32,12 +32,12 @@ module _ {X : Type 0} (P : X → Type 0) where
   all-tail x xs all k d lt = all (suc k) d (omega arith)
 
 -- bytes are written over, and nothing else changes
-record Keeps (before after : Store) : Type 0 where
-  lines : after.lines ≡ before.lines
-  size : length after.bytes ≡ length before.bytes
-  fill : after.fill ≡ before.fill
+pub record Keeps (before after : Store) : Type 0 where
+  pub lines : after.lines ≡ before.lines
+  pub size : length after.bytes ≡ length before.bytes
+  pub fill : after.fill ≡ before.fill
 
-written_at-keeps : (store : Store) (place : Option ℕ) (value : ℕ) → Keeps store (written_at store place value)
+pub written_at-keeps : (store : Store) (place : Option ℕ) (value : ℕ) → Keeps store (written_at store place value)
 written_at-keeps store None value = record { lines = refl; size = refl; fill = refl }
 written_at-keeps store (Some place) value = record { lines = refl; size = length-set store.bytes place value; fill = refl }
 
@@ -56,7 +56,7 @@ store_after-keeps : (config : MemoryConfig) (o : Option WBeat) (entries : List W
 store_after-keeps config None entries store = record { lines = refl; size = refl; fill = refl }
 store_after-keeps config (Some w) entries store = store_with-keeps config (oldest_lacking entries) w store
 
-store-stays : (before after : Store) → Keeps before after → IsStore before → IsStore after
+pub store-stays : (before after : Store) → Keeps before after → IsStore before → IsStore after
 store-stays before after same is = record {
   ascending = subst (λ (lines : List ℕ). AllPairs (λ a b. a < b) lines) (sym same.lines) is.ascending;
   whole = same.size ∙ is.whole ∙ ap (λ lines. 128 * length lines) (sym same.lines);

@@ -9,3 +9,4 @@ pub mod MemoryTrail
 pub mod Status
 pub mod Store
 pub mod StoreInside
+pub mod Tracks

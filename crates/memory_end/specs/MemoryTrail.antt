@@ -1,6 +1,6 @@
 -- What a memory has passed on its link and accessed, and what its state has to do with it (Arm IHI 0022, ordering
 -- model).
-use Rattle.std.specs.Prelude.{◌≡◌, ◌≢◌, ◌<◌, ◌++◌, ◌∷◌, [], ℕ, suc, List, Bool, true, false, IsTrue, All, AllPairs, Contains, length, map, flat_map, zip, if◌then◌else◌}
+use Rattle.std.specs.Prelude.{◌≡◌, ◌<◌, ◌++◌, ◌∷◌, [], ℕ, List, Bool, true, false, IsTrue, All, AllPairs, Contains, length, map, zip, if◌then◌else◌}
 use Rattle.axi_beats.specs.declared.beat.Addr.{Addr}
 use Rattle.axi_beats.specs.declared.beat.WBeat.{WBeat}
 use Rattle.axi_link.specs.LinkView.{LinkView}
@@ -8,7 +8,7 @@ use Rattle.axi_trail.specs.LinkContracts.{Asks, Answers}
 use Rattle.axi_trail.specs.Schedule.{Schedule, Share, Progress, ComesBefore, bytes_on}
 use Rattle.axi_trail.specs.Streams.{IsPrefix}
 use Rattle.axi_trail.specs.Trail.{Beats, no_beats, joined, moved_below}
-use Rattle.axi_trail.specs.Waiting.{Waiting, held, pending}
+use Rattle.axi_trail.specs.Waiting.{held}
 use Rattle.axi_trail.specs.Words.{number_of_address, number_of_data, number_of_read_data}
 use Rattle.flight.specs.Entries.{of_key}
 use Rattle.memory_end.specs.Accesses.{BeatOf, accesses_of, allowed_before, beats_of_parts, burst_status, due_reads, due_writes, filled_bytes, left_at, span_of}
@@ -18,9 +18,8 @@ use Rattle.memory_end.specs.MemoryState.{MemoryState, IsMemory, IsMemoryConfig, 
 use Rattle.memory_end.specs.MemoryTable.{CanMemory, memory_next, memory_out}
 use Rattle.memory_end.specs.Status.{is_inside}
 use Rattle.memory_end.specs.Store.{byte_at}
+use Rattle.memory_end.specs.Tracks.{TracksReads, TracksWrites, read_waiting, write_waiting}
 use Rattle.memory_end.specs.declared.config.MemoryConfig.{MemoryConfig}
-use Rattle.memory_end.specs.declared.entry.ReadEntry.{ReadEntry}
-use Rattle.memory_end.specs.declared.entry.WriteEntry.{WriteEntry}
 
 -- What is due of one transaction at a memory: data for each beat of its parts, and the responses and lanes that follow
 -- from its parts.
@@ -34,16 +33,6 @@ pub record SuitsShare (config : MemoryConfig) (writes reads : Share) : Type 0 wh
 abbrev pub Suits : MemoryConfig → Schedule → Type 0
 Suits config plan = (number : ℕ) → SuitsShare config (plan.writes number) (plan.reads number)
 
--- an open write waits for its response, an open read for its next beat, and a write that lacks data for its next one
-abbrev pub write_waiting : WriteEntry → Waiting Addr
-write_waiting entry = record { request = entry.request; done = 0 }
-
-abbrev pub read_waiting : ReadEntry → Waiting Addr
-read_waiting entry = record { request = entry.request; done = entry.put }
-
-abbrev pub data_waiting : WriteEntry → Waiting Addr
-data_waiting entry = record { request = entry.request; done = entry.taken }
-
 -- of a transaction that comes before another one in its chain, nothing is accessed after the first access of the other
 abbrev pub AccessesInOrder : (ℕ → Share) → Bool → List Access → Type 0
 AccessesInOrder shares write all =
@@ -55,6 +44,9 @@ pub record HasAccessed (plan : Schedule) (s : MemoryState) (trail : Beats) (all 
   -- the open writes and reads are those that are held
   pub writes_held : map write_waiting s.write_entries ≡ held (λ (a : Addr). 0) (λ (a : Addr). a.id) trail.aw (map (λ b. b.id) trail.b)
   pub reads_held : map read_waiting s.read_entries ≡ held (λ (a : Addr). a.len) (λ (a : Addr). a.id) trail.ar (map (λ r. r.id) trail.r)
+  -- the memory answers in order of the addresses, and its entries are what the trail makes of them
+  pub tracks_writes : TracksWrites s.config s.write_entries trail.aw trail.w trail.b
+  pub tracks_reads : TracksReads plan.reads s.read_entries trail.ar trail.r
   -- the accesses of a transaction are those of its beats that have come, and those of its answer's beats
   pub written : (number : ℕ) → map (λ (a : Access). a.byte) (accesses_of true number all) ≡ due_writes s.config (plan.writes number) (length (of_key number_of_data number trail.w))
   pub read : (number : ℕ) → map (λ (a : Access). a.byte.address) (accesses_of false number all) ≡ due_reads s.config (plan.reads number) (length (of_key number_of_read_data number trail.r))

@@ -15,8 +15,10 @@ mod reads;
 mod store;
 #[cfg(test)]
 mod tests;
+mod trail_laws;
 mod writes;
 
 pub use config::{MemoryConfig, Range};
 pub use memory::{Memory, crosses_threads};
 pub use memory_laws::laws;
+pub use trail_laws::laws_of_trails;

@@ -50,7 +50,8 @@ module _ (script : List ScriptItem) (run : RunFacts script) where
       sym (length-map (accesses_of true number (accesses_at script n)) (λ (a : Access). a.byte)) ∙ ap length ((run.keeps n).memory.accessed.written number)
       ∙ ap (λ (config : MemoryConfig). length (due_writes config ((plan_of script).writes number) (length (of_key number_of_data number (lower_trail script n).w)))) (run.config n)
 
-  pub reads-counted : (number n : ℕ) → length (accesses_of false number (accesses_at script n)) ≡ length (due_reads ram ((plan_of script).reads number) (length (of_key number_of_read_data number (lower_trail script n).r)))
+  reads-counted : (number n : ℕ) → length (accesses_of false number (accesses_at script n)) ≡ length (due_reads ram ((plan_of script).reads number) (read_count number n))
+  unfolding read_count
   reads-counted number n =
       sym (length-map (accesses_of false number (accesses_at script n)) (λ (a : Access). a.byte.address)) ∙ ap length ((run.keeps n).memory.accessed.read number)
       ∙ ap (λ (config : MemoryConfig). length (due_reads config ((plan_of script).reads number) (length (of_key number_of_read_data number (lower_trail script n).r)))) (run.config n)
@@ -64,7 +65,6 @@ module _ (script : List ScriptItem) (run : RunFacts script) where
       none-new true number (accesses_at script k) (round_accesses script k) (writes-counted number (suc k) ∙ ap length (sym same) ∙ sym (writes-counted number k))
 
   reads-over : (number n k : ℕ) → length (beats_of_parts ((plan_of script).reads number).parts) ≤ read_count number n → n ≤ k → accesses_of false number (round_accesses script k) ≡ []
-  unfolding read_count
   reads-over number n k all le =
       let before = read-grows number n k le in
       let next = read-grows number k (suc k) (omega arith) in

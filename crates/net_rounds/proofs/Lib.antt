@@ -1,4 +1,6 @@
 pub mod AnswerRounds
+pub mod AnsweredContent
+pub mod AnsweredOrder
 pub mod BoundLemmas
 pub mod BuiltInPlan
 pub mod Choosing
@@ -16,12 +18,14 @@ pub mod Numbers
 pub mod Pair
 pub mod PairLemmas
 pub mod PlanFacts
+pub mod RunAnswered
 pub mod RunFacts
 pub mod RunHistory
 pub mod RunKeeps
 pub mod RunLemmas
 pub mod RunRounds
 pub mod RunSteps
+pub mod RunsRight
 pub mod ScriptLemmas
 pub mod ScriptPlaces
 pub mod StoreStays

@@ -11,13 +11,10 @@ use Rattle.manager_end.specs.Answer.{AnswerView}
 use Rattle.manager_end.specs.Beats.{request_of}
 use Rattle.manager_end.specs.ManagerOrder.{Notes, note_at}
 use Rattle.manager_end.specs.ManagerState.{of_direction, reads_of, writes_of}
-use Rattle.manager_end.specs.ManagerTrail.{IsPlanOf}
 use Rattle.manager_end.specs.Script.{ScriptItem}
 use Rattle.memory_end.specs.Events.{Access}
-use Rattle.memory_end.specs.MemoryTrail.{Suits}
 use Rattle.net_rounds.proofs.BuiltInPlan.{accesses_at, links_at, lower_out, lower_trail, pair_at, plan_of, progress_at, upper_out, upper_trail}
 use Rattle.net_rounds.proofs.NodeLaws.{NodeLaws}
-use Rattle.net_rounds.proofs.PlanFacts.{plan-of-script, plan-suits}
 use Rattle.net_rounds.proofs.RunHistory.{round_accesses}
 use Rattle.net_rounds.proofs.RunKeeps.{RunKeeps}
 use Rattle.net_rounds.proofs.RunSteps.{asked-next, config-stays, link-runs, lower-next, run-keeps, script-stays}
@@ -40,11 +37,15 @@ pub record IsAskedFor (script : List ScriptItem) (n : ℕ) (a : Access) : Type 0
 
 pub record RunFacts (script : List ScriptItem) : Type 0 where
   pub traffic : IsNumberedTraffic script
+  -- after every round
   pub keeps : (n : ℕ) → RunKeeps script n
   pub config : (n : ℕ) → (pair_at script n).memory.state.config ≡ ram
   pub script_is : (n : ℕ) → (pair_at script n).manager.state.script ≡ script
+  -- the link's beats are moved by the two nodes
   pub link_runs : IsLinkRun 0 (links_at script) (upper_out script) (lower_out script)
+  -- what is noted stays in the next round
   pub notes : (n place : ℕ) → Notes (suc n) (note script n place) (note script (suc n) place)
+  -- what is accessed in the next round is of transactions that were issued by then
   pub asked : (n : ℕ) → All (IsAskedFor script n) (round_accesses script n)
 
 -- the addresses that the manager has put are those of the script's transactions
@@ -69,14 +70,8 @@ module _ (script : List ScriptItem) (write : Bool) where
       All-contains Put (map number_of_address addresses) number (All-map Put number_of_address addresses (subst (All (λ (a : Addr). IsPut a.tag.txn)) (sym are) each)) among
 
 module _ (laws : NodeLaws) (script : List ScriptItem) (traffic : IsNumberedTraffic script) where
-  planned : IsPlanOf (plan_of script) 4 script
-  planned = plan-of-script script traffic
-
-  suits : Suits ram (plan_of script)
-  suits = plan-suits script traffic
-
   keeps-of : (n : ℕ) → RunKeeps script n
-  keeps-of n = run-keeps laws script traffic planned suits n
+  keeps-of n = run-keeps laws script traffic n
 
   notes-of : (n place : ℕ) → Notes (suc n) (note script n place) (note script (suc n) place)
   notes-of n place = laws.notes_stay (suc n) (links_at script n) (pair_at script n).manager.state (omega arith) (keeps-of n).manager.is_manager place
@@ -85,10 +80,10 @@ module _ (laws : NodeLaws) (script : List ScriptItem) (traffic : IsNumberedTraff
   were-asked n =
       laws.accesses_were_asked (plan_of script) (progress_at script n) (links_at script n) (pair_at script n).memory.state (lower_trail script n) (accesses_at script n)
       (keeps-of n).memory (keeps-of n).asked_below
-      (subst (λ (trail : Beats). Asks (plan_of script) (progress_at script n) trail) (sym (lower-next laws script traffic planned suits n)) (asked-next laws script traffic planned suits n))
+      (subst (λ (trail : Beats). Asks (plan_of script) (progress_at script n) trail) (sym (lower-next laws script traffic n)) (asked-next laws script traffic n))
 
   script-at : (n : ℕ) → (pair_at script n).manager.state.script ≡ script
-  script-at n = script-stays laws script traffic planned suits n
+  script-at n = script-stays laws script traffic n
 
   -- an address at the lower end is one at the upper end
   asked-write : (n : ℕ) (a : Access) → a.write ≡ true → Contains (map number_of_address (lower_trail script n).aw) a.number → IsAskedFor script n a
@@ -140,9 +135,9 @@ module _ (laws : NodeLaws) (script : List ScriptItem) (traffic : IsNumberedTraff
   run-facts = record {
     traffic = traffic;
     keeps = keeps-of;
-    config = config-stays laws script traffic planned suits;
+    config = config-stays laws script traffic;
     script_is = script-at;
-    link_runs = link-runs laws script traffic planned suits;
+    link_runs = link-runs laws script traffic;
     notes = notes-of;
     asked = λ n k d lt. asked-by n _ (were-asked n k d lt);
   }

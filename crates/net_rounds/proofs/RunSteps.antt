@@ -14,11 +14,11 @@ use Rattle.axi_trail.specs.Trail.{Beats, IsLinkRun, joined, moved_above, moved_b
 use Rattle.manager_end.specs.Answer.{AnswerView, unanswered}
 use Rattle.manager_end.specs.ManagerOrder.{IsAt, note_at}
 use Rattle.manager_end.specs.ManagerTable.{manager_out}
-use Rattle.manager_end.specs.ManagerTrail.{IsPlanOf, ManagerKeeps, manager_trail}
+use Rattle.manager_end.specs.ManagerTrail.{ManagerKeeps, manager_trail}
 use Rattle.manager_end.specs.Script.{ScriptItem}
 use Rattle.memory_end.specs.MemoryState.{IsMemoryConfig}
 use Rattle.memory_end.specs.MemoryTable.{memory_out}
-use Rattle.memory_end.specs.MemoryTrail.{Knows, MemoryKeeps, Suits, memory_trail}
+use Rattle.memory_end.specs.MemoryTrail.{Knows, MemoryKeeps, memory_trail}
 use Rattle.memory_end.specs.declared.config.MemoryConfig.{MemoryConfig}
 use Rattle.net_rounds.proofs.BuiltInPlan.{accesses_at, is_noted_issued, links_at, lower_out, lower_trail, pair_at, plan_of, progress_at, upper_out, upper_trail}
 use Rattle.net_rounds.proofs.NetLemmas.{rounds-hold}
@@ -26,6 +26,7 @@ use Rattle.net_rounds.proofs.NetworkLemmas.{built_in_pair, pair_after-script}
 use Rattle.net_rounds.proofs.NodeLaws.{NodeLaws}
 use Rattle.net_rounds.proofs.Pair.{Pair, decided, moved, pair_after}
 use Rattle.net_rounds.proofs.PairLemmas.{PairHolds, can-memory}
+use Rattle.net_rounds.proofs.PlanFacts.{plan-of-script, plan-suits}
 use Rattle.net_rounds.proofs.RunKeeps.{RunKeeps}
 use Rattle.net_rounds.proofs.TouchedLemmas.{touched-ascending}
 use Rattle.net_rounds.specs.BuiltIn.{ram, touched_lines}
@@ -66,7 +67,7 @@ record NodesKeep (script : List ScriptItem) (n : ℕ) : Type 0 where
   manager : ManagerKeeps (plan_of script) n (pair_at script n).manager.state (upper_trail script n)
   memory : MemoryKeeps (plan_of script) (pair_at script n).memory.state (lower_trail script n) (accesses_at script n)
 
-module _ (laws : NodeLaws) (script : List ScriptItem) (traffic : IsNumberedTraffic script) (planned : IsPlanOf (plan_of script) 4 script) (suits : Suits ram (plan_of script)) where
+module _ (laws : NodeLaws) (script : List ScriptItem) (traffic : IsNumberedTraffic script) where
   pub link-runs : IsLinkRun 0 (links_at script) (upper_out script) (lower_out script)
   link-runs = record { depth = 2; opens = refl; moves = λ n. moves-of (pair_at script n) (suc n) }
 
@@ -133,8 +134,8 @@ module _ (laws : NodeLaws) (script : List ScriptItem) (traffic : IsNumberedTraff
 
   nodes-keep : (n : ℕ) → NodesKeep script n
   nodes-keep zero = record {
-    manager = laws.manager_opens (plan_of script) script 0 4 traffic.traffic.is_script refl traffic.traffic.words planned;
-    memory = laws.memory_opens (plan_of script) ram 0 (touched_lines script) ram-config (touched-ascending script) suits;
+    manager = laws.manager_opens (plan_of script) script 0 4 traffic.traffic.is_script refl traffic.traffic.words (plan-of-script script traffic);
+    memory = laws.memory_opens (plan_of script) ram 0 (touched_lines script) ram-config (touched-ascending script) (plan-suits script traffic);
   }
   nodes-keep (suc n) = let keeps = nodes-keep n in record { manager = manager-next n keeps; memory = memory-next n keeps }
 

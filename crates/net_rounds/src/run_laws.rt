@@ -1,9 +1,19 @@
 //! What holds of runs by their definition.
 
+ghost use Rattle.net_rounds.specs.Right.{RunsAreRight};
 ghost use Rattle.net_rounds.specs.Run.{RunsAreLeast};
 
 /// A run has the least number of rounds after which every transaction is answered, and as many as
 /// the bound where there is none up to it.
 pub fn runs_are_least()
     ensures { RunsAreLeast }
+{}
+
+/// A run of the built-in network is right after every number of rounds. The memory accessed each byte
+/// that is due of a transaction once, in burst order, and a read saw what the latest write before it
+/// wrote. Each transaction was answered at most once, after its accesses, which came after its issue;
+/// with its response and the bytes that were read. Transactions of one ID and direction kept their
+/// order, and each waited for what it was to wait for. (Section "Ordering model".)
+pub fn runs_are_right()
+    ensures { RunsAreRight }
 {}

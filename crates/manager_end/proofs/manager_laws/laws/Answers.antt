@@ -1,4 +1,4 @@
-use Rattle.manager_end.proofs.ManagerLaws.{manager-fits, manager-begins, manager-stays}
+use Rattle.manager_end.proofs.ManagerLaws.{manager-done, manager-fits, manager-begins, manager-stays}
 use Rattle.manager_end.proofs.manager_laws.laws.Goals as goal
 
 pub returns-clause-fit : goal.returns-clause-fit
@@ -9,3 +9,6 @@ returns-clause-begins c = manager-begins
 
 pub returns-clause-stays : goal.returns-clause-stays
 returns-clause-stays c = λ round links s. manager-stays links s round
+
+pub returns-clause-done : goal.returns-clause-done
+returns-clause-done c = manager-done

@@ -1,0 +1,232 @@
+-- What a round does to the note of each transaction.
+use Rattle.std.proofs.Common.{◌≡◌, ◌≢◌, ◌⊎◌, ℕ, ◌+◌, ◌<◌, ◌≤◌, ◌==◌, Bool, true, false, cond, List, [], ◌∷◌, ◌++◌, Option, Some, None, length, map, take, drop, get_or, refl, sym, ◌∙◌, ap, subst, inl, inr, arith}
+use Rattle.std.specs.Option.{option_map}
+use Rattle.std.specs.Prelude.{All, find, slice_get}
+use Rattle.std.proofs.lemmas.Bool.{cases_eq}
+use Rattle.std.proofs.lemmas.List.{get_or-set_same, get_or-set_other, length-set}
+use Rattle.axi_beats.specs.declared.beat.BBeat.{BBeat}
+use Rattle.axi_beats.specs.declared.beat.RBeat.{RBeat}
+use Rattle.axi_link.specs.LinkView.{LinkView}
+use Rattle.flight.specs.Entries.{without_oldest}
+use Rattle.manager_end.specs.Answer.{AnswerView, unanswered, issued_in, answered_in, noted}
+use Rattle.manager_end.specs.ManagerOrder.{note_at}
+use Rattle.manager_end.specs.ManagerState.{ManagerState, IsManager, IsUnanswered, AreWaiting, AreDistinct, waiting, entries_of, issued_of, of_direction}
+use Rattle.manager_end.specs.ManagerTable.{manager_aw, manager_ar, manager_b, manager_r, manager_next, note_write, note_read, note_issue}
+use Rattle.manager_end.specs.Script.{ScriptItem}
+use Rattle.manager_end.specs.declared.entry.Entry.{Entry}
+use Rattle.manager_end.proofs.RowLemmas.{All-middle, bus-some, aw-after, aw-next, ar-after, ar-next, b-found, r-found}
+use Rattle.manager_end.proofs.WaitingLemmas.{All-oldest, others-left, waiting-next}
+
+-- whether something moves at this place
+pub hits : {X : Type 0} (place_of : X → ℕ) (o : Option X) (q : ℕ) → ((x : X) × (o ≡ Some x) × (q ≡ place_of x)) ⊎ ((x : X) → o ≡ Some x → q ≢ place_of x)
+hits place_of None q = inr (λ x is. absurd (cc))
+hits {X} place_of (Some x) q = elim (cases_eq q (place_of x)) [
+  | inl here ↦ inl (x, refl, here)
+  | inr there ↦ inr (λ y is here. let same : x ≡ y = cc in there (here ∙ ap place_of (sym same)))
+]
+
+-- notes of one step, at its place and elsewhere
+module _ (round : ℕ) (answers : List AnswerView) where
+  write-length : (o : Option (Entry × BBeat)) → length (note_write round o answers) ≡ length answers
+  write-length None = refl
+  write-length (Some x) = length-set answers x.0.place (answered_in round x.1.resp [] (get_or answers x.0.place (unanswered 0)))
+
+  write-other : (o : Option (Entry × BBeat)) (q : ℕ) → ((x : Entry × BBeat) → o ≡ Some x → q ≢ x.0.place) → get_or (note_write round o answers) q (unanswered 0) ≡ get_or answers q (unanswered 0)
+  write-other None q other = refl
+  write-other (Some x) q other = get_or-set_other answers x.0.place q (answered_in round x.1.resp [] (get_or answers x.0.place (unanswered 0))) (unanswered 0) (other x refl)
+
+  write-here : (o : Option (Entry × BBeat)) (x : Entry × BBeat) → o ≡ Some x → x.0.place < length answers → get_or (note_write round o answers) x.0.place (unanswered 0) ≡ answered_in round x.1.resp [] (get_or answers x.0.place (unanswered 0))
+  write-here o x is within =
+      ap (λ (p : Option (Entry × BBeat)). get_or (note_write round p answers) x.0.place (unanswered 0)) is
+      ∙ get_or-set_same answers x.0.place (answered_in round x.1.resp [] (get_or answers x.0.place (unanswered 0))) (unanswered 0) within
+
+  read-length : (bus : ℕ) (o : Option (Entry × RBeat)) → length (note_read round bus o answers) ≡ length answers
+  read-length bus None = refl
+  read-length bus (Some x) = length-set answers x.0.place (answered_in round x.1.resp (take bus x.1.lanes) (get_or answers x.0.place (unanswered 0)))
+
+  read-other : (bus : ℕ) (o : Option (Entry × RBeat)) (q : ℕ) → ((x : Entry × RBeat) → o ≡ Some x → q ≢ x.0.place) → get_or (note_read round bus o answers) q (unanswered 0) ≡ get_or answers q (unanswered 0)
+  read-other bus None q other = refl
+  read-other bus (Some x) q other = get_or-set_other answers x.0.place q (answered_in round x.1.resp (take bus x.1.lanes) (get_or answers x.0.place (unanswered 0))) (unanswered 0) (other x refl)
+
+  read-here : (bus : ℕ) (o : Option (Entry × RBeat)) (x : Entry × RBeat) → o ≡ Some x → x.0.place < length answers → get_or (note_read round bus o answers) x.0.place (unanswered 0) ≡ answered_in round x.1.resp (take bus x.1.lanes) (get_or answers x.0.place (unanswered 0))
+  read-here bus o x is within =
+      ap (λ (p : Option (Entry × RBeat)). get_or (note_read round bus p answers) x.0.place (unanswered 0)) is
+      ∙ get_or-set_same answers x.0.place (answered_in round x.1.resp (take bus x.1.lanes) (get_or answers x.0.place (unanswered 0))) (unanswered 0) within
+
+  issue-length : (o : Option (ℕ × ScriptItem)) → length (note_issue round o answers) ≡ length answers
+  issue-length None = refl
+  issue-length (Some p) = length-set answers p.0 (issued_in round (get_or answers p.0 (unanswered 0)))
+
+  issue-other : (o : Option (ℕ × ScriptItem)) (q : ℕ) → ((p : ℕ × ScriptItem) → o ≡ Some p → q ≢ p.0) → get_or (note_issue round o answers) q (unanswered 0) ≡ get_or answers q (unanswered 0)
+  issue-other None q other = refl
+  issue-other (Some p) q other = get_or-set_other answers p.0 q (issued_in round (get_or answers p.0 (unanswered 0))) (unanswered 0) (other p refl)
+
+  issue-here : (o : Option (ℕ × ScriptItem)) (p : ℕ × ScriptItem) → o ≡ Some p → p.0 < length answers → get_or (note_issue round o answers) p.0 (unanswered 0) ≡ issued_in round (get_or answers p.0 (unanswered 0))
+  issue-here o p is within =
+      ap (λ (n : Option (ℕ × ScriptItem)). get_or (note_issue round n answers) p.0 (unanswered 0)) is
+      ∙ get_or-set_same answers p.0 (issued_in round (get_or answers p.0 (unanswered 0))) (unanswered 0) within
+
+-- the bytes that are due of a transaction of a direction
+abbrev pub due_of : Bool → ManagerState → ℕ
+due_of true s = 0
+due_of false s = s.bus
+
+-- the transactions of a direction that wait
+pub wait-of : (s : ManagerState) (write : Bool) → IsManager s → AreWaiting (due_of write s) s.answers (waiting (entries_of write s) (issued_of write s) (of_direction write s.script))
+wait-of s true is = is.writes_waiting
+wait-of s false is = is.reads_waiting
+
+module _ (links : List LinkView) (s : ManagerState) where
+  -- the entry whose answer is taken, and the transaction that is issued
+  abbrev pub taken_of : Bool → Option Entry
+  taken_of true = option_map (λ answer. answer.0) (manager_b links s)
+  taken_of false = option_map (λ answer. answer.0) (manager_r links s)
+
+  abbrev pub next_of : Bool → Option (ℕ × ScriptItem)
+  next_of true = manager_aw links s
+  next_of false = manager_ar links s
+
+  -- the answer of an entry that is taken
+  pub mapped : {X : Type 0} (o : Option (Entry × X)) (e : Entry) → option_map (λ answer. answer.0) o ≡ Some e → (x : Entry × X) × (o ≡ Some x) × (x.0 ≡ e)
+  mapped None e is = absurd (cc)
+  mapped (Some x) e is = (x, refl, let same : x.0 ≡ e = cc in same)
+
+  pub taken-found : (write : Bool) (e : Entry) → taken_of write ≡ Some e → find (λ (entry : Entry). entry.id == e.id) (entries_of write s) ≡ Some e
+  taken-found true e is =
+      let x : (x : Entry × BBeat) × (manager_b links s ≡ Some x) × (x.0 ≡ e) = mapped (manager_b links s) e is
+      in subst (λ (entry : Entry). find (λ (other : Entry). other.id == entry.id) s.write_entries ≡ Some entry) x.2 (b-found links s x.0 x.1)
+  taken-found false e is =
+      let x : (x : Entry × RBeat) × (manager_r links s ≡ Some x) × (x.0 ≡ e) = mapped (manager_r links s) e is
+      in subst (λ (entry : Entry). find (λ (other : Entry). other.id == entry.id) s.read_entries ≡ Some entry) x.2 (r-found links s x.0 x.1)
+
+  pub next-found : (write : Bool) (p : ℕ × ScriptItem) → next_of write ≡ Some p → slice_get (of_direction write s.script) (issued_of write s) ≡ Some p
+  next-found true p is = aw-next links s p is
+  next-found false p is = ar-next links s p is
+
+  pub next-after : (write : Bool) (p : ℕ × ScriptItem) → next_of write ≡ Some p → p.1.txn.after ≤ s.answered
+  next-after true p is = aw-after links s p is
+  next-after false p is = ar-after links s p is
+
+  -- what holds of the places of those that wait holds of an entry that is answered, and of one that is issued
+  pub taken-place : (write : Bool) (e : Entry) (P : ℕ → Type 0) → taken_of write ≡ Some e → All P (waiting (entries_of write s) (issued_of write s) (of_direction write s.script)) → P e.place
+  taken-place write e P is all = All-oldest P e.id (entries_of write s) (map (λ (p : ℕ × ScriptItem). p.0) (drop (issued_of write s) (of_direction write s.script))) e (taken-found write e is) all
+
+  pub next-place : (write : Bool) (p : ℕ × ScriptItem) (P : ℕ → Type 0) → next_of write ≡ Some p → All P (waiting (entries_of write s) (issued_of write s) (of_direction write s.script)) → P p.0
+  next-place write p P is all =
+      All-middle P (map (λ (entry : Entry). entry.place) (entries_of write s)) (map (λ (p : ℕ × ScriptItem). p.0) (drop (issued_of write s + 1) (of_direction write s.script))) p.0
+      (subst (All P) (waiting-next (entries_of write s) (issued_of write s) (of_direction write s.script) p (next-found write p is)) all)
+
+  module _ (is : IsManager s) where
+    -- they are apart in one direction
+    pub own-apart : (write : Bool) (e : Entry) (p : ℕ × ScriptItem) → taken_of write ≡ Some e → next_of write ≡ Some p → e.place ≢ p.0
+    own-apart write e p taken next same =
+        let others = others-left e.id (entries_of write s) (map (λ (p : ℕ × ScriptItem). p.0) (drop (issued_of write s) (of_direction write s.script))) e (taken-found write e taken) (wait-of s write is).distinct
+        in All-middle (λ other. other ≢ e.place) (map (λ (entry : Entry). entry.place) (without_oldest (λ (entry : Entry). entry.id) e.id (entries_of write s))) (map (λ (p : ℕ × ScriptItem). p.0) (drop (issued_of write s + 1) (of_direction write s.script))) p.0
+        (subst (All (λ other. other ≢ e.place)) (waiting-next (without_oldest (λ (entry : Entry). entry.id) e.id (entries_of write s)) (issued_of write s) (of_direction write s.script) p (next-found write p next)) others)
+        (sym same)
+
+    -- and nothing came of either
+    pub taken-waits : (write : Bool) (e : Entry) → taken_of write ≡ Some e → IsUnanswered (due_of write s) (note_at s e.place)
+    taken-waits write e taken = taken-place write e (λ place. IsUnanswered (due_of write s) (note_at s place)) taken (wait-of s write is).nothing_came
+
+    pub next-waits : (write : Bool) (p : ℕ × ScriptItem) → next_of write ≡ Some p → IsUnanswered (due_of write s) (note_at s p.0)
+    next-waits write p next = next-place write p (λ place. IsUnanswered (due_of write s) (note_at s place)) next (wait-of s write is).nothing_came
+
+    taken-within : (write : Bool) (e : Entry) → taken_of write ≡ Some e → e.place < length s.answers
+    taken-within write e taken = taken-place write e (λ place. place < length s.answers) taken (wait-of s write is).within
+
+    next-within : (write : Bool) (p : ℕ × ScriptItem) → next_of write ≡ Some p → p.0 < length s.answers
+    next-within write p next = next-place write p (λ place. place < length s.answers) next (wait-of s write is).within
+
+    -- a write and a read are apart
+    ways-apart : (a b : ℕ) → IsUnanswered 0 (note_at s a) → IsUnanswered s.bus (note_at s b) → a ≢ b
+    ways-apart a b write read same = bus-some s.bus is.bus_width (sym read.due_bytes ∙ ap (λ (q : ℕ). (note_at s q).due_bytes) (sym same) ∙ write.due_bytes)
+
+    pub b-taken : (x : Entry × BBeat) → manager_b links s ≡ Some x → taken_of true ≡ Some x.0
+    b-taken x is = ap (option_map (λ (answer : Entry × BBeat). answer.0)) is
+
+    pub r-taken : (x : Entry × RBeat) → manager_r links s ≡ Some x → taken_of false ≡ Some x.0
+    r-taken x is = ap (option_map (λ (answer : Entry × RBeat). answer.0)) is
+
+    module _ (round : ℕ) where
+      abbrev after_b : List AnswerView
+      after_b = note_write round (manager_b links s) s.answers
+
+      abbrev after_r : List AnswerView
+      after_r = note_read round s.bus (manager_r links s) after_b
+
+      abbrev after_aw : List AnswerView
+      after_aw = note_issue round (manager_aw links s) after_r
+
+      length-r : length after_r ≡ length s.answers
+      length-r = read-length round after_b s.bus (manager_r links s) ∙ write-length round s.answers (manager_b links s)
+
+      -- the note of a write that is answered
+      pub b-noted : (x : Entry × BBeat) → manager_b links s ≡ Some x → note_at (manager_next round links s) x.0.place ≡ answered_in round x.1.resp [] (note_at s x.0.place)
+      b-noted x at =
+          let taken = b-taken x at
+          in issue-other round after_aw (manager_ar links s) x.0.place (λ p next. ways-apart x.0.place p.0 (taken-waits true x.0 taken) (next-waits false p next))
+          ∙ issue-other round after_r (manager_aw links s) x.0.place (λ p next. own-apart true x.0 p taken next)
+          ∙ read-other round after_b s.bus (manager_r links s) x.0.place (λ y other. ways-apart x.0.place y.0.place (taken-waits true x.0 taken) (taken-waits false y.0 (r-taken y other)))
+          ∙ write-here round s.answers (manager_b links s) x at (taken-within true x.0 taken)
+
+      -- the note of a read that is answered
+      pub r-noted : (x : Entry × RBeat) → manager_r links s ≡ Some x → note_at (manager_next round links s) x.0.place ≡ answered_in round x.1.resp (take s.bus x.1.lanes) (note_at s x.0.place)
+      r-noted x at =
+          let taken = r-taken x at
+          in let own = taken-waits false x.0 taken
+          in issue-other round after_aw (manager_ar links s) x.0.place (λ p next. own-apart false x.0 p taken next)
+          ∙ issue-other round after_r (manager_aw links s) x.0.place (λ p next same. ways-apart p.0 x.0.place (next-waits true p next) own (sym same))
+          ∙ read-here round after_b s.bus (manager_r links s) x at (subst (λ (size : ℕ). x.0.place < size) (sym (write-length round s.answers (manager_b links s))) (taken-within false x.0 taken))
+          ∙ ap (answered_in round x.1.resp (take s.bus x.1.lanes)) (write-other round s.answers (manager_b links s) x.0.place (λ y other same. ways-apart y.0.place x.0.place (taken-waits true y.0 (b-taken y other)) own (sym same)))
+
+      -- the note of a write that is issued
+      pub aw-noted : (p : ℕ × ScriptItem) → manager_aw links s ≡ Some p → note_at (manager_next round links s) p.0 ≡ issued_in round (note_at s p.0)
+      aw-noted p at =
+          let own = next-waits true p at
+          in issue-other round after_aw (manager_ar links s) p.0 (λ r next. ways-apart p.0 r.0 own (next-waits false r next))
+          ∙ issue-here round after_r (manager_aw links s) p at (subst (λ (size : ℕ). p.0 < size) (sym length-r) (next-within true p at))
+          ∙ ap (issued_in round)
+          (read-other round after_b s.bus (manager_r links s) p.0 (λ y other. ways-apart p.0 y.0.place own (taken-waits false y.0 (r-taken y other)))
+          ∙ write-other round s.answers (manager_b links s) p.0 (λ y other same. own-apart true y.0 p (b-taken y other) at (sym same)))
+
+      -- the note of a read that is issued
+      pub ar-noted : (p : ℕ × ScriptItem) → manager_ar links s ≡ Some p → note_at (manager_next round links s) p.0 ≡ issued_in round (note_at s p.0)
+      ar-noted p at =
+          let own = next-waits false p at
+          in issue-here round after_aw (manager_ar links s) p at (subst (λ (size : ℕ). p.0 < size) (sym (issue-length round after_r (manager_aw links s) ∙ length-r)) (next-within false p at))
+          ∙ ap (issued_in round)
+          (issue-other round after_r (manager_aw links s) p.0 (λ r next same. ways-apart r.0 p.0 (next-waits true r next) own (sym same))
+          ∙ read-other round after_b s.bus (manager_r links s) p.0 (λ y other same. own-apart false y.0 p (r-taken y other) at (sym same))
+          ∙ write-other round s.answers (manager_b links s) p.0 (λ y other same. ways-apart y.0.place p.0 (taken-waits true y.0 (b-taken y other)) own (sym same)))
+
+      -- the note of any other transaction
+      other-noted : (q : ℕ) → ((x : Entry × BBeat) → manager_b links s ≡ Some x → q ≢ x.0.place) → ((x : Entry × RBeat) → manager_r links s ≡ Some x → q ≢ x.0.place) → ((p : ℕ × ScriptItem) → manager_aw links s ≡ Some p → q ≢ p.0) → ((p : ℕ × ScriptItem) → manager_ar links s ≡ Some p → q ≢ p.0) → note_at (manager_next round links s) q ≡ note_at s q
+      other-noted q not_b not_r not_aw not_ar =
+          issue-other round after_aw (manager_ar links s) q not_ar
+          ∙ issue-other round after_r (manager_aw links s) q not_aw
+          ∙ read-other round after_b s.bus (manager_r links s) q not_r
+          ∙ write-other round s.answers (manager_b links s) q not_b
+
+-- The note of a transaction after a round: as it was, or with the answer to a write or a read, or with an issue.
+pub data Change (links : List LinkView) (s : ManagerState) (round q : ℕ) : Type 0 where
+  Kept : note_at (manager_next round links s) q ≡ note_at s q → Change links s round q
+  Wrote : (x : Entry × BBeat) → manager_b links s ≡ Some x → q ≡ x.0.place → note_at (manager_next round links s) q ≡ answered_in round x.1.resp [] (note_at s q) → Change links s round q
+  Read : (x : Entry × RBeat) → manager_r links s ≡ Some x → q ≡ x.0.place → note_at (manager_next round links s) q ≡ answered_in round x.1.resp (take s.bus x.1.lanes) (note_at s q) → Change links s round q
+  Issued : (write : Bool) (p : ℕ × ScriptItem) → next_of links s write ≡ Some p → q ≡ p.0 → note_at (manager_next round links s) q ≡ issued_in round (note_at s q) → Change links s round q
+
+pub change-of : (links : List LinkView) (s : ManagerState) (round q : ℕ) → IsManager s → Change links s round q
+change-of links s round q is =
+    elim (hits (λ (x : Entry × BBeat). x.0.place) (manager_b links s) q) [
+      | inl x ↦ Wrote x.0 x.1 x.2 (subst (λ (r : ℕ). note_at (manager_next round links s) r ≡ answered_in round x.0.1.resp [] (note_at s r)) (sym x.2) (b-noted links s is round x.0 x.1))
+      | inr not_b ↦ elim (hits (λ (x : Entry × RBeat). x.0.place) (manager_r links s) q) [
+        | inl x ↦ Read x.0 x.1 x.2 (subst (λ (r : ℕ). note_at (manager_next round links s) r ≡ answered_in round x.0.1.resp (take s.bus x.0.1.lanes) (note_at s r)) (sym x.2) (r-noted links s is round x.0 x.1))
+        | inr not_r ↦ elim (hits (λ (p : ℕ × ScriptItem). p.0) (manager_aw links s) q) [
+          | inl p ↦ Issued true p.0 p.1 p.2 (subst (λ (r : ℕ). note_at (manager_next round links s) r ≡ issued_in round (note_at s r)) (sym p.2) (aw-noted links s is round p.0 p.1))
+          | inr not_aw ↦ elim (hits (λ (p : ℕ × ScriptItem). p.0) (manager_ar links s) q) [
+            | inl p ↦ Issued false p.0 p.1 p.2 (subst (λ (r : ℕ). note_at (manager_next round links s) r ≡ issued_in round (note_at s r)) (sym p.2) (ar-noted links s is round p.0 p.1))
+            | inr not_ar ↦ Kept (other-noted links s is round q not_b not_r not_aw not_ar)
+          ]
+        ]
+      ]
+    ]

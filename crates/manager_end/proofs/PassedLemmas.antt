@@ -1,0 +1,147 @@
+-- What a round adds to a manager's trail, and what waits after it.
+use Rattle.std.proofs.Common.{◌≡◌, ℕ, ◌+◌, ◌≤◌, ◌==◌, suc, Bool, true, false, cond, List, [], ◌∷◌, ◌++◌, Option, Some, None, All, map, take, refl, sym, ◌∙◌, ap, subst, add-zero, add-one, append-nil, eq-eqb}
+use Rattle.std.specs.Option.{option_map, option_to_list}
+use Rattle.std.specs.Prelude.{find, is_some, slice_get}
+use Rattle.std.proofs.lemmas.List.{map-append}
+use Rattle.std.proofs.lemmas.Simd.{map-map}
+use Rattle.axi_beats.specs.declared.beat.Addr.{Addr}
+use Rattle.axi_link.specs.LinkView.{LinkView}
+use Rattle.axi_link.specs.Moves.{appended, takes_from}
+use Rattle.axi_link.specs.Table.{head_of, put_of, take_of}
+use Rattle.flight.specs.Entries.{of_key, count_of, without_oldest}
+use Rattle.axi_trail.specs.Streams.{beat_taken}
+use Rattle.axi_trail.specs.Trail.{moved_above}
+use Rattle.axi_trail.specs.Waiting.{beats_by}
+use Rattle.axi_trail.specs.Words.{Asked, Reply, InOrderOfId, id_of_reply}
+use Rattle.manager_end.specs.Beats.{data_of, request_of as request_of_item}
+use Rattle.manager_end.specs.ManagerState.{ManagerState, entry_of}
+use Rattle.manager_end.specs.ManagerTable.{answering, below, left_waiting, manager_aw, manager_w, manager_ar, manager_b, manager_r, manager_out, more, with_issued}
+use Rattle.manager_end.specs.ManagerTrail.{held_items}
+use Rattle.manager_end.specs.Script.{ScriptItem}
+use Rattle.manager_end.specs.declared.entry.Entry.{Entry}
+use Rattle.manager_end.proofs.HeldLemmas.{answers-few, asked_by, entries-left, held_items-answer, held_items-request, id_of_item, len_of_item, single_len, taken-next}
+use Rattle.manager_end.proofs.ListLemmas.{take-one}
+use Rattle.manager_end.proofs.WaitingLemmas.{oldest-id}
+
+module _ {X : Type 0} where
+  -- a put on the link is one beat more
+  put-moved : (number : ℕ) (o : Option X) → appended number (put_of number o) ≡ option_to_list o
+  put-moved number None = refl
+  put-moved number (Some x) = ap (λ (b : Bool). cond b (x ∷ []) []) (eq-eqb number number refl)
+
+  -- and so is a take from it
+  take-moved : (number : ℕ) (b : Bool) (queue : List X) → beat_taken (takes_from number (take_of number b)) queue ≡ beat_taken b queue
+  take-moved number true queue = ap (λ (b : Bool). beat_taken b queue) (eq-eqb number number refl)
+  take-moved number false queue = refl
+
+  answer-moved : (id_of : X → ℕ) (entries : List Entry) (queue : List X) → beat_taken (is_some (answering id_of entries (head_of queue))) queue ≡ option_to_list (option_map (λ answer. answer.1) (answering id_of entries (head_of queue)))
+  answer-moved id_of entries [] = refl
+  answer-moved id_of entries (x ∷ xs) =
+      let paired : Entry → Entry × X = λ entry. (entry, x)
+      in let go : (o : Option Entry) → beat_taken (is_some (option_map paired o)) (x ∷ xs) ≡ option_to_list (option_map (λ (answer : Entry × X). answer.1) (option_map paired o)) =
+      elim [ None ↦ refl | Some e ↦ refl ]
+      in go (find (λ entry. entry.id == id_of x) entries)
+
+module _ (links : List LinkView) (s : ManagerState) where
+  pub aw-moved : (moved_above (manager_out links s) links s.lower).aw ≡ option_to_list (option_map (λ next. request_of_item next.1) (manager_aw links s))
+  aw-moved = put-moved s.lower (option_map (λ next. request_of_item next.1) (manager_aw links s))
+
+  pub w-moved : (moved_above (manager_out links s) links s.lower).w ≡ option_to_list (option_map (λ next. data_of next.1) (manager_w links s))
+  w-moved = put-moved s.lower (option_map (λ next. data_of next.1) (manager_w links s))
+
+  pub ar-moved : (moved_above (manager_out links s) links s.lower).ar ≡ option_to_list (option_map (λ next. request_of_item next.1) (manager_ar links s))
+  ar-moved = put-moved s.lower (option_map (λ next. request_of_item next.1) (manager_ar links s))
+
+  pub b-moved : (moved_above (manager_out links s) links s.lower).b ≡ option_to_list (option_map (λ answer. answer.1) (manager_b links s))
+  b-moved = take-moved s.lower (is_some (manager_b links s)) (below links s).b ∙ answer-moved (λ beat. beat.id) s.write_entries (below links s).b
+
+  pub r-moved : (moved_above (manager_out links s) links s.lower).r ≡ option_to_list (option_map (λ answer. answer.1) (manager_r links s))
+  r-moved = take-moved s.lower (is_some (manager_r links s)) (below links s).r ∙ answer-moved (λ beat. beat.id) s.read_entries (below links s).r
+
+-- the first ones, and the next
+pub take-next : {X : Type 0} (xs : List X) (n : ℕ) (o : Option X) → ((x : X) → o ≡ Some x → slice_get xs n ≡ Some x) → take (n + more (is_some o)) xs ≡ take n xs ++ option_to_list o
+take-next xs n None next = ap (λ (k : ℕ). take k xs) (add-zero n) ∙ sym (append-nil (take n xs))
+take-next xs n (Some x) next = ap (λ (k : ℕ). take k xs) (add-one n) ∙ take-one n xs x (next x refl)
+
+map-option : {X Y : Type 0} (g : X → Y) (o : Option X) → map g (option_to_list o) ≡ option_to_list (option_map g o)
+map-option g None = refl
+map-option g (Some x) = refl
+
+-- beats that were put, with the next one
+pub put-grows : {X Y : Type 0} (g : X → Y) (xs : List X) (n : ℕ) (o : Option X) (before moved : List Y) → ((x : X) → o ≡ Some x → slice_get xs n ≡ Some x) → moved ≡ option_to_list (option_map g o) →
+    before ≡ map g (take n xs) → before ++ moved ≡ map g (take (n + more (is_some o)) xs)
+put-grows {X} {Y} g xs n o before moved next is was =
+    ap (λ (ys : List Y). ys ++ moved) was
+    ∙ ap (λ (ys : List Y). map g (take n xs) ++ ys) (is ∙ sym (map-option g o))
+    ∙ sym (map-append g (take n xs) (option_to_list o))
+    ∙ ap (map g) (sym (take-next xs n o next))
+
+-- an answer that is found is one of the oldest entry of its ID
+pub answering-own : {X : Type 0} (id_of : X → ℕ) (entries : List Entry) (head : Option X) (x : Entry × X) → answering id_of entries head ≡ Some x → find (λ (entry : Entry). entry.id == id_of x.1) entries ≡ Some x.0
+answering-own id_of entries None x is = absurd (cc)
+answering-own {X} id_of entries (Some head) x is =
+    let go : (o : Option Entry) → find (λ (entry : Entry). entry.id == id_of head) entries ≡ o → option_map (λ (entry : Entry). (entry, head)) o ≡ Some x → find (λ (entry : Entry). entry.id == id_of x.1) entries ≡ Some x.0 =
+    elim [
+      | None ↦ λ found none. absurd (cc)
+      | Some entry ↦ λ found some. let same : (entry, head) ≡ x = cc in subst (λ (a : Entry × X). find (λ (e : Entry). e.id == id_of a.1) entries ≡ Some a.0) same found
+    ]
+    in go (find (λ (entry : Entry). entry.id == id_of head) entries) refl is
+
+-- the answers of one direction
+module _ {X : Type 0} (number_of id_of : X → ℕ) (last_of : X → Bool) (len_of : Addr → ℕ) where
+  abbrev pub reply_by : X → Reply
+  reply_by x = record { number = number_of x; id = id_of x; last = last_of x }
+
+  abbrev pub beat_of : Option (Entry × X) → List X
+  beat_of o = option_to_list (option_map (λ answer. answer.1) o)
+
+  module _ (items : List (ℕ × ScriptItem)) (next : Option (ℕ × ScriptItem)) (entries : List Entry) (beats : List X) (single : All (λ p. len_of_item p ≡ 0) items) (one : All (λ p. single_len len_of p ≡ 0) items)
+      (same : entries ≡ map entry_of (held_items items (map id_of beats))) (order : InOrderOfId (map (asked_by len_of) items) (map reply_by beats)) where
+    ids-same : map id_of_reply (map reply_by beats) ≡ map id_of beats
+    ids-same = map-map id_of_reply reply_by beats
+
+    -- an answer that is taken is that of its entry's transaction
+    pub taken-own : (x : Entry × X) → find (λ (entry : Entry). entry.id == id_of x.1) entries ≡ Some x.0 → InOrderOfId (map (asked_by len_of) (items ++ option_to_list next)) (map reply_by (beats ++ x.1 ∷ [])) →
+        (p : ℕ × ScriptItem) × (k : ℕ) × (slice_get (held_items items (map id_of beats)) k ≡ Some p) × (entry_of p ≡ x.0) × (number_of x.1 ≡ p.1.txn.number) × InOrderOfId (map (asked_by len_of) items) (map reply_by (beats ++ x.1 ∷ []))
+    taken-own x found after =
+        let pushed : map reply_by (beats ++ x.1 ∷ []) ≡ map reply_by beats ++ reply_by x.1 ∷ [] = map-append reply_by beats (x.1 ∷ [])
+        in let here : find (λ (entry : Entry). entry.id == id_of x.1) (map entry_of (held_items items (map id_of_reply (map reply_by beats)))) ≡ Some x.0 =
+        ap (λ (ids : List ℕ). find (λ (entry : Entry). entry.id == id_of x.1) (map entry_of (held_items items ids))) ids-same ∙ ap (find (λ (entry : Entry). entry.id == id_of x.1)) (sym same) ∙ found
+        in let taken = taken-next len_of items (map reply_by beats) single one (option_to_list next) (reply_by x.1) x.0 order (subst (InOrderOfId (map (asked_by len_of) (items ++ option_to_list next))) pushed after) here
+        in (taken.0, taken.1, ap (λ (ids : List ℕ). slice_get (held_items items ids) taken.1) (sym ids-same) ∙ taken.2, taken.3, taken.4, subst (InOrderOfId (map (asked_by len_of) items)) (sym pushed) taken.5)
+
+    few-of : (later : List X) → InOrderOfId (map (asked_by len_of) items) (map reply_by later) → (id : ℕ) → count_of id (map id_of later) ≤ beats_by len_of_item (of_key id_of_item id items)
+    few-of later in_order id = subst (λ (ids : List ℕ). count_of id ids ≤ beats_by len_of_item (of_key id_of_item id items)) (map-map id_of_reply reply_by later) (answers-few len_of items (map reply_by later) single one in_order id)
+
+    -- what waits after the answer of a round
+    answered-waits : (o : Option (Entry × X)) → ((x : Entry × X) → o ≡ Some x → find (λ (entry : Entry). entry.id == id_of x.1) entries ≡ Some x.0) → InOrderOfId (map (asked_by len_of) (items ++ option_to_list next)) (map reply_by (beats ++ beat_of o)) →
+        (left_waiting o entries ≡ map entry_of (held_items items (map id_of (beats ++ beat_of o)))) × ((id : ℕ) → count_of id (map id_of (beats ++ beat_of o)) ≤ beats_by len_of_item (of_key id_of_item id items))
+    answered-waits None found after =
+        let none : beats ++ [] ≡ beats = append-nil beats
+        in (same ∙ ap (λ (bs : List X). map entry_of (held_items items (map id_of bs))) (sym none), few-of (beats ++ []) (subst (λ (bs : List X). InOrderOfId (map (asked_by len_of) items) (map reply_by bs)) (sym none) order))
+    answered-waits (Some x) found after =
+        let here = found x refl
+        in let taken = taken-own x here after
+        in (
+          ap (without_oldest (λ (entry : Entry). entry.id) x.0.id) same
+          ∙ ap (λ (id : ℕ). without_oldest (λ (entry : Entry). entry.id) id (map entry_of (held_items items (map id_of beats)))) (oldest-id (id_of x.1) entries x.0 here)
+          ∙ sym (entries-left (id_of x.1) (held_items items (map id_of beats)))
+          ∙ ap (map entry_of) (sym (held_items-answer items single (map id_of beats) (id_of x.1)))
+          ∙ ap (λ (ids : List ℕ). map entry_of (held_items items ids)) (sym (map-append id_of beats (x.1 ∷ []))),
+          few-of (beats ++ x.1 ∷ []) taken.5,
+        )
+
+    -- what waits after a round
+    pub waits-next : (o : Option (Entry × X)) → ((x : Entry × X) → o ≡ Some x → find (λ (entry : Entry). entry.id == id_of x.1) entries ≡ Some x.0) → InOrderOfId (map (asked_by len_of) (items ++ option_to_list next)) (map reply_by (beats ++ beat_of o)) →
+        with_issued next (left_waiting o entries) ≡ map entry_of (held_items (items ++ option_to_list next) (map id_of (beats ++ beat_of o)))
+    waits-next o found after =
+        let answered = answered-waits o found after
+        in let go : (n : Option (ℕ × ScriptItem)) → with_issued n (left_waiting o entries) ≡ map entry_of (held_items (items ++ option_to_list n) (map id_of (beats ++ beat_of o))) =
+        elim [
+          | None ↦ answered.0 ∙ ap (λ (ps : List (ℕ × ScriptItem)). map entry_of (held_items ps (map id_of (beats ++ beat_of o)))) (sym (append-nil items))
+          | Some p ↦
+              ap (λ (es : List Entry). es ++ entry_of p ∷ []) answered.0
+              ∙ sym (map-append entry_of (held_items items (map id_of (beats ++ beat_of o))) (p ∷ []))
+              ∙ ap (map entry_of) (sym (held_items-request items (map id_of (beats ++ beat_of o)) p (answered.1 (id_of_item p))))
+        ]
+        in go next

@@ -1,0 +1,132 @@
+-- The bytes of an answer, and those that were read for it.
+use Rattle.std.proofs.Common.{◌≡◌, ℕ, ◌+◌, ◌-◌, ◌<◌, ◌≤◌, ◌&&◌, suc, zero, Bool, true, false, cond, List, [], ◌∷◌, ◌++◌, length, map, take, drop, refl, sym, ◌∙◌, ap, arith, leb, ltb, length-append}
+use Rattle.std.specs.Prelude.{filter, flat_map, slice_range}
+use Rattle.std.specs.List.{range_with_len}
+use Rattle.std.proofs.lemmas.Bool.{le-leb, lt-ltb}
+use Rattle.std.proofs.lemmas.List.{length-map, map-append, drop_at, take_at}
+use Rattle.std.proofs.lemmas.Simd.{map-map}
+use Rattle.axi_beats.specs.declared.beat.RBeat.{RBeat}
+use Rattle.axi_trail.specs.Schedule.{Span, bytes_on}
+use Rattle.axi_trail.specs.Streams.{IsPrefix}
+use Rattle.axi_trail.proofs.PrefixFacts.{prefix_cons}
+use Rattle.axi_trail.proofs.StreamFacts.{prefix_itself, prefix_nil}
+use Rattle.memory_end.specs.Accesses.{BeatOf, allowed_bytes, filled_bytes, read_addresses, span_of}
+use Rattle.memory_end.specs.Beats.{Byte, answered_byte, answered_lanes, first_lane, lane_address, lane_count, read_bytes, valid_lanes}
+use Rattle.memory_end.specs.MemoryState.{IsMemoryConfig}
+use Rattle.memory_end.specs.Status.{is_okay, read_status}
+use Rattle.memory_end.specs.Store.{Store, byte_at}
+use Rattle.memory_end.specs.declared.config.MemoryConfig.{MemoryConfig}
+use Rattle.memory_end.proofs.LaneFacts.{lanes-within}
+use Rattle.memory_end.proofs.ListLemmas.{map-range-agree, range-split}
+
+-- how many are allowed
+abbrev pub count_allowed : List Bool → ℕ
+count_allowed allowed = length (filter (λ b. b) allowed)
+
+-- bytes of more beats, where those of the first ones have all been read
+pub filled-append : (allowed more : List Bool) (values others : List ℕ) → length values ≡ count_allowed allowed → filled_bytes (allowed ++ more) (values ++ others) ≡ filled_bytes allowed values ++ filled_bytes more others
+filled-append [] more [] others e = refl
+filled-append [] more (v ∷ values) others e = absurd (omega arith)
+filled-append (false ∷ allowed) more values others e = ap (λ t. 0 ∷ t) (filled-append allowed more values others e)
+filled-append (true ∷ allowed) more [] others e = absurd (omega arith)
+filled-append (true ∷ allowed) more (v ∷ values) others e = ap (λ t. v ∷ t) (filled-append allowed more values others (omega arith))
+
+-- the bytes of fewer beats are the first ones
+pub filled-front : (allowed more : List Bool) (values : List ℕ) → IsPrefix (filled_bytes allowed values) (filled_bytes (allowed ++ more) values)
+filled-front [] more values = prefix_nil (filled_bytes more values)
+filled-front (false ∷ allowed) more values = prefix_cons 0 (filled-front allowed more values)
+filled-front (true ∷ allowed) more [] = prefix_itself []
+filled-front (true ∷ allowed) more (v ∷ values) = prefix_cons v (filled-front allowed more values)
+
+-- the bytes of one beat: those that pass a test are read
+filled-tested : (test : ℕ → Bool) (value : ℕ → ℕ) (lanes : List ℕ) → filled_bytes (map test lanes) (map value (filter test lanes)) ≡ map (λ lane. cond (test lane) (value lane) 0) lanes
+filled-tested test value [] = refl
+filled-tested test value (k ∷ lanes) =
+    let go : (b : Bool) → filled_bytes (b ∷ map test lanes) (map value (cond b (k ∷ filter test lanes) (filter test lanes))) ≡ cond b (value k) 0 ∷ map (λ lane. cond (test lane) (value lane) 0) lanes =
+    elim [ true ↦ ap (λ t. value k ∷ t) (filled-tested test value lanes) | false ↦ ap (λ t. 0 ∷ t) (filled-tested test value lanes) ]
+    in go (test k)
+
+count-tested : (test : ℕ → Bool) (lanes : List ℕ) → count_allowed (map test lanes) ≡ length (filter test lanes)
+count-tested test [] = refl
+count-tested test (k ∷ lanes) =
+    let go : (b : Bool) → length (cond b (b ∷ filter (λ b. b) (map test lanes)) (filter (λ b. b) (map test lanes))) ≡ length (cond b (k ∷ filter test lanes) (filter test lanes)) =
+    elim [ true ↦ ap suc (count-tested test lanes) | false ↦ count-tested test lanes ]
+    in go (test k)
+
+count-append : (xs ys : List Bool) → count_allowed (xs ++ ys) ≡ count_allowed xs + count_allowed ys
+count-append [] ys = omega arith
+count-append (true ∷ xs) ys = omega (arith, count-append xs ys)
+count-append (false ∷ xs) ys = count-append xs ys
+
+-- as many addresses are read as bytes may be read
+pub count-reads : (config : MemoryConfig) (beats : List BeatOf) → count_allowed (flat_map (allowed_bytes config) beats) ≡ length (flat_map (read_addresses config) beats)
+count-reads config [] = refl
+count-reads config (b ∷ beats) =
+    let own : count_allowed (allowed_bytes config b) ≡ length (read_addresses config b) =
+    count-tested (λ lane. is_okay (read_status config (lane_address b.request b.beat config.bus lane))) (valid_lanes b.request b.beat config.bus)
+    ∙ sym (length-map (filter (λ lane. is_okay (read_status config (lane_address b.request b.beat config.bus lane))) (valid_lanes b.request b.beat config.bus)) (λ lane. lane_address b.request b.beat config.bus lane)) in
+    omega (
+      arith,
+      count-append (allowed_bytes config b) (flat_map (allowed_bytes config) beats),
+      length-append (read_addresses config b) (flat_map (read_addresses config) beats),
+      count-reads config beats,
+    )
+
+-- the bytes of one beat more
+pub bytes_on-more : (beats : List RBeat) (r : RBeat) (lanes : List Span) (span : Span) (rest : List Span) → drop (length beats) lanes ≡ span ∷ rest → bytes_on (beats ++ r ∷ []) lanes ≡ bytes_on beats lanes ++ slice_range r.lanes span.low (span.high + 1)
+bytes_on-more [] r [] span rest e = absurd (cc)
+bytes_on-more [] r (s ∷ lanes) span rest e =
+    let head : s ≡ span = cc in
+    ap (λ (t : Span). slice_range r.lanes t.low (t.high + 1) ++ []) head ∙ nothing (slice_range r.lanes span.low (span.high + 1))
+  where
+    nothing : (xs : List ℕ) → xs ++ [] ≡ [] ++ xs
+    nothing [] = refl
+    nothing (x ∷ xs) = ap (λ t. x ∷ t) (nothing xs)
+bytes_on-more (b ∷ beats) r [] span rest e = absurd (cc)
+bytes_on-more (b ∷ beats) r (s ∷ lanes) span rest e =
+    ap (λ t. slice_range b.lanes s.low (s.high + 1) ++ t) (bytes_on-more beats r lanes span rest e)
+    ∙ sym (assoc (slice_range b.lanes s.low (s.high + 1)) (bytes_on beats lanes) (slice_range r.lanes span.low (span.high + 1)))
+  where
+    assoc : (xs ys zs : List ℕ) → (xs ++ ys) ++ zs ≡ xs ++ (ys ++ zs)
+    assoc [] ys zs = refl
+    assoc (x ∷ xs) ys zs = ap (λ t. x ∷ t) (assoc xs ys zs)
+
+length-range : (a n : ℕ) → length (range_with_len a n) ≡ n
+length-range a zero = refl
+length-range a (suc n) = ap suc (length-range (a + 1) n)
+
+-- a part of a list that tells each lane
+slice-range : (g : ℕ → ℕ) (end low count : ℕ) → 0 < count → low + count ≤ end → slice_range (map g (range_with_len 0 end)) low (low + count - 1 + 1) ≡ map g (range_with_len low count)
+slice-range g end low count some le =
+    let whole : end ≡ low + (count + (end - (low + count))) = omega arith in
+    let first : 0 + low ≡ low = omega arith in
+    let size : low + count - 1 + 1 - low ≡ count = omega arith in
+    ap (λ n. slice_range (map g (range_with_len 0 n)) low (low + count - 1 + 1)) whole
+    ∙ ap (λ t. slice_range (map g t) low (low + count - 1 + 1)) (range-split 0 low (count + (end - (low + count))))
+    ∙ ap (λ t. slice_range t low (low + count - 1 + 1)) (map-append g (range_with_len 0 low) (range_with_len (0 + low) (count + (end - (low + count)))))
+    ∙ ap (take (low + count - 1 + 1 - low)) (drop_at (map g (range_with_len 0 low)) (map g (range_with_len (0 + low) (count + (end - (low + count))))) low (length-map (range_with_len 0 low) g ∙ length-range 0 low))
+    ∙ ap (λ n. take n (map g (range_with_len (0 + low) (count + (end - (low + count)))))) size
+    ∙ ap (λ n. take count (map g (range_with_len n (count + (end - (low + count)))))) first
+    ∙ ap (λ t. take count (map g t)) (range-split low count (end - (low + count)))
+    ∙ ap (take count) (map-append g (range_with_len low count) (range_with_len (low + count) (end - (low + count))))
+    ∙ take_at (map g (range_with_len low count)) (map g (range_with_len (low + count) (end - (low + count)))) count (length-map (range_with_len low count) g ∙ length-range low count)
+
+-- the lanes of an answer beat that are wanted have the bytes that were read for it
+pub filled-beat : (config : MemoryConfig) (store : Store) (b : BeatOf) → IsMemoryConfig config →
+    slice_range (answered_lanes config store b.request b.beat) (span_of config b).low ((span_of config b).high + 1)
+    ≡ filled_bytes (allowed_bytes config b) (map (λ (byte : Byte). byte.value) (read_bytes config store b.request b.beat))
+filled-beat config store b is =
+    let bounds : (0 < lane_count b.request b.beat config.bus) × (first_lane b.request b.beat config.bus + lane_count b.request b.beat config.bus ≤ config.bus) × (config.bus ≤ 128) = lanes-within b.request b.beat config.bus is.bus in
+    of_lanes (first_lane b.request b.beat config.bus) (lane_count b.request b.beat config.bus) (λ lane. lane_address b.request b.beat config.bus lane) bounds.0 (omega (arith, bounds.1, bounds.2))
+  where
+    of_lanes : (low count : ℕ) (address : ℕ → ℕ) → 0 < count → low + count ≤ 128 →
+        slice_range (map (λ lane. cond (leb low lane && ltb lane (low + count)) (answered_byte config store (address lane)) 0) (range_with_len 0 128)) low (low + count - 1 + 1)
+        ≡ filled_bytes (map (λ lane. is_okay (read_status config (address lane))) (range_with_len low count))
+        (map (λ (byte : Byte). byte.value) (map (λ lane. record { address = address lane; value = byte_at store (address lane) }) (filter (λ lane. is_okay (read_status config (address lane))) (range_with_len low count))))
+    of_lanes low count address some le =
+        slice-range (λ lane. cond (leb low lane && ltb lane (low + count)) (answered_byte config store (address lane)) 0) 128 low count some le
+        ∙ map-range-agree (λ lane. cond (leb low lane && ltb lane (low + count)) (answered_byte config store (address lane)) 0) (λ lane. answered_byte config store (address lane)) low count
+        (λ k from below. ap (λ c. cond (c && ltb k (low + count)) (answered_byte config store (address k)) 0) (le-leb low k from) ∙ ap (λ c. cond (true && c) (answered_byte config store (address k)) 0) (lt-ltb k (low + count) below))
+        ∙ sym (filled-tested (λ lane. is_okay (read_status config (address lane))) (λ lane. byte_at store (address lane)) (range_with_len low count))
+        ∙ ap (filled_bytes (map (λ lane. is_okay (read_status config (address lane))) (range_with_len low count)))
+        (sym (map-map (λ (byte : Byte). byte.value) (λ lane. record { address = address lane; value = byte_at store (address lane) }) (filter (λ lane. is_okay (read_status config (address lane))) (range_with_len low count))))
