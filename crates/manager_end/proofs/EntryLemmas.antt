@@ -1,5 +1,5 @@
 -- The entries of a direction are its transactions that are issued and not answered, in order of place.
-use Rattle.std.proofs.Common.{◌≡◌, ◌≢◌, ℕ, ◌+◌, ◌<◌, ◌≤◌, ◌==◌, ◌&&◌, suc, Bool, true, false, cond, List, [], ◌∷◌, ◌++◌, Option, Some, None, map, take, refl, sym, ◌∙◌, ap, subst, inl, inr, arith, add-zero, add-one, append-nil, eq-eqb}
+use Rattle.std.proofs.Common.{◌≡◌, ◌≢◌, ℕ, ◌+◌, ◌<◌, ◌≤◌, ◌==◌, ◌&&◌, suc, Bool, true, false, cond, List, [], ◌∷◌, ◌++◌, Option, Some, None, map, take, refl, sym, ◌∙◌, ap, subst, inl, inr, arith, add-zero, add-one, eq-eqb}
 use Rattle.std.specs.Option.{option_map}
 use Rattle.std.specs.Prelude.{filter, find, is_some, nat_lt, not, slice_get}
 use Rattle.std.proofs.lemmas.Bool.{and_right, cases_eq, cases_order, lt-ltb, ltb-true, ne_eqb}
@@ -11,14 +11,14 @@ use Rattle.axi_beats.specs.declared.beat.RBeat.{RBeat}
 use Rattle.axi_link.specs.LinkView.{LinkView}
 use Rattle.flight.specs.Entries.{without_oldest}
 use Rattle.manager_end.specs.Answer.{AnswerView}
-use Rattle.manager_end.specs.ManagerOrder.{AreInOrder, note_at}
+use Rattle.manager_end.specs.ManagerOrder.{note_at}
 use Rattle.manager_end.specs.ManagerState.{ManagerState, IsManager, entries_of, entry_of, is_answered, issued_of, of_direction}
 use Rattle.manager_end.specs.ManagerTable.{left_waiting, manager_aw, manager_ar, manager_b, manager_r, manager_next, more, with_issued}
 use Rattle.manager_end.specs.Script.{ScriptItem}
 use Rattle.manager_end.specs.declared.entry.Entry.{Entry}
 use Rattle.manager_end.proofs.IssueLemmas.{issued-next, next-noted, one-place}
 use Rattle.manager_end.proofs.ListLemmas.{Rise, filter-all, filter-both, filter-same, find-first, find-has, map-from, map-has, rise-filter, rise-tail, rise-take, take-from, take-has, take-one}
-use Rattle.manager_end.proofs.NoteLemmas.{Change, Kept, Wrote, Read, Issued, change-of, b-noted, r-noted, b-taken, r-taken, mapped, next_of, next-found, next-waits, taken_of, taken-found, taken-waits}
+use Rattle.manager_end.proofs.NoteLemmas.{Kept, Wrote, Read, Issued, change-of, b-noted, r-noted, b-taken, r-taken, mapped, next_of, next-found, next-waits, taken_of, taken-found}
 use Rattle.manager_end.proofs.PlaceLemmas.{direction-rises, filter-from, filter-has}
 
 -- the transaction isn't answered
@@ -66,20 +66,20 @@ left-places e [] rise found = absurd (cc)
 left-places e (p ∷ ps) rise found =
     let here : cond true (Some (entry_of p)) (find (λ (entry : Entry). entry.id == e.id) (map entry_of ps)) ≡ Some e → map entry_of ps ≡ map entry_of (cond (not (p.0 == e.place)) (p ∷ filter (λ q. not (q.0 == e.place)) ps) (filter (λ q. not (q.0 == e.place)) ps)) =
     λ is.
-        let same : entry_of p ≡ e = same_Some (entry_of p) e is
-        in let place : p.0 ≡ e.place = ap (λ (entry : Entry). entry.place) same
-        in let others : filter (λ q. not (q.0 == e.place)) ps ≡ ps =
-        filter-all (λ q. not (q.0 == e.place)) ps (λ k q at. let less = rise 0 (suc k) p q refl at (omega arith) in ap not (ne_eqb q.0 e.place (λ one. omega arith)))
-        in ap (map entry_of) (sym others)
-        ∙ ap (λ (b : Bool). map entry_of (cond (not b) (p ∷ filter (λ q. not (q.0 == e.place)) ps) (filter (λ q. not (q.0 == e.place)) ps))) (sym (eq-eqb p.0 e.place place))
+    let same : entry_of p ≡ e = same_Some (entry_of p) e is
+    in let place : p.0 ≡ e.place = ap (λ (entry : Entry). entry.place) same
+    in let others : filter (λ q. not (q.0 == e.place)) ps ≡ ps =
+    filter-all (λ q. not (q.0 == e.place)) ps (λ k q at. let less = rise 0 (suc k) p q refl at (omega arith) in ap not (ne_eqb q.0 e.place (λ one. omega arith)))
+    in ap (map entry_of) (sym others)
+    ∙ ap (λ (b : Bool). map entry_of (cond (not b) (p ∷ filter (λ q. not (q.0 == e.place)) ps) (filter (λ q. not (q.0 == e.place)) ps))) (sym (eq-eqb p.0 e.place place))
     in let there : find (λ (entry : Entry). entry.id == e.id) (map entry_of ps) ≡ Some e → entry_of p ∷ without_oldest (λ (entry : Entry). entry.id) e.id (map entry_of ps) ≡ map entry_of (cond (not (p.0 == e.place)) (p ∷ filter (λ q. not (q.0 == e.place)) ps) (filter (λ q. not (q.0 == e.place)) ps)) =
     λ is.
-        let has = find-has (λ (entry : Entry). entry.id == e.id) (map entry_of ps) e is
-        in let from : (q : ℕ × ScriptItem) × (slice_get ps has.1 ≡ Some q) × (entry_of q ≡ e) = map-from entry_of ps has.1 e has.2
-        in let less = rise 0 (suc has.1) p from.0 refl from.1 (omega arith)
-        in let place : from.0.0 ≡ e.place = ap (λ (entry : Entry). entry.place) from.2
-        in ap (λ (es : List Entry). entry_of p ∷ es) (left-places e ps (rise-tail p ps rise) is)
-        ∙ ap (λ (b : Bool). map entry_of (cond (not b) (p ∷ filter (λ q. not (q.0 == e.place)) ps) (filter (λ q. not (q.0 == e.place)) ps))) (sym (ne_eqb p.0 e.place (λ one. omega arith)))
+    let has = find-has (λ (entry : Entry). entry.id == e.id) (map entry_of ps) e is
+    in let from : (q : ℕ × ScriptItem) × (slice_get ps has.1 ≡ Some q) × (entry_of q ≡ e) = map-from entry_of ps has.1 e has.2
+    in let less = rise 0 (suc has.1) p from.0 refl from.1 (omega arith)
+    in let place : from.0.0 ≡ e.place = ap (λ (entry : Entry). entry.place) from.2
+    in ap (λ (es : List Entry). entry_of p ∷ es) (left-places e ps (rise-tail p ps rise) is)
+    ∙ ap (λ (b : Bool). map entry_of (cond (not b) (p ∷ filter (λ q. not (q.0 == e.place)) ps) (filter (λ q. not (q.0 == e.place)) ps))) (sym (ne_eqb p.0 e.place (λ one. omega arith)))
     in let go : (b : Bool) → cond b (Some (entry_of p)) (find (λ (entry : Entry). entry.id == e.id) (map entry_of ps)) ≡ Some e →
     cond b (map entry_of ps) (entry_of p ∷ without_oldest (λ (entry : Entry). entry.id) e.id (map entry_of ps)) ≡ map entry_of (cond (not (p.0 == e.place)) (p ∷ filter (λ q. not (q.0 == e.place)) ps) (filter (λ q. not (q.0 == e.place)) ps)) =
     elim [ true ↦ here | false ↦ there ]
@@ -133,9 +133,9 @@ module _ (links : List LinkView) (s : ManagerState) (is : IsManager s) (waits : 
         ((note_at (manager_next round links s) p.0).resps ≡ (note_at s p.0).resps) × ((note_at (manager_next round links s) p.0).bytes ≡ (note_at s p.0).bytes) × ((note_at (manager_next round links s) p.0).answered ≡ (note_at s p.0).answered)
     stays-same write j p at apart =
         let not_taken : (other : Bool) (e : Entry) → taken_of links s other ≡ Some e → p.0 ≢ e.place = λ other e taken here.
-            let of_entry = taken-is other e taken
-            in let ways = one-place links s write other j of_entry.0 p of_entry.1 at of_entry.2 (here ∙ ap (λ (entry : Entry). entry.place) (sym of_entry.4))
-            in apart e (ap (taken_of links s) ways.0 ∙ taken) here
+        let of_entry = taken-is other e taken
+        in let ways = one-place links s write other j of_entry.0 p of_entry.1 at of_entry.2 (here ∙ ap (λ (entry : Entry). entry.place) (sym of_entry.4))
+        in apart e (ap (taken_of links s) ways.0 ∙ taken) here
         in elim (change-of links s round p.0 is) [
           | Kept e ↦ (ap (λ (a : AnswerView). a.resps) e, ap (λ (a : AnswerView). a.bytes) e, ap (λ (a : AnswerView). a.answered) e)
           | Wrote x taken here e ↦ absurd (not_taken true x.0 (b-taken links s is x taken) here)
@@ -151,7 +151,7 @@ module _ (links : List LinkView) (s : ManagerState) (is : IsManager s) (waits : 
     left-open write None taken =
         waits write
         ∙ ap (map entry_of) (filter-same (is_open s) (is_open (manager_next round links s)) (issued_ones write s) (λ k p at.
-            ap not (sym (stays-open write k p (take-from (issued_of write s) (of_direction write s.script) k p at).1 (λ e some. absurd (let no : None ≡ Some e = sym taken ∙ some in cc))))))
+        ap not (sym (stays-open write k p (take-from (issued_of write s) (of_direction write s.script) k p at).1 (λ e some. absurd (let no : None ≡ Some e = sym taken ∙ some in cc))))))
     left-open write (Some e) taken =
         ap (without_oldest (λ (entry : Entry). entry.id) e.id) (waits write)
         ∙ left-places e (filter (is_open s) (issued_ones write s)) (rise-filter (is_open s) (issued_ones write s) (ones-rise write s)) (ap (find (λ (entry : Entry). entry.id == e.id)) (sym (waits write)) ∙ taken-found links s write e taken)

@@ -1,23 +1,19 @@
 -- The issued transactions of a direction that are held, where each has one beat of answer.
-use Rattle.std.proofs.Common.{◌≡◌, ◌≢◌, ℕ, ◌+◌, ◌≤◌, ◌==◌, suc, Bool, true, false, cond, List, [], ◌∷◌, ◌++◌, Option, Some, None, All, length, map, refl, sym, ◌∙◌, ap, subst, arith, append-nil}
-use Rattle.std.specs.Option.{option_map, option_to_list}
+use Rattle.std.proofs.Common.{◌≡◌, ℕ, ◌≤◌, ◌==◌, Bool, true, false, cond, List, [], ◌∷◌, ◌++◌, Some, All, map, refl, sym, ◌∙◌, ap, subst, arith}
 use Rattle.std.specs.Prelude.{find, slice_get}
-use Rattle.std.proofs.lemmas.Bool.{eqb-true, eq-eqb}
 use Rattle.std.proofs.lemmas.List.{map-append}
 use Rattle.std.proofs.lemmas.List.Elements.{All-cons, All-filter, All-head, All-tail}
 use Rattle.std.proofs.lemmas.Option.{same_Some}
-use Rattle.std.proofs.lemmas.Simd.{map-map}
 use Rattle.axi_beats.specs.declared.beat.Addr.{Addr}
 use Rattle.flight.specs.Entries.{of_key, count_of, without_oldest, left_after}
 use Rattle.axi_trail.specs.Waiting.{Waiting, fresh, request_of, waiting_shown, beats_by, advanced, answered_once, answered_by, held}
 use Rattle.axi_trail.specs.Words.{Asked, Reply, InOrderOfId, held_asked, beats_of, id_of_asked, id_of_reply, id_of_waiting, len_of_asked, next_reply}
 use Rattle.axi_trail.proofs.FilterFacts.{of_key-append, of_key-map}
-use Rattle.axi_trail.proofs.HeldFacts.{held-answer, held-request}
+use Rattle.axi_trail.proofs.HeldFacts.{held-request}
 use Rattle.axi_trail.proofs.StepFacts.{answer_keeps_order, answers_within, held-shown, later_requests_are_held, next_answer}
 use Rattle.axi_trail.proofs.WaitingFacts.{advanced-last}
 use Rattle.manager_end.specs.Beats.{request_of as request_of_item}
 use Rattle.manager_end.specs.ManagerState.{entry_of}
-use Rattle.manager_end.specs.ManagerTable.{left_waiting, with_issued}
 use Rattle.manager_end.specs.ManagerTrail.{held_items}
 use Rattle.manager_end.specs.Script.{ScriptItem}
 use Rattle.manager_end.specs.declared.entry.Entry.{Entry}

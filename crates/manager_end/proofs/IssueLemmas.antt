@@ -1,5 +1,5 @@
 -- The issues that a manager has noted.
-use Rattle.std.proofs.Common.{◌≡◌, ℕ, ◌+◌, ◌<◌, ◌≤◌, zero, suc, Bool, true, false, List, [], ◌∷◌, Option, Some, None, map, get_or, refl, sym, ◌∙◌, ap, subst, inl, inr, arith}
+use Rattle.std.proofs.Common.{◌≡◌, ℕ, ◌+◌, ◌<◌, zero, suc, Bool, true, false, List, [], ◌∷◌, Option, Some, None, map, get_or, refl, sym, ◌∙◌, ap, subst, inl, inr, arith}
 use Rattle.std.specs.Prelude.{is_some, slice_get}
 use Rattle.std.proofs.lemmas.Bool.{cases_lt}
 use Rattle.std.proofs.lemmas.Option.{same_Some}
@@ -9,7 +9,7 @@ use Rattle.manager_end.specs.ManagerOrder.{note_at}
 use Rattle.manager_end.specs.ManagerState.{ManagerState, IsManager, NotesIssues, due_bytes, issued_of, new_manager, of_direction}
 use Rattle.manager_end.specs.ManagerTable.{manager_next, more}
 use Rattle.manager_end.specs.Script.{ScriptItem}
-use Rattle.manager_end.proofs.NoteLemmas.{Change, Kept, Wrote, Read, Issued, change-of, aw-noted, ar-noted, next_of, next-found}
+use Rattle.manager_end.proofs.NoteLemmas.{Kept, Wrote, Read, Issued, change-of, aw-noted, ar-noted, next_of, next-found}
 use Rattle.manager_end.proofs.PlaceLemmas.{direction-at, direction-once}
 
 -- what is noted of each transaction of a new manager

@@ -4,14 +4,13 @@ use Rattle.std.specs.List.{enumerate_from}
 use Rattle.std.specs.Prelude.{All, count_by, filter, find, is_some, nat_lt, not, slice_get}
 use Rattle.std.specs.Option.{option_map}
 use Rattle.std.proofs.lemmas.Bool.{eqb-true, ltb-true, and_parts, not-true}
-use Rattle.std.proofs.lemmas.List.Elements.{All-cons, All-head, All-tail, All-map, All-filter, All-weaker, filter_passes}
+use Rattle.std.proofs.lemmas.List.Elements.{All-cons, All-map, All-filter, All-weaker, filter_passes}
 use Rattle.std.proofs.lemmas.List.FromFn.{length-enumerate_from, get_or-enumerate_from}
 use Rattle.std.proofs.lemmas.List.Sums.{sum_by-le}
 use Rattle.std.proofs.lemmas.List.{get_or-map, get_or_default, length-map}
 use Rattle.std.proofs.lemmas.Option.{slice_get_within, slice_get-get_or}
 use Rattle.axi_beats.specs.declared.beat.BBeat.{BBeat}
 use Rattle.axi_beats.specs.declared.beat.RBeat.{RBeat}
-use Rattle.axi_beats.specs.Word.{IsBusWidth}
 use Rattle.axi_link.specs.Fits.{TakeFits, PutFits}
 use Rattle.axi_link.specs.LinkView.{LinkView}
 use Rattle.axi_link.specs.Table.{link_of, head_of, has_room, passing, put_of, take_of}
@@ -26,7 +25,7 @@ use Rattle.manager_end.specs.declared.entry.Entry.{Entry}
 use Rattle.manager_end.proofs.IssueLemmas.{issues-begin, issues-stay}
 use Rattle.manager_end.proofs.ListLemmas.{all-counted}
 use Rattle.manager_end.proofs.RowLemmas.{All-middle, answering-found, aw-next, aw-fits, ar-next, ar-fits, w-issued, bus-some}
-use Rattle.manager_end.proofs.WaitingLemmas.{AreKept, kept-turned, kept-answered, kept-issued, oldest-id, waiting-issued, waiting-next}
+use Rattle.manager_end.proofs.WaitingLemmas.{AreKept, kept-turned, kept-answered, kept-issued, waiting-issued, waiting-next}
 
 -- B in a round
 kept-b : (n m size round : ℕ) (answers : List AnswerView) (answered : ℕ) (entries : List Entry) (others own : List ℕ) (o : Option (Entry × BBeat)) → 0 < round → n ≢ m → ((a : Entry × BBeat) → o ≡ Some a → find (λ (entry : Entry). entry.id == a.0.id) entries ≡ Some a.0) → AreKept n m size answers answered (map (λ (entry : Entry). entry.place) entries ++ own) others → AreKept n m size (note_write round o answers) (answered + more (is_some o)) (map (λ (entry : Entry). entry.place) (left_waiting o entries) ++ own) others

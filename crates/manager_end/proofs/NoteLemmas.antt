@@ -1,5 +1,5 @@
 -- What a round does to the note of each transaction.
-use Rattle.std.proofs.Common.{◌≡◌, ◌≢◌, ◌⊎◌, ℕ, ◌+◌, ◌<◌, ◌≤◌, ◌==◌, Bool, true, false, cond, List, [], ◌∷◌, ◌++◌, Option, Some, None, length, map, take, drop, get_or, refl, sym, ◌∙◌, ap, subst, inl, inr, arith}
+use Rattle.std.proofs.Common.{◌≡◌, ◌≢◌, ◌⊎◌, ℕ, ◌+◌, ◌<◌, ◌≤◌, ◌==◌, Bool, true, false, List, [], Option, Some, None, length, map, take, drop, get_or, refl, sym, ◌∙◌, ap, subst, inl, inr}
 use Rattle.std.specs.Option.{option_map}
 use Rattle.std.specs.Prelude.{All, find, slice_get}
 use Rattle.std.proofs.lemmas.Bool.{cases_eq}
@@ -8,9 +8,9 @@ use Rattle.axi_beats.specs.declared.beat.BBeat.{BBeat}
 use Rattle.axi_beats.specs.declared.beat.RBeat.{RBeat}
 use Rattle.axi_link.specs.LinkView.{LinkView}
 use Rattle.flight.specs.Entries.{without_oldest}
-use Rattle.manager_end.specs.Answer.{AnswerView, unanswered, issued_in, answered_in, noted}
+use Rattle.manager_end.specs.Answer.{AnswerView, unanswered, issued_in, answered_in}
 use Rattle.manager_end.specs.ManagerOrder.{note_at}
-use Rattle.manager_end.specs.ManagerState.{ManagerState, IsManager, IsUnanswered, AreWaiting, AreDistinct, waiting, entries_of, issued_of, of_direction}
+use Rattle.manager_end.specs.ManagerState.{ManagerState, IsManager, IsUnanswered, AreWaiting, waiting, entries_of, issued_of, of_direction}
 use Rattle.manager_end.specs.ManagerTable.{manager_aw, manager_ar, manager_b, manager_r, manager_next, note_write, note_read, note_issue}
 use Rattle.manager_end.specs.Script.{ScriptItem}
 use Rattle.manager_end.specs.declared.entry.Entry.{Entry}

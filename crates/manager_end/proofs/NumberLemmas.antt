@@ -1,5 +1,5 @@
 -- The numbers of a script's transactions, which rise, and those that are seen on the link.
-use Rattle.std.proofs.Common.{◌≡◌, ◌↔◌, ℕ, ◌<◌, ◌≤◌, suc, Bool, List, [], ◌∷◌, Option, Some, All, Contains, length, map, take, get_or, refl, sym, ◌∙◌, ap, subst, inl, inr, arith}
+use Rattle.std.proofs.Common.{◌≡◌, ◌↔◌, ℕ, ◌<◌, Bool, List, Some, All, Contains, map, take, get_or, sym, ◌∙◌, ap, subst, inl, inr, arith}
 use Rattle.std.specs.Prelude.{AllPairs, slice_get}
 use Rattle.std.proofs.lemmas.Bool.{cases_order}
 use Rattle.std.proofs.lemmas.Option.{get_or_from_slice_get, slice_get-get_or, slice_get_within}
@@ -65,14 +65,14 @@ issued-shown write s addresses numbered issues put place item at directed =
     ap (map number_of_address) put ∙ map-map number_of_address (λ (p : ℕ × ScriptItem). request_of_item p.1) (take (issued_of write s) (of_direction write s.script))
     in let there : 0 < (note_at s place).issued → Contains (map number_of_item (take (issued_of write s) (of_direction write s.script))) item.txn.number =
     λ some.
-        let less = (issues write of_way.0 (place, item) of_way.1).0 some
-        in contains-at (map number_of_item (take (issued_of write s) (of_direction write s.script))) of_way.0 item.txn.number
-        (map-has number_of_item (take (issued_of write s) (of_direction write s.script)) of_way.0 (place, item) (take-has (issued_of write s) (of_direction write s.script) of_way.0 (place, item) less of_way.1))
+    let less = (issues write of_way.0 (place, item) of_way.1).0 some
+    in contains-at (map number_of_item (take (issued_of write s) (of_direction write s.script))) of_way.0 item.txn.number
+    (map-has number_of_item (take (issued_of write s) (of_direction write s.script)) of_way.0 (place, item) (take-has (issued_of write s) (of_direction write s.script) of_way.0 (place, item) less of_way.1))
     in let back : Contains (map number_of_item (take (issued_of write s) (of_direction write s.script))) item.txn.number → 0 < (note_at s place).issued =
     λ has.
-        let here = at-contains (map number_of_item (take (issued_of write s) (of_direction write s.script))) item.txn.number has
-        in let from : (p : ℕ × ScriptItem) × (slice_get (take (issued_of write s) (of_direction write s.script)) here.0 ≡ Some p) × (number_of_item p ≡ item.txn.number) = map-from number_of_item (take (issued_of write s) (of_direction write s.script)) here.0 item.txn.number here.1
-        in let first = take-from (issued_of write s) (of_direction write s.script) here.0 from.0 from.1
-        in let same : from.0.0 ≡ place = number-once s.script numbered from.0.0 place from.0.1 item (direction-at write s.script here.0 from.0 first.1).0 at from.2
-        in subst (λ (q : ℕ). 0 < (note_at s q).issued) same ((issues write here.0 from.0 first.1).1 first.0)
+    let here = at-contains (map number_of_item (take (issued_of write s) (of_direction write s.script))) item.txn.number has
+    in let from : (p : ℕ × ScriptItem) × (slice_get (take (issued_of write s) (of_direction write s.script)) here.0 ≡ Some p) × (number_of_item p ≡ item.txn.number) = map-from number_of_item (take (issued_of write s) (of_direction write s.script)) here.0 item.txn.number here.1
+    in let first = take-from (issued_of write s) (of_direction write s.script) here.0 from.0 from.1
+    in let same : from.0.0 ≡ place = number-once s.script numbered from.0.0 place from.0.1 item (direction-at write s.script here.0 from.0 first.1).0 at from.2
+    in subst (λ (q : ℕ). 0 < (note_at s q).issued) same ((issues write here.0 from.0 first.1).1 first.0)
     in (λ some. subst (λ (numbers : List ℕ). Contains numbers item.txn.number) (sym seen) (there some), λ has. back (subst (λ (numbers : List ℕ). Contains numbers item.txn.number) seen has))

@@ -15,7 +15,7 @@ use Rattle.manager_end.proofs.AfterLemmas.{after-holds}
 use Rattle.manager_end.proofs.EntryLemmas.{answered-none, entries-stay, some-answered, taken-is, taken-first}
 use Rattle.manager_end.proofs.IssueLemmas.{new-note}
 use Rattle.manager_end.proofs.ListLemmas.{all-counted, item-there, some-counted}
-use Rattle.manager_end.proofs.NoteLemmas.{Change, Kept, Wrote, Read, Issued, change-of, b-taken, r-taken, next_of, next-after, next-found, next-waits, taken_of, taken-waits}
+use Rattle.manager_end.proofs.NoteLemmas.{Kept, Wrote, Read, Issued, change-of, b-taken, r-taken, next_of, next-after, next-found, next-waits, taken_of, taken-waits}
 use Rattle.manager_end.proofs.PlaceLemmas.{direction-at, direction-before, direction-of}
 
 -- the next transaction isn't noted as issued

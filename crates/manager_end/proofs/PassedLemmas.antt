@@ -1,5 +1,5 @@
 -- What a round adds to a manager's trail, and what waits after it.
-use Rattle.std.proofs.Common.{◌≡◌, ℕ, ◌+◌, ◌≤◌, ◌==◌, suc, Bool, true, false, cond, List, [], ◌∷◌, ◌++◌, Option, Some, None, All, map, take, refl, sym, ◌∙◌, ap, subst, add-zero, add-one, append-nil, eq-eqb}
+use Rattle.std.proofs.Common.{◌≡◌, ℕ, ◌+◌, ◌≤◌, ◌==◌, Bool, true, false, cond, List, [], ◌∷◌, ◌++◌, Option, Some, None, All, map, take, refl, sym, ◌∙◌, ap, subst, add-zero, add-one, append-nil, eq-eqb}
 use Rattle.std.specs.Option.{option_map, option_to_list}
 use Rattle.std.specs.Prelude.{find, is_some, slice_get}
 use Rattle.std.proofs.lemmas.List.{map-append}
@@ -12,7 +12,7 @@ use Rattle.flight.specs.Entries.{of_key, count_of, without_oldest}
 use Rattle.axi_trail.specs.Streams.{beat_taken}
 use Rattle.axi_trail.specs.Trail.{moved_above}
 use Rattle.axi_trail.specs.Waiting.{beats_by}
-use Rattle.axi_trail.specs.Words.{Asked, Reply, InOrderOfId, id_of_reply}
+use Rattle.axi_trail.specs.Words.{Reply, InOrderOfId, id_of_reply}
 use Rattle.manager_end.specs.Beats.{data_of, request_of as request_of_item}
 use Rattle.manager_end.specs.ManagerState.{ManagerState, entry_of}
 use Rattle.manager_end.specs.ManagerTable.{answering, below, left_waiting, manager_aw, manager_w, manager_ar, manager_b, manager_r, manager_out, more, with_issued}
@@ -124,10 +124,10 @@ module _ {X : Type 0} (number_of id_of : X → ℕ) (last_of : X → Bool) (len_
         in let taken = taken-own x here after
         in (
           ap (without_oldest (λ (entry : Entry). entry.id) x.0.id) same
-          ∙ ap (λ (id : ℕ). without_oldest (λ (entry : Entry). entry.id) id (map entry_of (held_items items (map id_of beats)))) (oldest-id (id_of x.1) entries x.0 here)
-          ∙ sym (entries-left (id_of x.1) (held_items items (map id_of beats)))
-          ∙ ap (map entry_of) (sym (held_items-answer items single (map id_of beats) (id_of x.1)))
-          ∙ ap (λ (ids : List ℕ). map entry_of (held_items items ids)) (sym (map-append id_of beats (x.1 ∷ []))),
+              ∙ ap (λ (id : ℕ). without_oldest (λ (entry : Entry). entry.id) id (map entry_of (held_items items (map id_of beats)))) (oldest-id (id_of x.1) entries x.0 here)
+              ∙ sym (entries-left (id_of x.1) (held_items items (map id_of beats)))
+              ∙ ap (map entry_of) (sym (held_items-answer items single (map id_of beats) (id_of x.1)))
+              ∙ ap (λ (ids : List ℕ). map entry_of (held_items items ids)) (sym (map-append id_of beats (x.1 ∷ []))),
           few-of (beats ++ x.1 ∷ []) taken.5,
         )
 

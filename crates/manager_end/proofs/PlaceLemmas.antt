@@ -1,9 +1,9 @@
 -- The transactions of one direction, by their places in the script.
-use Rattle.std.proofs.Common.{◌≡◌, ℕ, ◌+◌, ◌<◌, ◌≤◌, zero, suc, Bool, true, false, cond, List, [], ◌∷◌, Option, Some, None, length, refl, sym, ◌∙◌, ap, subst, inl, inr, arith}
+use Rattle.std.proofs.Common.{◌≡◌, ℕ, ◌+◌, ◌<◌, ◌≤◌, zero, suc, Bool, true, false, cond, List, [], ◌∷◌, Option, Some, None, refl, sym, ◌∙◌, ap, inl, inr, arith}
 use Rattle.std.specs.List.{enumerate_from}
 use Rattle.std.specs.Option.{option_map}
 use Rattle.std.specs.Prelude.{filter, not, slice_get}
-use Rattle.std.proofs.lemmas.Bool.{cases_order, cases_lt, not-true}
+use Rattle.std.proofs.lemmas.Bool.{cases_order, not-true}
 use Rattle.manager_end.specs.ManagerState.{is_directed, of_direction}
 use Rattle.manager_end.specs.Script.{ScriptItem}
 use Rattle.manager_end.specs.declared.script.Txn.{Txn}

@@ -1,7 +1,6 @@
 -- What holds of a manager over its rounds and its trail.
-use Rattle.std.proofs.Common.{◌≡◌, ◌≢◌, ◌↔◌, ℕ, ◌+◌, ◌-◌, ◌<◌, ◌≤◌, zero, suc, Bool, true, false, List, [], ◌∷◌, ◌++◌, Option, Some, None, All, Contains, length, map, take, drop, refl, sym, ◌∙◌, ap, subst, inl, inr, arith, append-nil}
-use Rattle.std.specs.Option.{option_map, option_to_list}
-use Rattle.std.specs.Prelude.{is_some, slice_get}
+use Rattle.std.proofs.Common.{◌≡◌, ◌≢◌, ◌↔◌, ℕ, ◌+◌, ◌-◌, ◌<◌, zero, suc, true, false, List, [], ◌∷◌, ◌++◌, Some, Contains, length, map, take, drop, refl, sym, ◌∙◌, ap, subst, inl, inr, arith, append-nil}
+use Rattle.std.specs.Prelude.{slice_get}
 use Rattle.std.proofs.lemmas.Option.{same_Some}
 use Rattle.axi_beats.specs.Word.{IsWholeWord}
 use Rattle.axi_beats.specs.declared.beat.BBeat.{BBeat}
@@ -12,13 +11,13 @@ use Rattle.flight.specs.Entries.{of_key}
 use Rattle.axi_trail.proofs.StreamFacts.{prefix_nil}
 use Rattle.axi_trail.specs.LinkContracts.{Answers}
 use Rattle.axi_trail.specs.Schedule.{Schedule, Span, Progress, bytes_on}
-use Rattle.axi_trail.specs.Trail.{Beats, no_beats}
+use Rattle.axi_trail.specs.Trail.{Beats}
 use Rattle.axi_trail.specs.Words.{number_of_response, number_of_read_data}
 use Rattle.manager_end.specs.Answer.{AnswerView, answered_in}
 use Rattle.manager_end.specs.ManagerOrder.{IsAt, note_at}
 use Rattle.manager_end.specs.ManagerState.{ManagerState, IsManager, new_manager, of_direction}
 use Rattle.manager_end.specs.ManagerTable.{manager_b, manager_r, manager_next}
-use Rattle.manager_end.specs.ManagerTrail.{HasItem, HasPassed, IsPlanOf, IsReadNote, IsWriteNote, ManagerKeeps, ManagerOpens, ManagerSteps, manager_trail}
+use Rattle.manager_end.specs.ManagerTrail.{HasItem, HasPassed, IsReadNote, IsWriteNote, ManagerKeeps, ManagerOpens, ManagerSteps, manager_trail}
 use Rattle.manager_end.specs.Script.{ScriptItem}
 use Rattle.manager_end.specs.declared.entry.Entry.{Entry}
 use Rattle.manager_end.proofs.EntryLemmas.{stays-same}
@@ -78,15 +77,15 @@ module _ (plan : Schedule) (now : Progress) (rounds : ℕ) (links : List LinkVie
   write-waits place item at directed apart =
       let of_way : (n : ℕ) × (slice_get (of_direction true s.script) n ≡ Some (place, item)) = direction-of true s.script place item at directed
       in let not_taken : (e : Entry) → taken_of links s true ≡ Some e → place ≢ e.place = λ e taken here.
-          let x : (x : Entry × BBeat) × (manager_b links s ≡ Some x) × (x.0 ≡ e) = mapped links s (manager_b links s) e taken
-          in apart x.0 x.1 (here ∙ ap (λ (entry : Entry). entry.place) (sym x.2))
+      let x : (x : Entry × BBeat) × (manager_b links s ≡ Some x) × (x.0 ≡ e) = mapped links s (manager_b links s) e taken
+      in apart x.0 x.1 (here ∙ ap (λ (entry : Entry). entry.place) (sym x.2))
       in let same = stays-same links s keeps.is_manager keeps.in_order.waiting (suc rounds) (omega arith) true of_way.0 (place, item) of_way.1 not_taken
       in let note = keeps.passed.write_notes place item at directed
       in let others : of_key number_of_response item.txn.number (manager_trail links s trail).b ≡ of_key number_of_response item.txn.number trail.b =
       ap (of_key number_of_response item.txn.number) (b-after plan now rounds links s trail keeps answers)
       ∙ own-other number_of_response item.txn.number trail.b (manager_b links s) (λ x taken own.
-          let number = b-number plan now rounds links s trail keeps answers x taken
-          in apart x taken (number-once s.script keeps.planned.numbered place x.0.place item number.0 at number.1 (sym own ∙ number.2)))
+      let number = b-number plan now rounds links s trail keeps answers x taken
+      in apart x taken (number-once s.script keeps.planned.numbered place x.0.place item number.0 at number.1 (sym own ∙ number.2)))
       in record {
         issued = write-shown place item at directed;
         responses = same.0 ∙ note.responses ∙ ap (map (λ (b : BBeat). b.resp)) (sym others);
@@ -131,15 +130,15 @@ module _ (plan : Schedule) (now : Progress) (rounds : ℕ) (links : List LinkVie
   read-waits place item at directed apart =
       let of_way : (n : ℕ) × (slice_get (of_direction false s.script) n ≡ Some (place, item)) = direction-of false s.script place item at directed
       in let not_taken : (e : Entry) → taken_of links s false ≡ Some e → place ≢ e.place = λ e taken here.
-          let x : (x : Entry × RBeat) × (manager_r links s ≡ Some x) × (x.0 ≡ e) = mapped links s (manager_r links s) e taken
-          in apart x.0 x.1 (here ∙ ap (λ (entry : Entry). entry.place) (sym x.2))
+      let x : (x : Entry × RBeat) × (manager_r links s ≡ Some x) × (x.0 ≡ e) = mapped links s (manager_r links s) e taken
+      in apart x.0 x.1 (here ∙ ap (λ (entry : Entry). entry.place) (sym x.2))
       in let same = stays-same links s keeps.is_manager keeps.in_order.waiting (suc rounds) (omega arith) false of_way.0 (place, item) of_way.1 not_taken
       in let note = keeps.passed.read_notes place item at directed
       in let others : of_key number_of_read_data item.txn.number (manager_trail links s trail).r ≡ of_key number_of_read_data item.txn.number trail.r =
       ap (of_key number_of_read_data item.txn.number) (r-after plan now rounds links s trail keeps answers)
       ∙ own-other number_of_read_data item.txn.number trail.r (manager_r links s) (λ x taken own.
-          let number = r-number plan now rounds links s trail keeps answers x taken
-          in apart x taken (number-once s.script keeps.planned.numbered place x.0.place item number.0 at number.1 (sym own ∙ number.2)))
+      let number = r-number plan now rounds links s trail keeps answers x taken
+      in apart x taken (number-once s.script keeps.planned.numbered place x.0.place item number.0 at number.1 (sym own ∙ number.2)))
       in record {
         issued = read-shown place item at directed;
         responses = same.0 ∙ note.responses ∙ ap (map (λ (r : RBeat). r.resp)) (sym others);

@@ -1,49 +1,40 @@
 -- A manager's trail after one more round, and the answers in it.
-use Rattle.std.proofs.Common.{◌≡◌, ◌≢◌, ℕ, ◌+◌, ◌-◌, ◌<◌, ◌≤◌, ◌==◌, suc, Bool, true, false, List, [], ◌∷◌, ◌++◌, Option, Some, None, All, length, map, take, drop, refl, sym, ◌∙◌, ap, subst, inl, inr, arith, append-nil}
+use Rattle.std.proofs.Common.{◌≡◌, ◌≢◌, ℕ, ◌==◌, suc, Bool, true, false, List, [], ◌∷◌, ◌++◌, Option, Some, None, All, map, take, refl, sym, ◌∙◌, ap, subst, append-nil}
 use Rattle.std.specs.Option.{option_map, option_to_list}
-use Rattle.std.specs.Prelude.{find, is_some, slice_get}
-use Rattle.std.proofs.lemmas.List.{map-append}
+use Rattle.std.specs.Prelude.{find, slice_get}
 use Rattle.std.proofs.lemmas.Simd.{map-map}
 use Rattle.axi_beats.specs.Word.{IsWholeWord}
 use Rattle.axi_beats.specs.declared.beat.Addr.{Addr}
 use Rattle.axi_beats.specs.declared.beat.BBeat.{BBeat}
 use Rattle.axi_beats.specs.declared.beat.RBeat.{RBeat}
-use Rattle.axi_beats.specs.declared.response.Resp.{Resp}
 use Rattle.axi_link.specs.LinkView.{LinkView}
 use Rattle.axi_link.specs.Table.{head_of}
 use Rattle.flight.specs.Entries.{of_key}
 use Rattle.axi_trail.proofs.FilterFacts.{of_key-push, of_key-push_other}
-use Rattle.axi_trail.proofs.StreamFacts.{prefix_nil}
 use Rattle.axi_trail.specs.LinkContracts.{Answers}
-use Rattle.axi_trail.specs.Schedule.{Schedule, Span, Progress, bytes_on}
-use Rattle.axi_trail.specs.Trail.{Beats, no_beats}
-use Rattle.axi_trail.specs.Words.{Asked, Reply, InOrderOfId, burst_asked, number_of_response, number_of_read_data, read_reply, reads_asked, read_replies, write_asked, write_reply, writes_asked, write_replies}
-use Rattle.manager_end.specs.Answer.{AnswerView, answered_in}
+use Rattle.axi_trail.specs.Schedule.{Schedule, Progress}
+use Rattle.axi_trail.specs.Trail.{Beats}
+use Rattle.axi_trail.specs.Words.{Asked, InOrderOfId, burst_asked, number_of_response, number_of_read_data, read_reply, read_replies, write_asked, write_reply, write_replies}
 use Rattle.manager_end.specs.Beats.{data_of, request_of as request_of_item}
-use Rattle.manager_end.specs.ManagerOrder.{AreInOrder, IsAt, note_at}
-use Rattle.manager_end.specs.ManagerState.{ManagerState, IsManager, entry_of, new_manager, of_direction, writes_of, reads_of}
+use Rattle.manager_end.specs.ManagerOrder.{IsAt}
+use Rattle.manager_end.specs.ManagerState.{ManagerState, entry_of, of_direction, writes_of, reads_of}
 use Rattle.manager_end.specs.ManagerTable.{below, manager_aw, manager_w, manager_ar, manager_b, manager_r, manager_next}
-use Rattle.manager_end.specs.ManagerTrail.{HasItem, HasPassed, IsPlanOf, IsReadNote, IsWriteNote, ManagerKeeps, ManagerOpens, ManagerSteps, held_items, manager_trail}
+use Rattle.manager_end.specs.ManagerTrail.{ManagerKeeps, held_items, manager_trail}
 use Rattle.manager_end.specs.Script.{ScriptItem}
 use Rattle.manager_end.specs.declared.entry.Entry.{Entry}
-use Rattle.manager_end.proofs.EntryLemmas.{stays-same}
 use Rattle.manager_end.proofs.HeldLemmas.{asked_by, held_items-are, id_of_item, left-has, len_of_item, single_len}
-use Rattle.manager_end.proofs.IssueLemmas.{new-note}
-use Rattle.manager_end.proofs.ManagerLaws.{manager-begins, manager-stays}
-use Rattle.manager_end.proofs.NoteLemmas.{b-noted, b-taken, r-noted, r-taken, hits, mapped, taken_of, taken-waits}
-use Rattle.manager_end.proofs.NumberLemmas.{all-at, at-all, issued-shown, number-once}
-use Rattle.manager_end.proofs.OrderLaws.{order-begins, order-stays}
-use Rattle.manager_end.proofs.PassedLemmas.{answering-own, ar-moved, aw-moved, b-moved, beat_of, put-grows, r-moved, reply_by, take-next, taken-own, w-moved, waits-next}
-use Rattle.manager_end.proofs.PlaceLemmas.{direction-at, direction-of}
+use Rattle.manager_end.proofs.NumberLemmas.{all-at, at-all}
+use Rattle.manager_end.proofs.PassedLemmas.{answering-own, ar-moved, aw-moved, b-moved, put-grows, r-moved, reply_by, take-next, taken-own, w-moved, waits-next}
+use Rattle.manager_end.proofs.PlaceLemmas.{direction-at}
 use Rattle.manager_end.proofs.ListLemmas.{take-from}
-use Rattle.manager_end.proofs.RowLemmas.{ar-next, aw-next, bus-some, w-next}
+use Rattle.manager_end.proofs.RowLemmas.{ar-next, aw-next, w-next}
 
 -- the transactions of a direction ask for one beat each
 pub items-single : (write : Bool) (bus n : ℕ) (script : List ScriptItem) → All (λ (item : ScriptItem). IsWholeWord bus item.txn.request) script → All (λ p. len_of_item p ≡ 0) (take n (of_direction write script))
 items-single write bus n script words =
     all-at (λ p. len_of_item p ≡ 0) (take n (of_direction write script)) (λ k p at.
-        let place = direction-at write script k p (take-from n (of_direction write script) k p at).1
-        in (at-all (λ (item : ScriptItem). IsWholeWord bus item.txn.request) script p.0 p.1 words place.0).one_beat)
+    let place = direction-at write script k p (take-from n (of_direction write script) k p at).1
+    in (at-all (λ (item : ScriptItem). IsWholeWord bus item.txn.request) script p.0 p.1 words place.0).one_beat)
 
 -- an answer that is taken has the number of the transaction at its entry's place
 module _ {X : Type 0} (number_of id_of : X → ℕ) (last_of : X → Bool) (len_of : Addr → ℕ) where

@@ -41,7 +41,9 @@ pub record AreInOrder (rounds : ℕ) (s : ManagerState) : Type 0 where
   -- those of one ID are answered in their order
   pub answers : (earlier later : ℕ) → AreOfId s earlier later → 0 < (note_at s later).answered → (0 < (note_at s earlier).answered) × ((note_at s earlier).answered < (note_at s later).answered)
   -- those wait for their answers that are issued and not answered, in their order
-  pub waiting : (write : Bool) → entries_of write s ≡ map entry_of (filter (λ p. not (is_answered (note_at s p.0))) (take (issued_of write s) (of_direction write s.script)))
+  pub waiting :
+      (write : Bool) →
+      entries_of write s ≡ map entry_of (filter (λ p. not (is_answered (note_at s p.0))) (take (issued_of write s) (of_direction write s.script)))
   -- a transaction is issued after the first ones of the script were answered that it waits for
   pub waits :
       (before place : ℕ) (item : ScriptItem) → IsAt s place item → before < item.txn.after → 0 < (note_at s place).issued →

@@ -1,14 +1,15 @@
 //! `Answer`, seen in clauses as what came for a transaction, and what is due.
 
-ghost use Rattle.std.specs.Prelude.{◌≡◌, ◌<◌, ◌≤◌, ◌+◌, ◌-◌, ◌++◌, [], length, take, slice_get, Some, IfOk};
+ghost use Rattle.std.specs.Prelude.{◌≡◌, ◌<◌, ◌≤◌, ◌+◌, ◌-◌, ◌++◌, [], length, take, slice_get};
+ghost use Rattle.std.specs.Prelude.{Some, IfOk};
 ghost use Rattle.manager_end.specs.Answer.{answered_in, issued_in, unanswered};
 
 use axi_beats::{Lanes, NoMemory, Resp};
 use std::alloc::Global;
 use std::marker::Model;
 
-/// What a manager notes of one transaction: the rounds of its issue and of its answer, the responses
-/// and, of a read, the bytes.
+/// What a manager notes of one transaction: the rounds of its issue and of its answer, the
+/// responses and, of a read, the bytes.
 #[derive(Drop)]
 pub struct Answer {
     issued: u64,

@@ -1,6 +1,7 @@
 //! `Answers`, seen in clauses as the list of what is noted of each transaction of a script.
 
-ghost use Rattle.std.specs.Prelude.{◌≡◌, ◌<◌, ◌≤◌, ◌+◌, [], length, map, take, slice_get, slice_index_or, Some, IfOk};
+ghost use Rattle.std.specs.Prelude.{◌≡◌, ◌<◌, ◌≤◌, ◌+◌, [], length, map, take, slice_get};
+ghost use Rattle.std.specs.Prelude.{slice_index_or, Some, IfOk};
 ghost use Rattle.std.specs.Option.{option_copied};
 ghost use Rattle.manager_end.specs.Answer.{answered_in, issued_in, noted, unanswered};
 ghost use Rattle.manager_end.specs.ManagerState.{IsUnanswered, due_bytes};
@@ -29,7 +30,8 @@ impl Model for Answers {
 impl Answers {
     /// Room for the answers to all transactions of a script on a bus of `bus` bytes.
     pub(crate) fn new(alloc: Global, script: &Script, bus: u8) -> Result<Answers, NoMemory>
-        ensures { IfOk result (λ answers. answers ≡ map (λ item. unanswered (due_bytes bus item.txn)) script.now) }
+        ensures { IfOk result (λ answers.
+            answers ≡ map (λ item. unanswered (due_bytes bus item.txn)) script.now) }
     {
         let mut items = Vec::new(alloc);
         for n in 0..script.len() {
@@ -71,7 +73,8 @@ impl Answers {
         requires within { place < length self.old }
         requires due { IsUnanswered bus (slice_index_or self.old place (unanswered 0)) }
         requires lanes { bus ≤ 128 }
-        ensures { self.new ≡ noted place (answered_in round beat.now.resp (take bus beat.now.lanes)) self.old }
+        ensures { self.new ≡ noted place
+            (answered_in round beat.now.resp (take bus beat.now.lanes)) self.old }
     {
         self.items[place as usize].note_data(round, beat.resp, bus, &beat.lanes);
     }

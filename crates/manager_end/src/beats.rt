@@ -18,7 +18,8 @@ pub(crate) fn put_request(
     place: Option<u32>,
 )
     requires { IfSome place (λ p. p < length script.now) }
-    ensures { put.new ≡ put_of number (option_map (λ next. request_of next.1) (placed script.now place)) }
+    ensures { put.new ≡ put_of number
+        (option_map (λ next. request_of next.1) (placed script.now place)) }
 {
     match place {
         Some(place) => {
@@ -41,7 +42,8 @@ pub(crate) fn put_data(
     place: Option<u32>,
 )
     requires { IfSome place (λ p. p < length script.now) }
-    ensures { put.new ≡ put_of number (option_map (λ next. data_of next.1) (placed script.now place)) }
+    ensures { put.new ≡ put_of number
+        (option_map (λ next. data_of next.1) (placed script.now place)) }
 {
     match place {
         Some(place) => {

@@ -1,6 +1,8 @@
 //! The transactions of one direction, writes or reads: what is issued of them, and what waits.
 
-ghost use Rattle.std.specs.Prelude.{◌≡◌, ◌==◌, ◌<◌, ◌+◌, ◌&&◌, ◌++◌, ◌∷◌, [], All, Some, find, length, map, nat_lt, slice_get, vec_len, if◌then◌else◌, IfOk, IfSome, IsSome, OnOk};
+ghost use Rattle.std.specs.Prelude.{◌≡◌, ◌==◌, ◌<◌, ◌+◌, ◌&&◌, ◌++◌, ◌∷◌, [], All, Some, find};
+ghost use Rattle.std.specs.Prelude.{length, map, nat_lt, slice_get, vec_len, if◌then◌else◌, IfOk};
+ghost use Rattle.std.specs.Prelude.{IfSome, IsSome, OnOk};
 ghost use Rattle.std.specs.Option.{option_map};
 ghost use Rattle.axi_link.specs.Table.{passing};
 ghost use Rattle.flight.specs.Entries.{without_oldest};
@@ -26,7 +28,8 @@ pub(crate) struct Direction {
 impl Direction {
     /// The writes of a script, or its reads, none of which is issued.
     pub(crate) fn new(alloc: Global, script: &Script, write: bool) -> Result<Direction, NoMemory>
-        ensures places { IfOk result (λ d. d.places.items ≡ map (λ p. p.0) (of_direction write script.now)) }
+        ensures places { IfOk result (λ d.
+            d.places.items ≡ map (λ p. p.0) (of_direction write script.now)) }
         ensures issued { IfOk result (λ d. d.issued ≡ 0) }
         ensures entries { IfOk result (λ d. d.entries ≡ []) }
     {
@@ -62,10 +65,11 @@ impl Direction {
         }
     }
 
-    /// The place of the oldest write that is issued and whose data isn't sent, where there is room on
-    /// the link. The data of the first `sent` writes is sent.
+    /// The place of the oldest write that is issued and whose data isn't sent, where there is room
+    /// on the link. The data of the first `sent` writes is sent.
     pub(crate) fn next_data(&self, sent: usize, room: bool) -> Option<u32>
-        ensures { result ≡ passing (nat_lt sent self.now.issued && room) (slice_get self.now.places.items sent) }
+        ensures { result ≡ passing (nat_lt sent self.now.issued && room)
+            (slice_get self.now.places.items sent) }
     {
         if sent < self.issued && room {
             self.places.get(sent).copied()
@@ -81,7 +85,8 @@ impl Direction {
         requires more { self.old.issued < vec_len self.old.places }
         ensures places { self.new.places ≡ self.old.places }
         ensures issued { self.new.issued ≡ self.old.issued + 1 }
-        ensures entries { self.new.entries ≡ with_issued (placed script.now (Some place)) self.old.entries }
+        ensures entries { self.new.entries ≡
+            with_issued (placed script.now (Some place)) self.old.entries }
     {
         let id = script.txn(place).request.id;
         self.entries.push(Entry { place, id });
@@ -91,10 +96,12 @@ impl Direction {
     /// Takes the oldest transaction of an ID out of those that wait, and tells its place; None
     /// exactly where none has the ID.
     pub(crate) fn close(&mut self, id: u32) -> Option<u32>
-        ensures place { result ≡ option_map (λ entry. entry.place) (find (λ entry. entry.id == id) self.old.entries) }
+        ensures place { result ≡ option_map (λ entry. entry.place)
+            (find (λ entry. entry.id == id) self.old.entries) }
         ensures places { self.new.places ≡ self.old.places }
         ensures issued { self.new.issued ≡ self.old.issued }
-        ensures entries { self.new.entries ≡ without_oldest (λ entry. entry.id) id self.old.entries }
+        ensures entries { self.new.entries ≡
+            without_oldest (λ entry. entry.id) id self.old.entries }
     {
         match self.entries.oldest(id) {
             Some(oldest) => Some(self.entries.take(oldest).place),
@@ -112,7 +119,8 @@ fn is_directed(txn: &Txn, write: bool) -> bool
 
 /// Adds a number where it is wanted.
 fn push_where(numbers: &mut Vec<u32>, number: u32, wanted: bool) -> Result<(), NoMemory>
-    ensures { OnOk result (numbers.new.items ≡ numbers.old.items ++ (if wanted then number ∷ [] else [])) }
+    ensures { OnOk result (numbers.new.items ≡
+        numbers.old.items ++ (if wanted then number ∷ [] else [])) }
 {
     if wanted && numbers.push(number).is_err() {
         return Err(NoMemory);

@@ -1,12 +1,15 @@
 //! `Manager`, seen in clauses as its state and its moves.
 
-ghost use Rattle.std.specs.Prelude.{◌≡◌, ◌<◌, ◌≤◌, ◌+◌, ◌∷◌, [], All, IfOk, IfSome, IsSome, length, is_some, slice_index_or, vec_len};
+ghost use Rattle.std.specs.Prelude.{◌≡◌, ◌<◌, ◌≤◌, ◌+◌, ◌∷◌, [], All, IfOk, IfSome, IsSome, length};
+ghost use Rattle.std.specs.Prelude.{is_some, slice_index_or, vec_len};
 ghost use Rattle.std.specs.Option.{option_copied};
 ghost use Rattle.axi_beats.specs.Word.{IsBusWidth, IsWholeWord};
 ghost use Rattle.axi_link.specs.Acted.{opened};
 ghost use Rattle.manager_end.specs.Answer.{unanswered};
-ghost use Rattle.manager_end.specs.ManagerState.{CanManager, IsUnanswered, answer_of, is_done, new_manager};
-ghost use Rattle.manager_end.specs.ManagerTable.{answering, left_waiting, manager_table, more, note_issue, note_read, note_write, with_issued};
+ghost use Rattle.manager_end.specs.ManagerState.{CanManager, IsUnanswered, answer_of, is_done};
+ghost use Rattle.manager_end.specs.ManagerState.{new_manager};
+ghost use Rattle.manager_end.specs.ManagerTable.{answering, left_waiting, manager_table, more};
+ghost use Rattle.manager_end.specs.ManagerTable.{note_issue, note_read, note_write, with_issued};
 ghost use Rattle.manager_end.specs.Placed.{placed};
 
 use crate::answer::Answer;
@@ -168,10 +171,19 @@ fn take_response(
     head: Option<&BBeat>,
 ) -> bool
     requires within { All (λ entry. entry.place < length answers.old) writes.old.entries }
-    requires due { All (λ entry. IsUnanswered 0 (slice_index_or answers.old entry.place (unanswered 0))) writes.old.entries }
-    ensures taken { result ≡ is_some (answering (λ beat. beat.id) writes.old.entries (option_copied head.entry)) }
-    ensures writes { writes.new ≡ record writes.old { entries = left_waiting (answering (λ beat. beat.id) writes.old.entries (option_copied head.entry)) writes.old.entries } }
-    ensures answers { answers.new ≡ note_write round (answering (λ beat. beat.id) writes.old.entries (option_copied head.entry)) answers.old }
+    requires due { All (λ entry.
+        IsUnanswered 0 (slice_index_or answers.old entry.place (unanswered 0)))
+        writes.old.entries }
+    ensures taken { result ≡ is_some
+        (answering (λ beat. beat.id) writes.old.entries (option_copied head.entry)) }
+    ensures writes { writes.new ≡ record writes.old {
+      entries = left_waiting
+          (answering (λ beat. beat.id) writes.old.entries (option_copied head.entry))
+          writes.old.entries;
+    } }
+    ensures answers { answers.new ≡ note_write round
+        (answering (λ beat. beat.id) writes.old.entries (option_copied head.entry))
+        answers.old }
 {
     let Some(beat) = head else {
         return false;
@@ -192,11 +204,20 @@ fn take_data(
     head: Option<&RBeat>,
 ) -> bool
     requires within { All (λ entry. entry.place < length answers.old) reads.old.entries }
-    requires due { All (λ entry. IsUnanswered bus (slice_index_or answers.old entry.place (unanswered 0))) reads.old.entries }
+    requires due { All (λ entry.
+        IsUnanswered bus (slice_index_or answers.old entry.place (unanswered 0)))
+        reads.old.entries }
     requires lanes { bus ≤ 128 }
-    ensures taken { result ≡ is_some (answering (λ beat. beat.id) reads.old.entries (option_copied head.entry)) }
-    ensures reads { reads.new ≡ record reads.old { entries = left_waiting (answering (λ beat. beat.id) reads.old.entries (option_copied head.entry)) reads.old.entries } }
-    ensures answers { answers.new ≡ note_read round bus (answering (λ beat. beat.id) reads.old.entries (option_copied head.entry)) answers.old }
+    ensures taken { result ≡ is_some
+        (answering (λ beat. beat.id) reads.old.entries (option_copied head.entry)) }
+    ensures reads { reads.new ≡ record reads.old {
+      entries = left_waiting
+          (answering (λ beat. beat.id) reads.old.entries (option_copied head.entry))
+          reads.old.entries;
+    } }
+    ensures answers { answers.new ≡ note_read round bus
+        (answering (λ beat. beat.id) reads.old.entries (option_copied head.entry))
+        answers.old }
 {
     let Some(beat) = head else {
         return false;

@@ -1,6 +1,7 @@
 //! What holds of the manager's definitions alone.
 
-ghost use Rattle.manager_end.specs.Laws.{DoneIsAnswered, ManagerMovesFit, ManagerBegins, ManagerStays};
+ghost use Rattle.manager_end.specs.Laws.{DoneIsAnswered, ManagerMovesFit, ManagerBegins};
+ghost use Rattle.manager_end.specs.Laws.{ManagerStays};
 ghost use Rattle.manager_end.specs.ManagerOrder.{NotesStay};
 ghost use Rattle.manager_end.specs.ManagerTrail.{ManagerAsks, ManagerOpens, ManagerSteps};
 
@@ -24,7 +25,8 @@ pub fn laws_of_rounds()
 
 /// The laws of a manager and of what it has passed on its link.
 pub fn laws_of_trails()
-    // Its invariant holds at the start, and after each round in which the link answers as it should.
+    // The invariant holds at the start, and after each round in which the link answers as it
+    // should.
     ensures opens { ManagerOpens }
     ensures steps { ManagerSteps }
 

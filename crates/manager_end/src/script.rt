@@ -1,6 +1,7 @@
 //! `Script`, seen in clauses as the list of its transactions, each with its bytes.
 
-ghost use Rattle.std.specs.Prelude.{◌≡◌, ◌<◌, ◌≤◌, ◌++◌, ◌∷◌, [], length, slice_get, OnOk, OnErr, Some};
+ghost use Rattle.std.specs.Prelude.{◌≡◌, ◌<◌, ◌≤◌, ◌++◌, ◌∷◌, [], length, slice_get, OnOk, OnErr};
+ghost use Rattle.std.specs.Prelude.{Some};
 ghost use Rattle.std.specs.Option.{option_map};
 ghost use Rattle.manager_end.specs.Script.{CanPush, IsScript};
 
@@ -67,11 +68,12 @@ impl Script {
         }
     }
 
-    /// Adds a transaction with its bytes: those that a write names, lowest lane first, and none for a
-    /// read. The script is unchanged where there is no memory.
+    /// Adds a transaction with its bytes: those that a write names, lowest lane first, and none for
+    /// a read. The script is unchanged where there is no memory.
     pub fn push(&mut self, txn: Txn, bytes: &[WriteByte]) -> Result<(), NoMemory>
         requires { CanPush self.old txn bytes.now }
-        ensures ok { OnOk result (self.new ≡ self.old ++ record { txn = txn; bytes = bytes.now } ∷ []) }
+        ensures ok { OnOk result
+            (self.new ≡ self.old ++ record { txn = txn; bytes = bytes.now } ∷ []) }
         ensures err { OnErr result (self.new ≡ self.old) }
     {
         let bytes = Vec::from_slice(self.alloc, bytes)?;

@@ -1,6 +1,7 @@
 //! Known values: a manager whose answers are made by hand.
 
-ghost use Rattle.std.specs.Prelude.{◌≡◌, ◌<◌, ◌≤◌, ◌^◌, ◌%◌, ◌++◌, ◌∷◌, [], All, IfOk, IsTrue, OnOk, length};
+ghost use Rattle.std.specs.Prelude.{◌≡◌, ◌<◌, ◌≤◌, ◌^◌, ◌%◌, ◌++◌, ◌∷◌, [], All, IfOk, IsTrue};
+ghost use Rattle.std.specs.Prelude.{OnOk, length};
 ghost use Rattle.axi_beats.specs.Word.{IsWholeWord};
 ghost use Rattle.axi_link.specs.Acted.{opened};
 ghost use Rattle.manager_end.specs.Script.{CanPush};
@@ -145,6 +146,8 @@ fn decide(
 #[test]
 fn reads_wait_for_writes_and_answers_find_their_ids(rt: HostRuntime) -> Result<(), Fail> {
     laws();
+    laws_of_rounds();
+    laws_of_trails();
     let alloc = rt.alloc();
     let mut manager = Manager::new(alloc, script(alloc)?, 0, 4, &[0], &[0])?;
     crosses_threads(&manager);
