@@ -118,34 +118,35 @@ not-itself : (b : Bool) → not b ≡ b → ⊥
 not-itself true same = false≢true same
 not-itself false same = true≢false same
 
--- each share of a transaction has a part
-share-part : (write : Bool) (item : ScriptItem) → (share_of write item).parts ≡ without_id (request_of item) ∷ []
-share-part true item = refl
-share-part false item = refl
+-- a transaction's share isn't empty
+some-share : (write : Bool) (item : ScriptItem) → share_of write item ≢ no_share
+some-share true item none = let parts : without_id (request_of item) ∷ [] ≡ [] = ap (λ (s : Share). s.parts) none in absurd (cc)
+some-share false item none = let parts : without_id (request_of item) ∷ [] ≡ [] = ap (λ (s : Share). s.parts) none in absurd (cc)
+
+-- a transaction that the first one isn't, by direction or number, is one of the others
+among-later :
+    (write : Bool) (first : ScriptItem) (script : List ScriptItem) (item : ScriptItem) (place : ℕ) → place < length (first ∷ script) → get_or (first ∷ script) place item ≡ item →
+    item.txn.write ≡ write → (beq first.txn.write write && first.txn.number == item.txn.number) ≡ false → (Contains script item → ⊥) → ⊥
+among-later write first script item zero within at direction other wrong =
+    let own : beq first.txn.write write ≡ true = ap (λ (i : ScriptItem). beq i.txn.write write) at ∙ ap (λ b. beq b write) direction ∙ beq-same write in
+    let number : (first.txn.number == item.txn.number) ≡ true = eq-eqb first.txn.number item.txn.number (ap (λ (i : ScriptItem). i.txn.number) at) in
+    true≢false (sym (and_from (beq first.txn.write write) (first.txn.number == item.txn.number) own number) ∙ other)
+among-later write first script item (suc k) within at direction other wrong = wrong (k, omega (arith, within), at)
 
 -- the number of a transaction has a share in its direction
 share-some : (write : Bool) (script : List ScriptItem) (item : ScriptItem) → Contains script item → item.txn.write ≡ write → share_at write script item.txn.number ≢ no_share
 share-some write [] item among direction none = absurd (omega (arith, among.1))
-share-some write (first ∷ script) item (zero, within, at) direction none =
-    let tests : (beq first.txn.write write && first.txn.number == item.txn.number) ≡ true =
-    and_from (beq first.txn.write write) (first.txn.number == item.txn.number)
-    (ap (λ b. beq b write) (ap (λ (i : ScriptItem). i.txn.write) at ∙ direction) ∙ beq-same write)
-    (eq-eqb first.txn.number item.txn.number (ap (λ (i : ScriptItem). i.txn.number) at)) in
-    let is : share_of write first ≡ no_share = sym (ap (λ b. cond b (share_of write first) (share_at write script item.txn.number)) tests) ∙ none in
-    let parts : without_id (request_of first) ∷ [] ≡ [] = sym (share-part write first) ∙ ap (λ (s : Share). s.parts) is in
-    absurd (cc)
-share-some write (first ∷ script) item (suc k, within, at) direction none =
+share-some write (first ∷ script) item (place, within, at) direction none =
     elim (cases_Bool (beq first.txn.write write && first.txn.number == item.txn.number)) [
-      | inl same ↦
-          let is : share_of write first ≡ no_share = sym (ap (λ b. cond b (share_of write first) (share_at write script item.txn.number)) same) ∙ none in
-          let parts : without_id (request_of first) ∷ [] ≡ [] = sym (share-part write first) ∙ ap (λ (s : Share). s.parts) is in
-          absurd (cc)
-      | inr other ↦ share-some write script item (k, omega (arith, within), at) direction
-          (sym (ap (λ b. cond b (share_of write first) (share_at write script item.txn.number)) other) ∙ none)
+      | inl same ↦ some-share write first (sym (ap (λ b. cond b (share_of write first) (share_at write script item.txn.number)) same) ∙ none)
+      | inr other ↦ among-later write first script item place within at direction other (λ there.
+          share-some write script item there direction (sym (ap (λ b. cond b (share_of write first) (share_at write script item.txn.number)) other) ∙ none))
     ]
 
--- nothing has a share in the direction that it hasn't
-no-item : (write : Bool) (script : List ScriptItem) (number : ℕ) → ((item : ScriptItem) → Contains script item → item.txn.write ≡ write → item.txn.number ≢ number) → share_at write script number ≡ no_share
+-- nothing has a share in a direction of which no transaction has its number
+no-item :
+    (write : Bool) (script : List ScriptItem) (number : ℕ) → ((item : ScriptItem) → Contains script item → item.txn.write ≡ write → item.txn.number ≢ number) →
+    share_at write script number ≡ no_share
 no-item write script number none = elim (share-cases write script number) [
   | inl is ↦ is
   | inr has ↦ absurd (none has.item has.among has.direction has.same_number)
@@ -216,6 +217,12 @@ chain-own script item write own number same = elim (share-cases write script num
   }
 ]
 
+chain-of :
+    (script : List ScriptItem) → IsNumberedTraffic script → (item : ScriptItem) → Contains script item → (write : Bool) → item.txn.write ≡ write → (number : ℕ) →
+    SameChain (shares_of (plan_of script) write) number item.txn.number → IsItsOwn script write item.txn.request.id number
+chain-of script t item among true direction number same = chain-own script item true (share-own script t item among true direction) number same
+chain-of script t item among false direction number same = chain-own script item false (share-own script t item among false direction) number same
+
 -- the plan is that of the script, for its manager
 pub plan-of-script : (script : List ScriptItem) → IsNumberedTraffic script → IsPlanOf (plan_of script) 4 script
 plan-of-script script t = record {
@@ -228,18 +235,9 @@ plan-of-script script t = record {
         | inl direction ↦ has-write script item direction (share-own script t item among true direction) known.id_fits
         | inr direction ↦ has-read script item known direction (share-own script t item among false direction) known.id_fits
       ];
-  chains = λ k d within.
+  chains = λ k d within number same.
       let item = get_or script k d in
-      let among = All-contains_itself script k d within in
-      λ number same.
-      elim (cases_Bool item.txn.write) [
-        | inl direction ↦ subst (λ b. IsItsOwn script b item.txn.request.id number) (sym direction)
-            (chain-own script item true (share-own script t item among true direction) number
-            (subst (λ b. SameChain (shares_of (plan_of script) b) number item.txn.number) direction same))
-        | inr direction ↦ subst (λ b. IsItsOwn script b item.txn.request.id number) (sym direction)
-            (chain-own script item false (share-own script t item among false direction) number
-            (subst (λ b. SameChain (shares_of (plan_of script) b) number item.txn.number) direction same))
-      ];
+      chain-of script t item (All-contains_itself script k d within) item.txn.write refl number same;
 }
 
 -- what is due of the two directions of a number, each by itself
