@@ -8,6 +8,7 @@ pub mod DeliveredLemmas
 pub mod DueLemmas
 pub mod EventLemmas
 pub mod ItemEvents
+pub mod KnownFacts
 pub mod LaneLemmas
 pub mod NetLemmas
 pub mod NetworkLemmas

@@ -1,6 +1,7 @@
 pub mod BuiltIn
 pub mod Due
 pub mod History
+pub mod KnownRun
 pub mod NetInside
 pub mod NetView
 pub mod Network

@@ -1,5 +1,6 @@
 //! What holds of runs by their definition.
 
+ghost use Rattle.net_rounds.specs.KnownRun.{KnownRun};
 ghost use Rattle.net_rounds.specs.Right.{RunsAreRight};
 ghost use Rattle.net_rounds.specs.Run.{RunsAreLeast};
 
@@ -16,4 +17,10 @@ pub fn runs_are_least()
 /// order, and each waited for what it was to wait for. (Section "Ordering model".)
 pub fn runs_are_right()
     ensures { RunsAreRight }
+{}
+
+/// The history of a short run is what the decision tables give by hand: a write of one word, and a
+/// read of it once the write is answered.
+pub fn history_is_known()
+    ensures { KnownRun }
 {}
