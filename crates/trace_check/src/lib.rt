@@ -17,6 +17,6 @@ mod tests;
 mod trace;
 mod verdict;
 
-pub use known::{known_verdicts, quiet_rounds_are_one};
+pub use known::{known_verdicts, quiet_rounds_are_one, verdicts_are_meant};
 pub use trace::judge;
 pub use verdict::{PortFault, Verdict};
