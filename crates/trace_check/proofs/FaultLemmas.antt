@@ -1,17 +1,16 @@
 -- The first fault of a trace, link by link.
-use Rattle.std.proofs.Common.{◌≡◌, ◌≢◌, ℕ, ◌+◌, ◌-◌, ◌<◌, ◌≤◌, ◌∷◌, [], ◌⊎◌, inl, inr, Bool, true, false, List, Option, Some, None, refl, sym, ap, subst, ◌∙◌, arith, length, suc, zero, ltb, get_or, add-one}
+use Rattle.std.proofs.Common.{◌≡◌, ℕ, ◌+◌, ◌-◌, ◌<◌, ◌≤◌, ◌∷◌, [], Bool, true, false, List, Option, Some, None, refl, sym, ap, subst, ◌∙◌, arith, length, suc, zero, get_or, add-one}
 use Rattle.std.specs.Prelude.{if◌then◌else◌, nat_lt, nat_le, Result, Ok, Err, IfOk}
 use Rattle.std.specs.List.{find}
 use Rattle.std.specs.Option.{option_map}
 use Rattle.std.proofs.lemmas.Bool.{lt-ltb, le-ltb, le-leb, lt-leb}
-use Rattle.std.proofs.lemmas.Bool.Decides.{eqb_tells, nat_tests}
 use Rattle.axi_history.specs.declared.port.PortKind.{PortKind}
 use Rattle.axi_history.specs.declared.port.PortRound.{PortRound}
-use Rattle.axi_history.specs.PortRules.{or_else, axi4_history_fault}
+use Rattle.axi_history.specs.PortRules.{or_else}
 use Rattle.trace_check.specs.Entries.{EntryStands, LinkStands}
 use Rattle.trace_check.specs.Faults.{EntryServes, IsFaultOf, broken_by, earlier_of, fault_on, with_link}
-use Rattle.trace_check.specs.Follows.{Follows, TellsOf}
-use Rattle.trace_check.specs.Histories.{broken_at, broken_in, fault_of_link, fault_of_port, first_broken, greatest_round, history, is_of_link, least, link_count, number_in, number_of, port_of_link, shown_in}
+use Rattle.trace_check.specs.Follows.{TellsOf}
+use Rattle.trace_check.specs.Histories.{broken_at, fault_of_link, fault_of_port, greatest_round, is_of_link, least, number_in, number_of}
 use Rattle.trace_check.specs.Judged.{fault_by}
 use Rattle.trace_check.specs.Table.{entry_of, is_lite}
 use Rattle.trace_check.specs.declared.link_judge.LinkFault.{LinkFault}

@@ -1,16 +1,15 @@
 -- A judge follows a link over one more line, and over the rounds after the last one.
-use Rattle.std.proofs.Common.{◌≡◌, ◌≢◌, ℕ, ◌+◌, ◌-◌, ◌*◌, ◌<◌, ◌≤◌, ◌∷◌, [], ◌++◌, true, false, List, Option, Some, None, refl, sym, ap, subst, ◌∙◌, arith, length, length-append, max}
+use Rattle.std.proofs.Common.{◌≡◌, ◌≢◌, ℕ, ◌+◌, ◌-◌, ◌*◌, ◌<◌, ◌≤◌, ◌∷◌, [], ◌++◌, List, None, refl, sym, ap, subst, ◌∙◌, arith, length, length-append, max}
 use Rattle.std.specs.List.{find}
 use Rattle.std.specs.Prelude.{IfSome}
 use Rattle.axi_history.specs.declared.port.PortKind.{PortKind}
 use Rattle.axi_history.specs.declared.port.PortRound.{PortRound}
 use Rattle.axi_history.specs.PortRules.{axi4_history_fault}
-use Rattle.port_rules.specs.declared.state.PortChecker.{PortChecker}
 use Rattle.port_rules.specs.StandsFor.{port_of, rounds_of}
 use Rattle.trace_check.specs.Alike.{IsQuiet, SameOffers}
 use Rattle.trace_check.specs.Follows.{FollowsLink, TellsOf}
 use Rattle.trace_check.specs.Histories.{is_line_of, is_of_link, shown_in, quiet_round, number_in, greatest_round, history}
-use Rattle.trace_check.specs.Judged.{fault_by, IsJudged}
+use Rattle.trace_check.specs.Judged.{IsJudged}
 use Rattle.trace_check.specs.declared.link_judge.LinkFault.{LinkFault}
 use Rattle.trace_check.specs.declared.link_judge.LinkJudge.{LinkJudge}
 use Rattle.trace_check.proofs.AlikeLemmas.{same_refl}

@@ -9,7 +9,7 @@ use Rattle.axi_history.specs.declared.port.PortRound.{PortRound}
 use Rattle.axi_history.specs.PortRules.{axi4_fault, axi4_history_fault}
 use Rattle.port_rules.specs.declared.state.PortChecker.{PortChecker}
 use Rattle.port_rules.specs.StandsFor.{StandsFor, port_of}
-use Rattle.trace_check.specs.Alike.{Alike, SameOffers, IsQuiet}
+use Rattle.trace_check.specs.Alike.{SameOffers, IsQuiet}
 use Rattle.trace_check.specs.Histories.{history}
 use Rattle.trace_check.specs.Judged.{fault_by, IsChecked, IsJudged}
 use Rattle.trace_check.specs.declared.link_judge.LinkFault.{LinkFault}

@@ -6,3 +6,4 @@ pub mod FollowLemmas
 pub mod TableLemmas
 pub mod FaultLemmas
 pub mod ReadLemmas
+pub mod VerdictLemmas

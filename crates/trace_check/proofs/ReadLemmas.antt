@@ -1,6 +1,6 @@
 -- The lines of a text are read one by one.
-use Rattle.std.proofs.Common.{◌≡◌, ℕ, ◌+◌, ◌<◌, ◌≤◌, ◌∷◌, [], ◌++◌, Bool, true, false, List, Option, Some, None, refl, sym, ap, ◌∙◌, arith, length, drop, get_or}
-use Rattle.std.specs.Prelude.{if◌then◌else◌, Result, Ok, Err, count_by, ◌==◌}
+use Rattle.std.proofs.Common.{◌≡◌, ℕ, ◌+◌, ◌<◌, ◌≤◌, ◌∷◌, [], ◌++◌, Bool, true, false, List, Option, Some, None, sym, ap, ◌∙◌, arith, length, drop, get_or}
+use Rattle.std.specs.Prelude.{if◌then◌else◌, Result, Ok, Err, ◌==◌}
 use Rattle.std.specs.List.{slice_split}
 use Rattle.std.specs.Str.Lines.{lines, lines_of_parts}
 use Rattle.std.proofs.lemmas.List.{at_drop_more, at_drop_all}
@@ -9,7 +9,7 @@ use Rattle.std.proofs.lemmas.List.Sums.{count_by-le-length}
 use Rattle.plain_text.specs.Separator.{is_separator}
 use Rattle.axi_history.specs.declared.port.PortRound.{PortRound}
 use Rattle.trace_text.specs.Reading.{line_of}
-use Rattle.trace_check.specs.Lines.{before_separator, judged_lines, may_follow, shown_after, shown_by, taken_after}
+use Rattle.trace_check.specs.Lines.{before_separator, shown_after, taken_after}
 use Rattle.trace_check.specs.Table.{TableStands, TakesLine}
 use Rattle.trace_check.specs.declared.table.TraceTable.{TraceTable}
 

@@ -1,5 +1,5 @@
 -- The table of a trace with one more line.
-use Rattle.std.proofs.Common.{◌≡◌, ◌≢◌, ℕ, ◌+◌, ◌*◌, ◌^◌, ◌<◌, ◌≤◌, ◌∷◌, [], ◌++◌, ◌⊎◌, inl, inr, Bool, true, false, List, Option, Some, None, refl, sym, ap, subst, ◌∙◌, arith, length, length-append, max, get_or, eqb, ltb, eq-eqb, suc, zero}
+use Rattle.std.proofs.Common.{◌≡◌, ◌≢◌, ℕ, ◌+◌, ◌*◌, ◌^◌, ◌<◌, ◌≤◌, ◌∷◌, [], ◌++◌, ◌⊎◌, inl, inr, Bool, true, false, List, Option, Some, None, refl, sym, ap, subst, ◌∙◌, arith, length, length-append, max, eq-eqb, suc, zero}
 use Rattle.std.specs.Prelude.{if◌then◌else◌, ◌==◌, ◌&&◌, ◌||◌, not, nat_lt}
 use Rattle.std.specs.Bool.{beq}
 use Rattle.std.specs.List.{find, last_or, list_all}
@@ -10,17 +10,17 @@ use Rattle.std.proofs.lemmas.List.Folds.{list_all-append}
 use Rattle.axi_history.specs.declared.port.PortKind.{PortKind}
 use Rattle.axi_history.specs.declared.port.PortRound.{PortRound}
 use Rattle.axi_history.specs.PortRules.{or_else}
-use Rattle.port_rules.specs.StandsFor.{port_of, rounds_of}
+use Rattle.port_rules.specs.StandsFor.{rounds_of}
 use Rattle.trace_check.specs.Entries.{EntryFollows, EntryStands, EntryTakes, IsPassedBy, LinkStands}
-use Rattle.trace_check.specs.Follows.{CanGoOn, Follows, FollowsLink, HasJudgedTo, HasNotJudged}
+use Rattle.trace_check.specs.Follows.{CanGoOn, Follows, HasJudgedTo, HasNotJudged}
 use Rattle.trace_check.specs.Histories.{is_line_of, is_of_link, port_of_link, quiet_round, number_of, number_in, shown_in, greatest_round, link_count}
-use Rattle.trace_check.specs.Lines.{agrees_with, comes_after, is_before, is_same_port, may_follow, taken_after}
-use Rattle.trace_check.specs.Table.{TableStands, TakesLine, entry_of, is_lite, place_of, round_of}
+use Rattle.trace_check.specs.Lines.{agrees_with, comes_after, is_before, is_same_port, may_follow}
+use Rattle.trace_check.specs.Table.{TableStands, entry_of, is_lite, place_of, round_of}
 use Rattle.trace_check.specs.declared.link_judge.LinkJudge.{LinkJudge}
 use Rattle.trace_check.specs.declared.link_state.LinkState.{LinkState}
 use Rattle.trace_check.specs.declared.table.TraceTable.{TraceTable}
 use Rattle.trace_check.proofs.JudgeLemmas.{judged_same}
-use Rattle.trace_check.proofs.LineLemmas.{find_other, find_here, find_stays, number_here, number_stays, number_other, number_more, number_none, is_not_on, shown_other, numbered_other, greatest_more, count_more}
+use Rattle.trace_check.proofs.LineLemmas.{find_other, find_here, find_stays, number_more, is_not_on, shown_other, numbered_other, greatest_more, count_more}
 
 -- ---- places without a link
 

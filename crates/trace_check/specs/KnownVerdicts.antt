@@ -1,7 +1,6 @@
 -- Short traces, and the verdict on each: worked by hand.
-use Rattle.std.specs.Prelude.{◌≡◌, ℕ, ◌++◌, List, codes}
+use Rattle.std.specs.Prelude.{◌≡◌, ℕ, codes}
 use Rattle.trace_check.specs.Verdicts.{verdict_of}
-use Rattle.trace_check.specs.declared.verdict.PortFault.{PortFault}
 use Rattle.trace_check.specs.declared.verdict.Verdict.{Verdict}
 use Rattle.trace_check.specs.declared.verdict.Verdict.TheVariants.{BadTraceLine, Broken, Legal, NotBuilt}
 

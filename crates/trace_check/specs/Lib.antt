@@ -10,3 +10,4 @@ pub mod Entries
 pub mod Table
 pub mod Faults
 pub mod Reading
+pub mod VerdictLaws

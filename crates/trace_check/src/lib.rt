@@ -12,9 +12,11 @@ mod known;
 mod link_judge;
 mod link_state;
 mod table;
+#[cfg(test)]
+mod tests;
 mod trace;
 mod verdict;
 
-pub use known::{known_verdicts, quiet_rounds_are_one};
+pub use known::{known_verdicts, quiet_rounds_are_one, verdicts_are_meant};
 pub use trace::judge;
 pub use verdict::{PortFault, Verdict};

@@ -1,6 +1,5 @@
 -- The first of the rounds is judged, and the others break what it breaks.
-use Rattle.std.proofs.Common.{◌+◌, ◌<◌, ◌≤◌, ℕ, sym, subst, ◌∙◌, arith}
-use Rattle.trace_check.specs.Judged.{IsJudged}
+use Rattle.std.proofs.Common.{◌<◌, ◌≤◌, ℕ, ◌∙◌, arith}
 use Rattle.trace_check.proofs.JudgeLemmas.{both_quiet, quiet_rounds}
 use Rattle.trace_check.proofs.link_judge.LinkJudge.pass.Goals as goal
 

@@ -1,4 +1,4 @@
-use Rattle.std.proofs.Common.{◌≡◌, ◌≢◌, ◌<◌, ◌+◌, ◌∷◌, [], ◌++◌, ◌^◌, ◌∙◌, ℕ, sym, ap, subst, refl, arith, List, Option, Some, length, max}
+use Rattle.std.proofs.Common.{◌<◌, ◌+◌, ◌^◌, ◌∙◌, sym, subst, refl, arith, List, Option, Some, length}
 use Rattle.axi_history.specs.declared.port.PortRound.{PortRound}
 use Rattle.trace_check.specs.Entries.{EntryTakes, EntryFollows}
 use Rattle.trace_check.specs.Table.{entry_of}
