@@ -1,11 +1,10 @@
 -- Lines that aren't refused.
-use Rattle.std.proofs.Common.{◌≡◌, ℕ, ◌+◌, ◌-◌, ◌^◌, ◌<◌, ◌≤◌, Bool, true, false, cond, List, [], ◌∷◌, Option, Some, None, length, nat_lt, refl, sym, ◌∙◌, ap, subst, arith}
+use Rattle.std.proofs.Common.{◌≡◌, ℕ, ◌+◌, ◌^◌, ◌<◌, Bool, true, false, cond, List, [], ◌∷◌, Option, Some, None, length, nat_lt, refl, sym, ◌∙◌}
 use Rattle.std.specs.Prelude.{IfSome}
-use Rattle.std.specs.List.{AllByRecursion, cons_option, position, slice_get}
+use Rattle.std.specs.List.{AllByRecursion, cons_option, slice_get}
 use Rattle.std.specs.Option.{option_map}
 use Rattle.std.proofs.lemmas.Bool.{ltb-true}
 use Rattle.std.proofs.lemmas.List.Quantifiers.{position-Some}
-use Rattle.std.proofs.lemmas.Option.{slice_get_within}
 use Rattle.burst_address.specs.Legal.{IsLegal, broken_rule}
 use Rattle.burst_address.specs.declared.rule.BurstRule.{BurstRule}
 use Rattle.traffic.specs.Faults.{burst_fault, fault_by, least, least_fault, line_fault, request_of}
@@ -13,7 +12,7 @@ use Rattle.traffic.specs.Line.{Access, Line, Passed, Waits, Asks, line_of}
 use Rattle.traffic.specs.Orders.{Order, Holds, Issues, order_by, order_of, orders_of}
 use Rattle.traffic.specs.Ports.{is_named, place_of, port_of}
 use Rattle.traffic.specs.declared.fault.TrafficFault.{TrafficFault}
-use Rattle.traffic.specs.declared.fault.TrafficFault.TheVariants.{UnknownManager, BadId, IllegalBurst}
+use Rattle.traffic.specs.declared.fault.TrafficFault.TheVariants.{BadId, IllegalBurst}
 use Rattle.traffic.specs.declared.port.ManagerPort.{ManagerPort}
 use Rattle.traffic.proofs.FormLemmas.{IsForm, IsFormLine, line-form}
 

@@ -1,5 +1,5 @@
 -- Orders that are turned into transactions one by one.
-use Rattle.std.proofs.Common.{◌≡◌, ℕ, ◌+◌, ◌<◌, ◌≤◌, ◌==◌, Bool, true, false, cond, List, [], ◌∷◌, ◌++◌, Option, Some, None, length, get_or, set, inl, inr, refl, sym, ◌∙◌, ap, subst, append_assoc, arith}
+use Rattle.std.proofs.Common.{◌≡◌, ℕ, ◌+◌, ◌<◌, ◌≤◌, ◌==◌, true, false, cond, List, [], ◌∷◌, ◌++◌, Option, Some, None, length, get_or, set, inl, inr, refl, sym, ◌∙◌, ap, subst, append_assoc, arith}
 use Rattle.std.specs.Prelude.{All, IfSome, fold}
 use Rattle.std.specs.List.{AllByRecursion, cons_option}
 use Rattle.std.proofs.lemmas.Bool.{cases_eq, cond-true, cond-false, eq-eqb, ne_eqb}
@@ -8,7 +8,6 @@ use Rattle.std.proofs.Math.ListN.{replicate}
 use Rattle.std.proofs.lemmas.List.Elements.{All-from_get_or}
 use Rattle.std.proofs.lemmas.Grind.{fold-append, get_or-set_at}
 use Rattle.plain_text.specs.Lines.{lines}
-use Rattle.traffic.specs.Line.{Access}
 use Rattle.traffic.specs.Orders.{Order, Holds, Issues, issued, order_of, orders_of}
 use Rattle.traffic.specs.Steps.{counts_after, counts_by, item_of, items_by, items_of, IsFitting}
 use Rattle.traffic.specs.Traffic.{TrafficItem, count_of, counted, held, items_after, none_yet, one_more, traffic_of}

@@ -1,5 +1,5 @@
 -- What is known of a burst that a line asks for.
-use Rattle.std.proofs.Common.{◌≡◌, ℕ, ◌+◌, ◌-◌, ◌*◌, ◌^◌, ◌<◌, ◌≤◌, ◌==◌, ◌&&◌, Bool, true, false, cond, List, [], ◌∷◌, Option, Some, None, drop, length, zero, suc, nat_lt, nat_le, nat_eq, refl, sym, ◌∙◌, ap, subst, arith}
+use Rattle.std.proofs.Common.{◌≡◌, ℕ, ◌+◌, ◌-◌, ◌*◌, ◌^◌, ◌<◌, ◌==◌, ◌&&◌, Bool, true, false, cond, List, [], ◌∷◌, Option, Some, None, drop, length, zero, suc, nat_lt, nat_le, nat_eq, refl, ◌∙◌, ap, arith}
 use Rattle.std.specs.Prelude.{IfSome, codes}
 use Rattle.std.specs.List.{list_all, starts_with}
 use Rattle.std.specs.Option.{option_and_then}
@@ -10,8 +10,8 @@ use Rattle.std.proofs.lemmas.List.{length-append}
 use Rattle.std.proofs.lemmas.List.Concat.{flat_map-cons}
 use Rattle.plain_text.specs.Numbers.{is_numeral, number_in, read_decimal, read_hexadecimal}
 use Rattle.plain_text.specs.Words.{words, next_word, has_no_word}
-use Rattle.traffic.specs.Data.{are_pairs, are_data_words, data_bytes, is_data_word, pair_byte, is_pair, word_bytes}
-use Rattle.traffic.specs.Line.{Access, Line, Passed, Waits, Asks, Start, at_end, beats_named, burst_named, first_pairs, is_passed, line_of, form_by, form_of, other_pairs, read_of, said_by, size_named, start_of, wait_of, write_of, write_with}
+use Rattle.traffic.specs.Data.{are_pairs, are_data_words, data_bytes, is_data_word, is_pair, word_bytes}
+use Rattle.traffic.specs.Line.{Access, Line, Passed, Waits, Asks, at_end, beats_named, burst_named, first_pairs, is_passed, line_of, form_by, form_of, other_pairs, read_of, said_by, size_named, start_of, wait_of, write_of, write_with}
 
 -- ---- optional values
 

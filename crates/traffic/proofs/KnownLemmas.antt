@@ -1,9 +1,8 @@
 -- What is known of the transactions of lines that aren't refused.
-use Rattle.std.proofs.Common.{◌≡◌, ℕ, ◌+◌, ◌-◌, ◌*◌, ◌^◌, ◌<◌, ◌≤◌, ◌==◌, ◌⊎◌, ◌||◌, Bool, true, false, cond, List, [], ◌∷◌, ◌++◌, Option, Some, None, length, nat_lt, suc, inl, inr, refl, sym, ◌∙◌, ap, subst, arith, append_assoc}
-use Rattle.std.specs.Prelude.{All, filter, fold}
-use Rattle.std.specs.List.{AllByRecursion, slice_get}
+use Rattle.std.proofs.Common.{◌≡◌, ℕ, ◌+◌, ◌-◌, ◌*◌, ◌^◌, ◌<◌, ◌≤◌, ◌==◌, ◌⊎◌, Bool, true, false, cond, List, [], ◌∷◌, ◌++◌, Option, Some, None, length, nat_lt, suc, inl, inr, refl, sym, ◌∙◌, ap, subst, arith}
+use Rattle.std.specs.List.{AllByRecursion}
 use Rattle.std.specs.Option.{option_or}
-use Rattle.std.proofs.lemmas.Bool.{cases_Bool, eqb-true, eq-eqb, ltb-false, ltb-true, or_parts}
+use Rattle.std.proofs.lemmas.Bool.{eqb-true, ltb-false, ltb-true, or_parts}
 use Rattle.std.proofs.lemmas.List.{append-nil, length-append}
 use Rattle.std.proofs.lemmas.List.Elements.{All-from_recursion}
 use Rattle.std.proofs.lemmas.Grind.{fold-append}
@@ -15,7 +14,7 @@ use Rattle.burst_address.proofs.Legality.{legal-length, wrap_length}
 use Rattle.std.proofs.Math.Nat.{pow-le-pow_right}
 use Rattle.std.proofs.lemmas.Option.{slice_get_within}
 use Rattle.traffic.specs.Steps.{IsFitting}
-use Rattle.traffic.specs.Accepted.{AcceptedSuits, AreInOrder, Follows, IsTraffic, Suits, beats_in, last_after, of_manager}
+use Rattle.traffic.specs.Accepted.{AcceptedSuits, AreInOrder, Suits, beats_in, last_after, of_manager}
 use Rattle.traffic.specs.Faults.{least_fault, request_of}
 use Rattle.traffic.specs.Line.{Access, first_pairs, other_pairs, other_pairs_of}
 use Rattle.traffic.specs.Orders.{Order, Holds, Issues, is_too_much, issued, orders_of, total_beats}

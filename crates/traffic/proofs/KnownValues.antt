@@ -1,9 +1,8 @@
 -- Known values of the definitions, worked by hand.
-use Rattle.std.proofs.Common.{◌≡◌, ℕ, Bor, List, [], ◌∷◌, Some, None, true, false, refl}
+use Rattle.std.proofs.Common.{◌≡◌, List, [], ◌∷◌, Some, None, true, false, refl}
 use Rattle.std.specs.Prelude.{codes, map}
 use Rattle.axi_beats.specs.declared.beat.Burst.TheVariants.{Fixed, Incr, Wrap}
 use Rattle.burst_address.specs.declared.rule.BurstRule.TheVariants.{Size, Length, WrapAlign, Page}
-use Rattle.manager_end.specs.declared.script.WriteByte.{WriteByte}
 use Rattle.plain_text.specs.Lines.{lines}
 use Rattle.plain_text.specs.Numbers.{number_in, read_byte_pair, read_decimal, read_hexadecimal}
 use Rattle.plain_text.specs.Words.{words}
@@ -12,7 +11,7 @@ use Rattle.traffic.specs.Line.{Passed, Waits, Asks, beats_named, burst_named, li
 use Rattle.traffic.specs.Orders.{order_of}
 use Rattle.traffic.specs.Ports.{port_of}
 use Rattle.traffic.specs.Traffic.{TrafficItem, refusal_of, traffic_of}
-use Rattle.traffic.specs.declared.fault.TrafficFault.TheVariants.{BadLine, UnknownManager, BadId, IllegalBurst, TooMuchTraffic}
+use Rattle.traffic.specs.declared.fault.TrafficFault.TheVariants.{BadLine, UnknownManager, BadId, IllegalBurst}
 use Rattle.traffic.specs.declared.port.ManagerPort.{ManagerPort}
 
 -- ---- data words

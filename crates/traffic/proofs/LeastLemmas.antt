@@ -1,9 +1,9 @@
 -- The least fault of all lines.
-use Rattle.std.proofs.Common.{◌≡◌, ℕ, ◌+◌, ◌<◌, ◌≤◌, ◌⊎◌, Bool, true, false, cond, List, [], ◌∷◌, Option, Some, None, nat_lt, zero, suc, inl, inr, refl, sym, ◌∙◌, ap, subst, arith}
+use Rattle.std.proofs.Common.{◌≡◌, ℕ, ◌+◌, ◌<◌, ◌≤◌, Bool, true, false, cond, List, [], ◌∷◌, Option, Some, None, nat_lt, zero, suc, inl, inr, refl, sym, ◌∙◌, ap, subst, arith}
 use Rattle.std.specs.List.{slice_get}
 use Rattle.std.proofs.lemmas.Bool.{ltb-true, ltb-false}
 use Rattle.traffic.specs.Faults.{code_of, least, least_fault, line_fault, lesser}
-use Rattle.traffic.specs.Refusals.{GoesFirst, HasNoFault, IsLeastFault, LeastIsTold, TellsLeast}
+use Rattle.traffic.specs.Refusals.{GoesFirst, HasNoFault, IsLeastFault, LeastIsTold}
 use Rattle.traffic.specs.declared.fault.TrafficFault.{TrafficFault}
 use Rattle.traffic.specs.declared.port.ManagerPort.{ManagerPort}
 use Rattle.traffic.proofs.AcceptLemmas.{least-none}

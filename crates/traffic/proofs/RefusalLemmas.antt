@@ -4,7 +4,7 @@ use Rattle.std.specs.Prelude.{IfSome, is_some}
 use Rattle.std.specs.Option.{option_map, option_or}
 use Rattle.burst_address.specs.Legal.{broken_rule}
 use Rattle.burst_address.specs.declared.rule.BurstRule.{BurstRule}
-use Rattle.traffic.specs.Faults.{burst_fault, code_of, fault_by, least, least_fault, lesser, line_fault, request_of}
+use Rattle.traffic.specs.Faults.{burst_fault, code_of, fault_by, least, least_fault, line_fault, request_of}
 use Rattle.traffic.specs.Line.{Access, Line, Passed, Waits, Asks, line_of}
 use Rattle.traffic.specs.Orders.{is_too_much, issued, orders_of}
 use Rattle.traffic.specs.Ports.{port_of}

@@ -1,6 +1,5 @@
 -- A text has few words.
 use Rattle.std.proofs.Common.{◌≤◌, ◌+◌, List, ℕ, length, arith}
-use Rattle.std.specs.List.{slice_split}
 use Rattle.std.proofs.lemmas.List.Splits.{length-slice_split}
 use Rattle.std.proofs.lemmas.List.Sums.{length-filter, count_by-le-length}
 use Rattle.plain_text.specs.Words.{is_blank, words}

@@ -2,7 +2,6 @@
 use Rattle.std.specs.Prelude.{ℕ, ◌+◌, ◌-◌, ◌^◌, nat_lt, List, [], ◌∷◌, Option, None, Some, is_some, option_map, if◌then◌else◌}
 use Rattle.axi_beats.specs.declared.beat.Addr.{Addr}
 use Rattle.burst_address.specs.Legal.{broken_rule}
-use Rattle.burst_address.specs.declared.rule.BurstRule.{BurstRule}
 use Rattle.traffic.specs.Line.{Access, Line, Passed, Waits, Asks, line_of}
 use Rattle.traffic.specs.Ports.{port_of}
 use Rattle.traffic.specs.declared.port.ManagerPort.{ManagerPort}

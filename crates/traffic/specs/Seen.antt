@@ -1,6 +1,5 @@
 -- What the reader's values stand for. Their names and data words lie in the text.
-use Rattle.std.specs.Prelude.{ℕ, List, [], if◌then◌else◌}
-use Rattle.manager_end.specs.declared.script.WriteByte.{WriteByte}
+use Rattle.std.specs.Prelude.{[], if◌then◌else◌}
 use Rattle.plain_text.specs.Words.{words}
 use Rattle.traffic.specs.Data.{data_bytes}
 use Rattle.traffic.specs.Line.{Start, Access, Line, Passed, Waits, Asks}

@@ -9,7 +9,7 @@ use Rattle.traffic.specs.declared.build.Count.{Count}
 use Rattle.traffic.specs.Orders.{Order, Holds, Issues, is_too_much, issued, orders_of}
 use Rattle.traffic.specs.declared.port.ManagerPort.{ManagerPort}
 use Rattle.traffic.specs.declared.fault.TrafficFault.{TrafficFault}
-use Rattle.traffic.specs.declared.fault.TrafficFault.TheVariants.{BadLine, UnknownManager, BadId, IllegalBurst, TooMuchTraffic, NoMemory}
+use Rattle.traffic.specs.declared.fault.TrafficFault.TheVariants.{TooMuchTraffic, NoMemory}
 
 -- Of a manager it is counted how many transactions it has, and how many of them stand before its latest `wait` line.
 abbrev pub none_yet : Count

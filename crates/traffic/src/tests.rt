@@ -204,6 +204,15 @@ fn the_third() -> Txn {
 }
 
 #[test]
+fn no_lines_are_read(rt: HostRuntime) -> Result<(), Fail> {
+    match read(rt.alloc(), "") {
+        Ok(traffic) => assert_eq!(rt; traffic.count(), 0),
+        Err(_) => return Err(Fail::from("refused")),
+    }
+    Ok(())
+}
+
+#[test]
 fn lines_are_read(rt: HostRuntime) -> Result<(), Fail> {
     let Ok(traffic) = read(rt.alloc(), some_lines()) else {
         return Err(Fail::from("refused"));

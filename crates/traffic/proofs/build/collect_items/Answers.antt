@@ -1,11 +1,9 @@
-use Rattle.std.proofs.Common.{◌≡◌, ℕ, ◌+◌, ◌≤◌, ◌++◌, List, length, sym, ◌∙◌, ap, subst}
+use Rattle.std.proofs.Common.{ℕ, ◌+◌, ◌≤◌, ◌++◌, List, sym, ◌∙◌, ap, subst}
 use Rattle.std.specs.Prelude.{All}
-use Rattle.std.proofs.Math.ListN.{replicate}
 use Rattle.std.proofs.lemmas.List.{length-map}
 use Rattle.traffic.specs.Inside.{item_view, items_view}
 use Rattle.traffic.specs.Orders.{order_of}
 use Rattle.traffic.specs.Steps.{items_by}
-use Rattle.traffic.specs.Traffic.{none_yet}
 use Rattle.traffic.specs.declared.build.Count.{Count}
 use Rattle.traffic.specs.declared.build.Item.{Item}
 use Rattle.traffic.proofs.BuildLemmas.{IsBuilt, built-first, built-fits, built-line, built-small}

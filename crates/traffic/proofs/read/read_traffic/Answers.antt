@@ -1,8 +1,8 @@
-use Rattle.std.proofs.Common.{◌≡◌, ◌≤◌, ℕ, List, None, length, sym, ◌∙◌, ap, subst, arith}
+use Rattle.std.proofs.Common.{◌≡◌, ◌≤◌, ℕ, List, None, length, sym, ◌∙◌, ap, subst}
 use Rattle.std.proofs.lemmas.List.{length-map}
 use Rattle.plain_text.specs.Lines.{lines}
 use Rattle.traffic.specs.Accepted.{IsTraffic}
-use Rattle.traffic.specs.Inside.{item_view, items_view}
+use Rattle.traffic.specs.Inside.{item_view}
 use Rattle.traffic.specs.Traffic.{TrafficItem, refusal_of, traffic_of}
 use Rattle.traffic.proofs.KnownLemmas.{accepted_suits_all, lines-fit}
 use Rattle.traffic.proofs.RefusalLemmas.{refused}
