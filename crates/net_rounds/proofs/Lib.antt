@@ -19,6 +19,7 @@ pub mod Numbers
 pub mod Pair
 pub mod PairLemmas
 pub mod PlanFacts
+pub mod PortsLegal
 pub mod RunAnswered
 pub mod RunFacts
 pub mod RunHistory

@@ -35,7 +35,7 @@ ready-has P answered None has = tt
 ready-has P answered (Some next) has = passing-has P _ (Some next) has
 
 -- the strobes of bytes are on their lanes
-strobe-small : (bytes : List WriteByte) → strobe_of bytes < 2 ^ length bytes
+pub strobe-small : (bytes : List WriteByte) → strobe_of bytes < 2 ^ length bytes
 strobe-small [] = omega arith
 strobe-small (byte ∷ bytes) =
     let rest = strobe-small bytes in

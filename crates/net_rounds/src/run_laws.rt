@@ -1,6 +1,7 @@
 //! What holds of runs by their definition.
 
 ghost use Rattle.net_rounds.specs.KnownRun.{KnownRun};
+ghost use Rattle.net_rounds.specs.Ports.{PortsAreLegal};
 ghost use Rattle.net_rounds.specs.Right.{RunsAreRight};
 ghost use Rattle.net_rounds.specs.Run.{RunsAreLeast};
 
@@ -17,6 +18,12 @@ pub fn runs_are_least()
 /// order, and each waited for what it was to wait for. (Section "Ordering model".)
 pub fn runs_are_right()
     ensures { RunsAreRight }
+{}
+
+/// The port of the built-in network's link breaks none of the rules of an AXI4 port, after any number
+/// of rounds of any run.
+pub fn ports_are_legal()
+    ensures { PortsAreLegal }
 {}
 
 /// The history of a short run is what the decision tables give by hand: a write of one word, and a

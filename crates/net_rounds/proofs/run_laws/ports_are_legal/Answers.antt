@@ -1,0 +1,6 @@
+use Rattle.net_rounds.proofs.NodeLaws.{node-laws}
+use Rattle.net_rounds.proofs.PortsLegal.{ports-are-legal}
+use Rattle.net_rounds.proofs.run_laws.ports_are_legal.Goals as goal
+
+pub returns : goal.returns
+returns c = ports-are-legal node-laws
