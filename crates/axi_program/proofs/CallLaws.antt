@@ -9,7 +9,7 @@ use Rattle.axi_program.specs.Document.{refusal_of, script_of_input}
 use Rattle.axi_program.specs.Faults.{Rose}
 use Rattle.axi_program.specs.Outcome.{Concludes, Outcome, Refuses, check_outcome, document_outcome, input_outcome, limit_of, outcome_by, outcome_of, refusal_over, run_outcome, status_of}
 use Rattle.axi_program.specs.Refusals.{input_too_long, not_built, not_text}
-use Rattle.std.proofs.lemmas.Bool.{lt-ltb}
+use Rattle.std.proofs.lemmas.Bool.{le-ltb, lt-ltb}
 use Rattle.std.specs.Str.{is_utf8}
 use Rattle.trace_check.specs.Verdicts.{verdict_of}
 use Rattle.axi_program.specs.Transfers.{IsOver, IsWhole}
@@ -29,6 +29,24 @@ outcome-runs trace input script accepted is = ap (run_outcome trace) is ∙ ap (
 pub outcome-refuses : (trace : Bool) (input : List ℕ) (refusal : Refusal) → refusal_of input ≡ Some refusal → Refuses refusal ≡ document_outcome trace input
 unfolding document_outcome
 outcome-refuses trace input refusal refused = ap (λ (o : Option Refusal). outcome_by trace o (script_of_input input)) (sym refused)
+
+-- what the two commands come to
+pub runs : (trace : Bool) (input : List ℕ) → document_outcome trace input ≡ input_outcome (Run trace) input
+unfolding input_outcome
+runs trace input = refl
+
+pub checks : (input : List ℕ) → check_outcome input ≡ input_outcome Check input
+unfolding input_outcome
+checks input = refl
+
+-- a text of a size that is taken comes to the verdict on it, and one that isn't UTF-8 is refused
+pub check-judges : (input : List ℕ) → length input ≤ limit_of Check → is_utf8 input ≡ true → outcome_of (verdict_of input) ≡ check_outcome input
+unfolding check_outcome
+check-judges input within text = rw (le-ltb (limit_of Check) (length input) within, text) refl
+
+pub check-refuses : (input : List ℕ) → length input ≤ limit_of Check → is_utf8 input ≡ false → Refuses not_text ≡ check_outcome input
+unfolding check_outcome
+check-refuses input within no_text = rw (le-ltb (limit_of Check) (length input) within, no_text) refl
 
 -- an input over the size is refused for it
 pub outcome-over : (command : Command) (input : List ℕ) → limit_of command < length input → Refuses (refusal_over command) ≡ input_outcome command input

@@ -2,6 +2,7 @@ mod KnownInputs
 mod KnownTexts
 pub mod CallLaws
 pub mod DocumentLaws
+pub mod RightLaws
 pub mod RunLaws
 pub mod ScriptLaws
 pub mod TextLaws

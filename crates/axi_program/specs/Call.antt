@@ -1,9 +1,14 @@
 -- What the top call says by its status.
 use Rattle.std.specs.Prelude.{◌≡◌, ◌≢◌, ◌<◌, ℕ, [], List, Bool, true, false, Option, Some, None, ◌⊎◌, IfSome, length}
+use Rattle.manager_end.specs.Script.{ScriptItem}
+use Rattle.net_rounds.specs.Ports.{PortsLegal}
+use Rattle.net_rounds.specs.Right.{IsRight}
+use Rattle.axi_program.specs.Document.{refusal_of, script_of_input}
 use Rattle.axi_program.specs.Faults.{Rose}
 use Rattle.axi_program.specs.Outcome.{Concludes, Outcome, input_outcome, limit_of, status_of}
 use Rattle.axi_program.specs.declared.status.Status.{Status}
 use Rattle.axi_program.specs.declared.words.Command.{Command}
+use Rattle.axi_program.specs.declared.words.Command.TheVariants.{Check, Run}
 use Rattle.axi_program.specs.declared.status.Status.TheVariants.{Done, Usage, Refused, Broken, ReadFault, WriteFault, NoMemory, Unfinished}
 
 module _ {S K : Type 0} (command : Option Command) (left : S → Option (List ℕ)) (reading : S → ℕ) (written : K → Option (List ℕ)) (writing : K → ℕ) (source source' : S) (sink sink' : K) where
@@ -42,3 +47,13 @@ module _ {S : Type 0} (command : Option Command) (left : S → Option (List ℕ)
 -- where no count rises, the status is the outcome's, or memory was wanting
 abbrev pub IsComplete : Option Command → Option (List ℕ) → Status → Type 0
 IsComplete command left status = (status ≡ NoMemory) ⊎ IfSome command (λ asked. IfSome left (λ input. status ≡ status_of (input_outcome asked input)))
+
+-- The run of a script is right after any number of rounds: what was asked was done, once and in order, and answered with
+-- the right bytes; and every port kept the rules of AXI4.
+abbrev pub RunIsRight : List ScriptItem → Type 0
+RunIsRight script = (rounds : ℕ) → IsRight script rounds × PortsLegal script rounds
+
+-- so is the run of every document that isn't refused
+abbrev pub IsRightRun : Command → List ℕ → Type 0
+IsRightRun (Run trace) input = refusal_of input ≡ None → RunIsRight (script_of_input input)
+IsRightRun Check input = Unit {0}

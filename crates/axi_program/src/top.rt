@@ -1,7 +1,7 @@
 //! The top call: it takes the words, reads the input, and writes what the input comes to.
 
-ghost use Rattle.std.specs.Prelude.{◌≡◌, ◌≤◌, map, string_bytes, length, Some, None};
-ghost use Rattle.axi_program.specs.Call.{IsComplete, ReadsWhole, Tells};
+ghost use Rattle.std.specs.Prelude.{◌≡◌, ◌≢◌, ◌≤◌, map, string_bytes, length, IfSome, Some, None};
+ghost use Rattle.axi_program.specs.Call.{IsComplete, IsRightRun, ReadsWhole, Tells};
 ghost use Rattle.axi_program.specs.Document.{refusal_of};
 ghost use Rattle.axi_program.specs.Faults.{Rose};
 ghost use Rattle.axi_program.specs.Outcome.{Concludes, document_outcome, input_outcome, limit_of as limit_by, refusal_over};
@@ -40,6 +40,13 @@ pub fn axinet<S: Source, K: Sink, G: Gate>(
     // What each status says: which cause it had, and what was written.
     ensures tells { Tells (command_by (map string_bytes words.now)) S.left S.faults K.written K.faults source.old source.new sink.old sink.new result }
     ensures reads_whole { ReadsWhole (command_by (map string_bytes words.now)) S.left source.old source.new result }
+
+    // The run of a document that isn't refused is right, after any number of rounds: each byte that
+    // may be accessed is accessed once, in burst order, at the subordinate that the address names;
+    // each transaction is answered with that subordinate's bytes and the defined response, in order;
+    // and every port keeps the rules of AXI4.
+    ensures right { result ≢ Status.NoMemory → result ≢ Status.ReadFault →
+        IfSome (command_by (map string_bytes words.now)) (λ asked. IfSome (S.left source.old) (IsRightRun asked)) }
 
     // Where the words name a command and no count of faults rises, the status is that of the
     // input's outcome, or memory was wanting.
@@ -86,6 +93,7 @@ fn too_long(command: Command) -> Refusal
 fn heed<K: Sink>(alloc: Global, command: Command, input: &[u8], sink: &mut K) -> Status
     requires { length input.now ≤ limit_by command }
     ensures concludes { Concludes K.written K.faults (input_outcome command input.now) sink.old sink.new result }
+    ensures right { result ≢ Status.NoMemory → IsRightRun command input.now }
     ensures count { K.faults sink.old ≤ K.faults sink.new }
 {
     match command {
@@ -98,6 +106,7 @@ fn heed<K: Sink>(alloc: Global, command: Command, input: &[u8], sink: &mut K) ->
 fn heed_document<K: Sink>(alloc: Global, trace: bool, input: &[u8], sink: &mut K) -> Status
     requires { length input.now ≤ INPUT_LIMIT }
     ensures concludes { Concludes K.written K.faults (document_outcome trace input.now) sink.old sink.new result }
+    ensures right { result ≢ Status.NoMemory → IsRightRun (Command.Run trace) input.now }
     ensures count { K.faults sink.old ≤ K.faults sink.new }
 {
     match read_document(alloc, input) {
