@@ -13,6 +13,10 @@ use Rattle.axi_program.specs.Document.{refusal_of}
 use Rattle.axi_program.specs.Traffic.{FitsNetwork, IsNetworkScript}
 use Rattle.axi_program.specs.declared.status.Refusal.{Refusal}
 
+-- the number of the transaction at a place
+number-at : (script : List ScriptItem) → IsNetworkScript script → (k : ℕ) (d : ScriptItem) → k < length script → (get_or script k d).txn.number ≡ k + 1
+number-at script suits k d within = subst (λ (o : Option ScriptItem). IfSome o (λ item. item.txn.number ≡ k + 1)) (slice_get-get_or script k d within) (suits.numbered k)
+
 -- a script that lines make is traffic whose numbers rise
 numbered-traffic : (script : List ScriptItem) → IsScript script → IsNetworkScript script → IsNumberedTraffic script
 numbered-traffic script pushed suits = record {
@@ -21,7 +25,10 @@ numbered-traffic script pushed suits = record {
     words = λ k d within. (suits.fits k d within).word;
     inside = λ k d within. (suits.fits k d within).inside;
   };
-  numbered = ?;
+  numbered = λ i j d before within.
+      let first = number-at script suits i d (omega (arith, before, within)) in
+      let second = number-at script suits j d within in
+      omega (arith, before);
   ids = λ k d within. (suits.fits k d within).id;
 }
 

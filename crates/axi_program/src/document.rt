@@ -1,6 +1,7 @@
 //! The whole input: a first line `%%`, and after it the traffic for the built-in network.
 
 ghost use Rattle.std.specs.Prelude.{◌≡◌, ◌≤◌, length, option_map, IfOk, IfErr, IfSome, IfNone, None, Some, ◌<◌};
+ghost use Rattle.manager_end.specs.Script.{IsScript};
 ghost use Rattle.plain_text.specs.Lines.{lines};
 ghost use Rattle.plain_text.specs.Separator.{has_separator};
 ghost use Rattle.axi_program.specs.Document.{has_wide_byte, refusal_of, script_of_input, traffic_of, TellsRefusal};
@@ -33,6 +34,7 @@ pub fn read_document(alloc: Global, input: &[u8]) -> Result<Script, DocumentFaul
     ensures accepted { IfOk result (λ _. refusal_of input.now ≡ None) }
     ensures script { IfOk result (λ script. script ≡ script_of_input input.now) }
     ensures suits { IfOk result IsNetworkScript }
+    ensures pushed { IfOk result IsScript }
     ensures short { IfOk result (λ script. length script ≤ length input.now) }
     ensures refused { IfErr result (TellsRefusal input.now) }
 {

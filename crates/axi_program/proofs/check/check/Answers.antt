@@ -1,4 +1,4 @@
-use Rattle.std.proofs.Common.{◌≡◌, ◌≤◌, ⊥, ℕ, List, Bool, true, false, length, refl, sym, ap, subst, ◌∙◌}
+use Rattle.std.proofs.Common.{◌≡◌, ◌≤◌, ℕ, List, Bool, true, false, length, refl, sym, ap, subst, ◌∙◌}
 use Rattle.std.specs.Prelude.{IsUtf8}
 use Rattle.std.specs.Str.{is_utf8}
 use Rattle.std.proofs.lemmas.Str.{IsUtf8-from_is_utf8, is_utf8-from_IsUtf8}
@@ -10,12 +10,16 @@ use Rattle.axi_program.proofs.check.check.Goals as goal
 
 -- what isn't UTF-8 doesn't pass the test for it
 no-text : (bytes : List ℕ) → ¬ IsUtf8 bytes → is_utf8 bytes ≡ false
-no-text bytes no =
-    let go : (b : Bool) → is_utf8 bytes ≡ b → b ≡ false = λ b. elim b as (λ b. is_utf8 bytes ≡ b → b ≡ false) [ true ↦ λ is. absurd (no (IsUtf8-from_is_utf8 bytes is)) | false ↦ λ is. refl ]
+no-text bytes never =
+    let go : (b : Bool) → is_utf8 bytes ≡ b → b ≡ false = λ b. elim b as (λ b. is_utf8 bytes ≡ b → b ≡ false) [ true ↦ λ is. absurd (never (IsUtf8-from_is_utf8 bytes is)) | false ↦ λ is. refl ]
     in go (is_utf8 bytes) refl
 
 pub returns-in-Err-clause-concludes : goal.returns-in-Err-clause-concludes
-returns-in-Err-clause-concludes g c = ?
+returns-in-Err-clause-concludes g c =
+    subst (λ (o : Outcome). Concludes g.K.Sink.written g.K.Sink.faults o c.args.sink.now c.refuse.new.sink c.refuse.result)
+    (ap Refuses c.not_text.ensures ∙ check-refuses c.args.input.now c.requires (no-text c.args.input.now c.in-Err.ensures.cases.0)) c.refuse.ensures.concludes
 
 pub returns-in-Ok-judge-clause-concludes : goal.returns-in-Ok-judge-clause-concludes
-returns-in-Ok-judge-clause-concludes g c = ?
+returns-in-Ok-judge-clause-concludes g c =
+    subst (λ (o : Outcome). Concludes g.K.Sink.written g.K.Sink.faults o c.args.sink.now c.tell.new.sink c.tell.result)
+    (ap outcome_of (c.in-Ok-judge.ensures.verdict ∙ ap verdict_of c.in-Ok.ensures.cases.0) ∙ check-judges c.args.input.now c.requires (is_utf8-from_IsUtf8 c.args.input.now c.in-Ok.ensures.cases.1)) c.tell.ensures.concludes

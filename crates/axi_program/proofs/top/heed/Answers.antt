@@ -1,4 +1,4 @@
-use Rattle.std.proofs.Common.{◌≡◌, sym, ap, subst}
+use Rattle.std.proofs.Common.{◌≡◌, sym, ap, subst, ◌∙◌}
 use Rattle.axi_program.proofs.CallLaws.{checks, runs}
 use Rattle.axi_program.specs.Call.{IsRightRun}
 use Rattle.axi_program.specs.Outcome.{Concludes, Outcome, input_outcome}
@@ -8,7 +8,12 @@ use Rattle.axi_program.proofs.top.heed.Goals as goal
 pub returns-in-Run-clause-concludes : goal.returns-in-Run-clause-concludes
 returns-in-Run-clause-concludes g c =
     subst (λ (o : Outcome). Concludes g.K.Sink.written g.K.Sink.faults o c.args.sink.now c.heed_document.new.sink c.heed_document.result)
-    (runs c.in-Run.trace c.args.input.now ?) c.heed_document.ensures.concludes
+    (runs c.in-Run.trace c.args.input.now ∙ ap (λ (asked : Command). input_outcome asked c.args.input.now) (sym c.in-Run.is)) c.heed_document.ensures.concludes
 
 pub returns-in-Check-clause-concludes : goal.returns-in-Check-clause-concludes
-returns-in-Check-clause-concludes g c = ?
+returns-in-Check-clause-concludes g c =
+    subst (λ (o : Outcome). Concludes g.K.Sink.written g.K.Sink.faults o c.args.sink.now c.check.new.sink c.check.result)
+    (checks c.args.input.now ∙ ap (λ (asked : Command). input_outcome asked c.args.input.now) (sym c.in-Check.is)) c.check.ensures.concludes
+
+pub returns-in-Run-clause-right : goal.returns-in-Run-clause-right
+returns-in-Run-clause-right g c = λ there. subst (λ (asked : Command). IsRightRun asked c.args.input.now) (sym c.in-Run.is) (c.heed_document.ensures.right there)

@@ -20,7 +20,8 @@ returns-in-Err-Refused-clause-concludes g c =
     (outcome-refuses c.args.trace c.args.input.now c.in-Err-Refused.refusal (subst (λ (f : DocumentFault). TellsRefusal c.args.input.now f) c.in-Err-Refused.field-0-is c.in-Err-Refused.ensures.refused)) c.refuse.ensures.concludes
 
 pub returns-in-Ok-clause-right : goal.returns-in-Ok-clause-right
-returns-in-Ok-clause-right g c = ?
+returns-in-Ok-clause-right g c =
+    λ there accepted. subst RunIsRight c.in-Ok.ensures.script (run-is-right c.in-Ok.script c.in-Ok.ensures.pushed c.in-Ok.ensures.suits)
 
 pub returns-in-Err-Refused-clause-right : goal.returns-in-Err-Refused-clause-right
 returns-in-Err-Refused-clause-right g c =
