@@ -12,6 +12,7 @@ use Rattle.manager_end.specs.ManagerOrder.{AreOfDirection, AreOfId}
 use Rattle.manager_end.specs.Script.{ScriptItem}
 use Rattle.memory_end.specs.Accesses.{accesses_of}
 use Rattle.memory_end.specs.Events.{Access}
+use Rattle.net_rounds.proofs.AccessLists.{none-is}
 use Rattle.net_rounds.proofs.AnswerRounds.{events-before}
 use Rattle.net_rounds.proofs.AnsweredContent.{all-transactions}
 use Rattle.net_rounds.proofs.BuiltInPlan.{accesses_at, pair_at, plan_of}
@@ -19,7 +20,7 @@ use Rattle.net_rounds.proofs.NotedLists.{all-answers, all-issues, any-answer, an
 use Rattle.net_rounds.proofs.PlanFacts.{share-own}
 use Rattle.net_rounds.proofs.RunFacts.{RunFacts, note}
 use Rattle.net_rounds.proofs.RunHistory.{access_of_event, accesses-are, run_answers, run_events, run_issues}
-use Rattle.net_rounds.proofs.RunRounds.{IsEventOf, answered-in, at-run, events-of, issued-before, none-is, note-within}
+use Rattle.net_rounds.proofs.RunRounds.{IsEventOf, answered-in, at-run, events-of, issued-before, note-within}
 use Rattle.net_rounds.proofs.ScriptPlaces.{contains-at, one-item, places-rise}
 use Rattle.net_rounds.specs.BuiltIn.{ram}
 use Rattle.net_rounds.specs.Due.{transaction_of, transactions_of}

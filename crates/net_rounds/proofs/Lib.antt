@@ -1,3 +1,4 @@
+pub mod AccessLists
 pub mod AnswerRounds
 pub mod AnsweredContent
 pub mod AnsweredOrder

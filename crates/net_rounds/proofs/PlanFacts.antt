@@ -41,7 +41,7 @@ pub traffic-item : (script : List ScriptItem) → IsNumberedTraffic script → (
 traffic-item script t item among = All-contains IsTrafficItem script item (traffic-items script t) among
 
 -- equal directions
-beq-same : (b : Bool) → beq b b ≡ true
+pub beq-same : (b : Bool) → beq b b ≡ true
 beq-same true = refl
 beq-same false = refl
 

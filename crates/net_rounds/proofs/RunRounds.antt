@@ -1,75 +1,18 @@
--- In which rounds things happen: what is noted stays, accesses follow their transaction's issue, and all are made
--- before its answer.
-use Rattle.std.proofs.Common.{◌≡◌, ◌<◌, ◌≤◌, ◌∷◌, [], ◌++◌, ℕ, zero, suc, List, Bool, true, false, cond, Some, length, refl, sym, ap, ◌∙◌, subst, arith, length-append}
-use Rattle.std.specs.Prelude.{All, Any, ◌==◌, ◌&&◌, flat_map, map, slice_get}
-use Rattle.std.specs.Bool.{beq}
+-- In which rounds things happen: what is noted stays, and accesses follow their transaction's issue.
+use Rattle.std.proofs.Common.{◌≡◌, ◌<◌, ◌≤◌, ℕ, zero, suc, List, Some, length, sym, ap, ◌∙◌, arith}
+use Rattle.std.specs.Prelude.{All, Any, map, slice_get}
 use Rattle.std.proofs.Common.{inl, inr}
-use Rattle.std.proofs.lemmas.Bool.{and_from, cases_lt, eq-eqb}
-use Rattle.std.proofs.lemmas.List.{nil_from_length, take_all}
-use Rattle.std.proofs.lemmas.List.Elements.{All-append, All-cons, All-map, All-nil, filter-append}
+use Rattle.std.proofs.lemmas.Bool.{cases_lt}
+use Rattle.std.proofs.lemmas.List.Elements.{All-append, All-map, All-nil}
 use Rattle.std.proofs.lemmas.Option.{slice_get_within}
 use Rattle.axi_history.specs.Records.{Event, Issue}
-use Rattle.axi_trail.proofs.StreamFacts.{prefix_append, prefix_itself, prefix_trans}
-use Rattle.axi_trail.specs.Schedule.{Share}
-use Rattle.axi_trail.specs.Streams.{IsPrefix, over}
 use Rattle.manager_end.specs.Script.{ScriptItem}
-use Rattle.memory_end.specs.Accesses.{accesses_of, beats_of_parts, data_beats, due_reads, due_writes}
 use Rattle.memory_end.specs.Events.{Access}
 use Rattle.net_rounds.proofs.BuiltInPlan.{pair_at}
 use Rattle.net_rounds.proofs.NotedLists.{any-issue}
 use Rattle.net_rounds.proofs.RunFacts.{IsAskedFor, RunFacts, note}
 use Rattle.net_rounds.proofs.RunHistory.{round_accesses, run_events, run_issues}
-use Rattle.net_rounds.specs.BuiltIn.{ram}
 use Rattle.net_rounds.specs.History.{event_of}
-
--- what all rounds add is the beginning of what more rounds add
-pub over-grows : {X : Type 0} (added : ℕ → List X) (m k : ℕ) → m ≤ k → IsPrefix (over added m) (over added k)
-over-grows added m zero le =
-    let none : m ≡ 0 = omega arith in
-    subst (λ (n : ℕ). IsPrefix (over added n) []) (sym none) (prefix_itself [])
-over-grows added m (suc k) le =
-    elim (cases_lt m (suc k)) [
-      | inl before ↦ prefix_trans (over-grows added m k (omega arith)) (prefix_append (over added k) (added k))
-      | inr last ↦
-          let same : m ≡ suc k = omega arith in
-          subst (λ (n : ℕ). IsPrefix (over added n) (over added (suc k))) (sym same) (prefix_itself (over added (suc k)))
-    ]
-
--- where all beats have come, more beats write and read no more
-pub due-writes_end : (share : Share) (c d : ℕ) → length (data_beats share) ≤ c → c ≤ d → due_writes ram share c ≡ due_writes ram share d
-due-writes_end share c d all more =
-    ap (flat_map _) (take_all c (data_beats share) all ∙ sym (take_all d (data_beats share) (omega arith)))
-
-pub due-reads_end : (share : Share) (c d : ℕ) → length (beats_of_parts share.parts) ≤ c → c ≤ d → due_reads ram share c ≡ due_reads ram share d
-due-reads_end share c d all more =
-    ap (flat_map _) (take_all c (beats_of_parts share.parts) all ∙ sym (take_all d (beats_of_parts share.parts) (omega arith)))
-
--- of more accesses, those of a transaction that are no more in number are none of the new ones
-pub none-new : (write : Bool) (number : ℕ) (before new : List Access) → length (accesses_of write number (before ++ new)) ≡ length (accesses_of write number before) → accesses_of write number new ≡ []
-none-new write number before new same =
-    let both = ap length (filter-append (λ (a : Access). beq a.write write && a.number == number) before new) in
-    let sum = length-append (accesses_of write number before) (accesses_of write number new) in
-    nil_from_length (accesses_of write number new) (omega arith)
-
--- where no access of a direction and number is there, each access is of another direction or number
-beq-itself : (b : Bool) → beq b b ≡ true
-beq-itself true = refl
-beq-itself false = refl
-
-tail-none : {X : Type 0} (b : Bool) (x : X) (rest : List X) → cond b (x ∷ rest) rest ≡ [] → rest ≡ []
-tail-none true x rest none = absurd (cc)
-tail-none false x rest none = none
-
-pub none-is : (write : Bool) (number : ℕ) (new : List Access) → accesses_of write number new ≡ [] → All (λ (a : Access). a.write ≡ write → a.number ≡ number → ⊥) new
-none-is write number [] none = All-nil (λ (a : Access). a.write ≡ write → a.number ≡ number → ⊥)
-none-is write number (a ∷ new) none =
-    let test : Bool = beq a.write write && a.number == number in
-    let head : a.write ≡ write → a.number ≡ number → ⊥ = λ writes same.
-    let passes : (beq a.write write && a.number == number) ≡ true =
-    and_from (beq a.write write) (a.number == number) (ap (λ (b : Bool). beq b write) writes ∙ beq-itself write) (eq-eqb a.number number same) in
-    let there : a ∷ accesses_of write number new ≡ [] = sym (ap (λ (b : Bool). cond b (a ∷ accesses_of write number new) (accesses_of write number new)) passes) ∙ none in
-    cc in
-    All-cons (λ (x : Access). x.write ≡ write → x.number ≡ number → ⊥) a new head (none-is write number new (tail-none (beq a.write write && a.number == number) a (accesses_of write number new) none))
 
 -- an event is of a transaction of the script
 pub record IsEventOf (script : List ScriptItem) (e : Event) : Type 0 where
