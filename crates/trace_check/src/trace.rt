@@ -14,8 +14,10 @@ use axi_beats::NoMemory;
 use plain_text::separator::is_separator;
 use std::alloc::Global;
 
-/// The verdict on a trace of at most 16,777,216 bytes, of which the lines before the first line `%%` count. It takes
-/// time that is linear in the text, and memory for the links and for what is outstanding on them.
+/// The verdict on a trace of at most 16,777,216 bytes, of which the lines before the first line `%%` count.
+///
+/// A text is read once, line by line. For each line the time follows its length and what is outstanding on its link; the
+/// memory follows the greatest link and what is outstanding.
 pub fn judge(alloc: Global, text: &str) -> Result<Verdict, NoMemory>
     requires short { length text.now ≤ 16777216 }
     ensures verdict { IfOk result (λ verdict. verdict ≡ verdict_of text.now) }
