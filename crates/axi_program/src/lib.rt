@@ -22,6 +22,8 @@ mod tests;
 mod texts;
 mod top;
 mod trace;
+#[cfg(test)]
+mod trace_tests;
 mod traffic;
 mod words;
 

@@ -1,0 +1,187 @@
+//! Traced runs and judged traces through the top call.
+
+use super::*;
+use std::alloc::Global;
+use std::process::Abort;
+use std::test::Fail;
+use trace_check::PortFault;
+
+/// An input, the words after the program's name, what the top call answers and what it writes.
+#[derive(Clone, Copy)]
+struct Row {
+    input: &'static [u8],
+    command: &'static str,
+    option: Option<&'static str>,
+    status: Status,
+    written: &'static [u8],
+}
+
+fn judged(input: &'static [u8], status: Status, written: &'static [u8]) -> Row {
+    Row {
+        input,
+        command: "check",
+        option: None,
+        status,
+        written,
+    }
+}
+
+fn a_traced_run() -> Row {
+    Row {
+        input: b"%%\nwrite m 1 0x10 4 incr 11223344\nwait m\nread m 2 0x10 4 incr 1\n",
+        command: "run",
+        option: Some("--trace=all"),
+        status: Status::Done,
+        written: b"2 0 axi 4 +1,10,0,2,1,0,1:0:0 - - - -
+3 0 axi 4 - +11223344,f,1,1:0:0 - - -
+5 0 axi 4 - - +1,0,1:0:0 - -
+7 0 axi 4 - - - +2,10,0,2,1,0,2:0:0 -
+9 0 axi 4 - - - - +2,11223344,0,1,2:0:0
+%%
+1 write m 1 5 okay
+2 read m 6 9 okay:11223344
+rounds 9
+",
+    }
+}
+
+fn a_run_without_traffic() -> Row {
+    Row {
+        input: b"%%\n",
+        command: "run",
+        option: Some("--trace=all"),
+        status: Status::Done,
+        written: b"%%\nrounds 0\n",
+    }
+}
+
+fn a_run_without_a_trace() -> Row {
+    Row {
+        input: b"%%\n",
+        command: "run",
+        option: Some("--trace=none"),
+        status: Status::Done,
+        written: b"rounds 0\n",
+    }
+}
+
+fn an_unknown_option() -> Row {
+    Row {
+        input: b"%%\n",
+        command: "run",
+        option: Some("--trace=some"),
+        status: Status::Usage,
+        written: b"",
+    }
+}
+
+fn a_legal_trace() -> Row {
+    judged(a_traced_run().written, Status::Done, b"legal 5\n")
+}
+
+fn a_payload_that_changes() -> Row {
+    let fault = PortFault {
+        line: 2,
+        round: 2,
+        link: 0,
+        channel: 1,
+        rule: 2,
+    };
+    judged(
+        b"1 0 axi 4 =0,10,0,2,1,0,1:0:0 - - - -\n2 0 axi 4 +0,14,0,2,1,0,1:0:0 - - - -\n",
+        Status::Broken(fault),
+        b"broken 2 2 0 aw 2\n",
+    )
+}
+
+fn an_offer_that_is_withdrawn() -> Row {
+    let fault = PortFault {
+        line: 0,
+        round: 2,
+        link: 0,
+        channel: 1,
+        rule: 1,
+    };
+    judged(
+        b"1 0 axi 4 =0,10,0,2,1,0,1:0:0 - - - -\r\n3 0 axi 4 +0,10,0,2,1,0,1:0:0 - - - -\r\n",
+        Status::Broken(fault),
+        b"broken 0 2 0 aw 1\n",
+    )
+}
+
+fn no_trace_line() -> Row {
+    judged(
+        b"x\n",
+        Status::Refused(Refusal::bad_trace_line(1)),
+        b"refused 22 BadTraceLine 1\n",
+    )
+}
+
+fn a_lite_port() -> Row {
+    judged(
+        b"1 0 axi 4 +0,10,0,2,1,0,1:0:0 - - - -\n1 1 lite 4 - - - - -\n",
+        Status::Refused(Refusal::not_built(2)),
+        b"refused 23 NotBuilt 2\n",
+    )
+}
+
+fn no_text() -> Row {
+    judged(
+        b"1 0 axi 4 \xff\n",
+        Status::Refused(Refusal::not_text()),
+        b"refused 2 NotText\n",
+    )
+}
+
+fn the_greatest_round() -> Row {
+    judged(
+        b"9223372036854775807 0 axi 4 +0,10,0,2,1,0,1:0:0 - - - -\n",
+        Status::Done,
+        b"legal 1\n",
+    )
+}
+
+fn one_round_more() -> Row {
+    judged(
+        b"9223372036854775808 0 axi 4 +0,10,0,2,1,0,1:0:0 - - - -\n",
+        Status::Refused(Refusal::bad_trace_line(1)),
+        b"refused 22 BadTraceLine 1\n",
+    )
+}
+
+/// Fails where the top call answers or writes anything else than a row has.
+fn compare(rt: &(impl Alloc<A = Global> + Abort), row: &Row) -> Result<(), Fail> {
+    let alloc = rt.alloc();
+    let mut source = MemorySource::new(row.input.to_vec(alloc)?, Vec::new(alloc), 100);
+    let mut sink = MemorySink::new(alloc, 1000, Vec::new(alloc), 1000)?;
+    let mut words = Vec::new(alloc);
+    words.push(String::from_str(alloc, "axinet")?)?;
+    words.push(String::from_str(alloc, row.command)?)?;
+    if let Some(option) = row.option {
+        words.push(String::from_str(alloc, option)?)?;
+    }
+    let status = axinet(alloc, &words, &mut source, &mut sink, &OpenGate);
+    assert_eq!(rt; status, row.status);
+    assert_eq!(rt; sink.bytes(), row.written);
+    Ok(())
+}
+
+#[test]
+fn runs_are_traced(rt: HostRuntime) -> Result<(), Fail> {
+    compare(&rt, &a_traced_run())?;
+    compare(&rt, &a_run_without_traffic())?;
+    compare(&rt, &a_run_without_a_trace())?;
+    compare(&rt, &an_unknown_option())
+}
+
+#[test]
+fn traces_are_judged(rt: HostRuntime) -> Result<(), Fail> {
+    compare(&rt, &a_legal_trace())?;
+    compare(&rt, &a_payload_that_changes())?;
+    compare(&rt, &an_offer_that_is_withdrawn())?;
+    compare(&rt, &no_trace_line())?;
+    compare(&rt, &a_lite_port())?;
+    compare(&rt, &no_text())?;
+    compare(&rt, &the_greatest_round())?;
+    compare(&rt, &one_round_more())
+}
