@@ -1,6 +1,7 @@
 pub mod AccessFacts
 pub mod Accessed
 pub mod BeatLemmas
+pub mod BetweenLemmas
 pub mod ChainFacts
 pub mod EntryLemmas
 pub mod FillFacts
