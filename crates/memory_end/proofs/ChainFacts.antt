@@ -1,5 +1,5 @@
 -- Where beats come in order of their addresses, nothing of a later transaction of a chain has come yet.
-use Rattle.std.proofs.Common.{◌≡◌, ◌≢◌, ℕ, ◌+◌, ◌<◌, ◌≤◌, ◌==◌, suc, List, [], ◌∷◌, ◌++◌, length, map, refl, sym, ◌∙◌, ap, subst, arith, inl, inr, ◌⊎◌, append_assoc, length-append}
+use Rattle.std.proofs.Common.{◌≡◌, ◌≢◌, ℕ, ◌+◌, ◌<◌, ◌≤◌, ◌==◌, suc, List, [], ◌∷◌, ◌++◌, length, map, refl, sym, ◌∙◌, ap, subst, arith, inl, inr, append_assoc, length-append}
 use Rattle.std.proofs.lemmas.List.{length-map, map-append}
 use Rattle.std.proofs.lemmas.List.Concat.{flat_map-append}
 use Rattle.axi_beats.specs.declared.beat.Addr.{Addr}
@@ -31,7 +31,6 @@ module _ (shares : ℕ → Share) (shown : Addr → Asked) (counts : (n : ℕ) (
   none_before bef a aft after e few chain = elim (find_key number_of_address after bef) [
     | inl none ↦ none
     | inr found ↦
-        let front : List Addr = found.0 in
         let at : xs ≡ found.0 ++ found.1 ∷ (found.2 ++ a ∷ aft) = e ∙ ap (λ ys. ys ++ a ∷ aft) found.3 ∙ append_assoc found.0 (found.1 ∷ found.2) (a ∷ aft) in
         let mine : after ≡ number_of_asked (shown found.1) = sym found.4 ∙ sym (numbers found.1) in
         let all : length (of_key number_of_asked a.tag.txn (map shown found.0)) ≡ length (shares a.tag.txn).parts =
@@ -55,7 +54,6 @@ module _ (shares : ℕ → Share) (shown : Addr → Asked) (counts : (n : ℕ) (
       let few : length (of_key number_of_address v.request.tag.txn xs) ≤ length (shares v.request.tag.txn).parts = omega (arith, prefix_length asked, length-map (of_key number_of_address v.request.tag.txn xs) without_id) in
       let none : of_key number_of_address after place.0 ≡ [] = none_before place.0 v.request place.1 after place.2 few chain in
       let differ : v.request.tag.txn ≢ after = λ same. let lt : v.request.tag.txn < after = chain.0 in absurd (omega arith) in
-      let front : List Addr = place.0 ++ v.request ∷ [] in
       let parts : marks (map burst_asked xs) ≡ marks (map burst_asked (place.0 ++ v.request ∷ [])) ++ marks (map burst_asked place.1) =
       ap (λ ys. marks (map burst_asked ys)) (place.2 ∙ sym (append_assoc place.0 (v.request ∷ []) place.1))
       ∙ ap marks (map-append burst_asked (place.0 ++ v.request ∷ []) place.1)

@@ -1,5 +1,5 @@
 -- The bytes of an answer, and those that were read for it.
-use Rattle.std.proofs.Common.{◌≡◌, ℕ, ◌+◌, ◌-◌, ◌<◌, ◌≤◌, ◌&&◌, suc, zero, Bool, true, false, cond, List, [], ◌∷◌, ◌++◌, length, map, take, drop, refl, sym, ◌∙◌, ap, subst, arith, leb, ltb, length-append}
+use Rattle.std.proofs.Common.{◌≡◌, ℕ, ◌+◌, ◌-◌, ◌<◌, ◌≤◌, ◌&&◌, suc, zero, Bool, true, false, cond, List, [], ◌∷◌, ◌++◌, length, map, take, drop, refl, sym, ◌∙◌, ap, arith, leb, ltb, length-append}
 use Rattle.std.specs.Prelude.{filter, flat_map, slice_range}
 use Rattle.std.specs.List.{range_with_len}
 use Rattle.std.proofs.lemmas.Bool.{le-leb, lt-ltb}
@@ -11,7 +11,7 @@ use Rattle.axi_trail.specs.Streams.{IsPrefix}
 use Rattle.axi_trail.proofs.PrefixFacts.{prefix_cons}
 use Rattle.axi_trail.proofs.StreamFacts.{prefix_itself, prefix_nil}
 use Rattle.memory_end.specs.Accesses.{BeatOf, allowed_bytes, filled_bytes, read_addresses, span_of}
-use Rattle.memory_end.specs.Beats.{Byte, answered_byte, answered_lanes, first_lane, is_valid, lane_address, lane_count, read_bytes, valid_lanes}
+use Rattle.memory_end.specs.Beats.{Byte, answered_byte, answered_lanes, first_lane, lane_address, lane_count, read_bytes, valid_lanes}
 use Rattle.memory_end.specs.MemoryState.{IsMemoryConfig}
 use Rattle.memory_end.specs.Status.{is_okay, read_status}
 use Rattle.memory_end.specs.Store.{Store, byte_at}
@@ -62,7 +62,6 @@ count-append (false ∷ xs) ys = count-append xs ys
 pub count-reads : (config : MemoryConfig) (beats : List BeatOf) → count_allowed (flat_map (allowed_bytes config) beats) ≡ length (flat_map (read_addresses config) beats)
 count-reads config [] = refl
 count-reads config (b ∷ beats) =
-    let test : ℕ → Bool = λ lane. is_okay (read_status config (lane_address b.request b.beat config.bus lane)) in
     let own : count_allowed (allowed_bytes config b) ≡ length (read_addresses config b) =
     count-tested (λ lane. is_okay (read_status config (lane_address b.request b.beat config.bus lane))) (valid_lanes b.request b.beat config.bus)
     ∙ sym (length-map (filter (λ lane. is_okay (read_status config (lane_address b.request b.beat config.bus lane))) (valid_lanes b.request b.beat config.bus)) (λ lane. lane_address b.request b.beat config.bus lane)) in
@@ -99,7 +98,6 @@ length-range a (suc n) = ap suc (length-range (a + 1) n)
 -- a part of a list that tells each lane
 slice-range : (g : ℕ → ℕ) (end low count : ℕ) → 0 < count → low + count ≤ end → slice_range (map g (range_with_len 0 end)) low (low + count - 1 + 1) ≡ map g (range_with_len low count)
 slice-range g end low count some le =
-    let rest : ℕ = end - (low + count) in
     let whole : end ≡ low + (count + (end - (low + count))) = omega arith in
     let first : 0 + low ≡ low = omega arith in
     let size : low + count - 1 + 1 - low ≡ count = omega arith in

@@ -1,12 +1,12 @@
 -- What is known of the lanes of a beat: that they lie on the bus and in the line of the beat's word, and that they
 -- don't depend on the request's ID.
-use Rattle.std.proofs.Common.{◌≡◌, ℕ, ◌+◌, ◌*◌, ◌/◌, ◌%◌, ◌<◌, ◌≤◌, ◌&&◌, suc, List, [], ◌∷◌, refl, ap, arith, sym, ◌∙◌, IsTrue, subst}
+use Rattle.std.proofs.Common.{◌≡◌, ℕ, ◌+◌, ◌/◌, ◌%◌, ◌<◌, ◌≤◌, suc, List, [], ◌∷◌, refl, ap, arith, ◌∙◌}
 use Rattle.axi_beats.specs.Response.{worst_of}
 use Rattle.axi_beats.specs.Word.{IsBusWidth}
 use Rattle.axi_beats.specs.declared.beat.Addr.{Addr}
 use Rattle.axi_beats.specs.declared.beat.WBeat.{WBeat}
 use Rattle.axi_trail.specs.LinkContracts.{without_id}
-use Rattle.memory_end.specs.Accesses.{BeatOf, allowed_bytes, burst_status, read_addresses, span_of}
+use Rattle.memory_end.specs.Accesses.{allowed_bytes, burst_status, read_addresses, span_of}
 use Rattle.memory_end.specs.Beats.{beat_address, first_lane, lane_address, lane_count, strobed_status, word_address, written_bytes}
 use Rattle.memory_end.specs.MemoryState.{IsMemoryConfig}
 use Rattle.memory_end.specs.Status.{is_inside}
@@ -43,7 +43,6 @@ lanes-within a n bus is =
 -- the byte on a lane of the bus lies in the line of the beat's word, and in the memory exactly where the word does
 pub line-of_lane : (a : Addr) (n bus lane : ℕ) → IsBusWidth bus → lane < bus → line_of (lane_address a n bus lane) ≡ line_of (word_address a n bus)
 line-of_lane a n bus lane is lt =
-    let word : ℕ = word_address a n bus in
     let within : word_address a n bus % 128 + lane < 128 = omega (arith, word-in_line (beat_address a n) bus is) in
     in_line (word_address a n bus) lane within
   where

@@ -1,5 +1,5 @@
 -- The next beat of a stream in order of its addresses, among the beats of its transaction's parts.
-use Rattle.std.proofs.Common.{◌≡◌, ◌≢◌, ℕ, ◌+◌, ◌-◌, ◌≤◌, ◌==◌, suc, zero, Bool, true, false, cond, List, [], ◌∷◌, ◌++◌, length, map, take, drop, refl, sym, ◌∙◌, ap, subst, arith, inl, inr, append_assoc, length-append, eq-eqb}
+use Rattle.std.proofs.Common.{◌≡◌, ◌≢◌, ℕ, ◌+◌, ◌-◌, ◌≤◌, ◌==◌, suc, zero, false, List, [], ◌∷◌, ◌++◌, length, map, take, drop, refl, sym, ◌∙◌, ap, arith, inl, inr, append_assoc, length-append, eq-eqb}
 use Rattle.std.specs.List.{range_with_len}
 use Rattle.std.proofs.lemmas.Bool.{cases_eq, cases_lt, ne_eqb}
 use Rattle.std.proofs.lemmas.List.{length-map, map-append, take_at, drop_at}
@@ -9,8 +9,8 @@ use Rattle.flight.specs.Entries.{of_key}
 use Rattle.axi_trail.specs.LinkContracts.{without_id}
 use Rattle.axi_trail.specs.Streams.{IsPrefix}
 use Rattle.axi_trail.specs.Waiting.{Waiting, pending}
-use Rattle.axi_trail.specs.Words.{Mark, burst_asked, burst_marks, marks, marks_of, number_of_address, number_of_mark}
-use Rattle.axi_trail.proofs.FilterFacts.{burst_left_out, burst_selected, filter_skip, length-burst_marks, of_key-append, of_key-cons, of_key-skip}
+use Rattle.axi_trail.specs.Words.{Mark, burst_asked, burst_marks, marks, number_of_address, number_of_mark}
+use Rattle.axi_trail.proofs.FilterFacts.{burst_left_out, burst_selected, length-burst_marks, of_key-append, of_key-cons, of_key-skip}
 use Rattle.axi_trail.proofs.MarkFacts.{length_own, take_past}
 use Rattle.axi_trail.proofs.WaitingFacts.{pending-past, pending-place, pending-within}
 use Rattle.memory_end.specs.Accesses.{BeatOf, beats_of_parts}
@@ -39,7 +39,6 @@ module _ (t : ℕ) where
   pending_own count [] = refl
   pending_own count (a ∷ xs) = elim (cases_lt a.len count) [
     | inl lt ↦
-        let more : List Mark = marks (map burst_asked xs) in
         let front : take count (burst_marks a.tag.txn a.len ++ marks (map burst_asked xs)) ≡ burst_marks a.tag.txn a.len ++ take (count - suc a.len) (marks (map burst_asked xs)) =
         take_past count (burst_marks a.tag.txn a.len) (marks (map burst_asked xs)) (omega (arith, length-burst_marks a.tag.txn a.len))
         ∙ ap (λ n. burst_marks a.tag.txn a.len ++ take (count - n) (marks (map burst_asked xs))) (length-burst_marks a.tag.txn a.len) in
@@ -97,7 +96,7 @@ module _ (t : ℕ) where
 abbrev beat_of : Addr → ℕ → BeatOf
 beat_of part n = record { request = part; beat = n }
 
-abbrev part_beats : Addr → List BeatOf
+abbrev pub part_beats : Addr → List BeatOf
 part_beats part = map (beat_of part) (range_with_len 0 (part.len + 1))
 
 length-range : (a n : ℕ) → length (range_with_len a n) ≡ n
@@ -108,33 +107,36 @@ length-range a (suc n) = ap suc (length-range (a + 1) n)
 part_from : (p : Addr) (done : ℕ) → done ≤ p.len → (rest : List BeatOf) × (part_beats p ≡ map (beat_of p) (range_with_len 0 done) ++ beat_of p done ∷ rest)
 part_from p done le =
     let whole : p.len + 1 ≡ done + suc (p.len - done) = omega arith in
-    let none : 0 + done ≡ done = omega arith in
-    (map (beat_of p) (range_with_len (done + 1) (p.len - done)),
+    let none : 0 + done ≡ done = omega arith in (
+      map (beat_of p) (range_with_len (done + 1) (p.len - done)),
       ap (λ n. map (beat_of p) (range_with_len 0 n)) whole
-      ∙ ap (map (beat_of p)) (range-split 0 done (suc (p.len - done)))
-      ∙ map-append (beat_of p) (range_with_len 0 done) (range_with_len (0 + done) (suc (p.len - done)))
-      ∙ ap (λ n. map (beat_of p) (range_with_len 0 done) ++ map (beat_of p) (range_with_len n (suc (p.len - done)))) none)
+          ∙ ap (map (beat_of p)) (range-split 0 done (suc (p.len - done)))
+          ∙ map-append (beat_of p) (range_with_len 0 done) (range_with_len (0 + done) (suc (p.len - done)))
+          ∙ ap (λ n. map (beat_of p) (range_with_len 0 done) ++ map (beat_of p) (range_with_len n (suc (p.len - done)))) none,
+    )
 
-length-part_beats : (p : Addr) → length (part_beats p) ≡ suc p.len
+pub length-part_beats : (p : Addr) → length (part_beats p) ≡ suc p.len
 length-part_beats p = length-map (range_with_len 0 (p.len + 1)) (beat_of p) ∙ length-range 0 (p.len + 1) ∙ (let e : p.len + 1 ≡ suc p.len = omega arith in e)
 
 -- the beats of parts from a beat of one of them on
 parts_from : (front : List Addr) (p : Addr) (more : List Addr) (done : ℕ) → done ≤ p.len → (rest : List BeatOf) × (drop (beats_of_all front + done) (beats_of_parts (map without_id front ++ p ∷ more)) ≡ beat_of p done ∷ rest)
 parts_from [] p more done le =
     let own : (rest : List BeatOf) × (part_beats p ≡ map (beat_of p) (range_with_len 0 done) ++ beat_of p done ∷ rest) = part_from p done le in
-    let none : 0 + done ≡ done = omega arith in
-    (own.0 ++ beats_of_parts more,
+    let none : 0 + done ≡ done = omega arith in (
+      own.0 ++ beats_of_parts more,
       ap (λ n. drop n (part_beats p ++ beats_of_parts more)) none
-      ∙ ap (λ t. drop done (t ++ beats_of_parts more)) own.1
-      ∙ ap (drop done) (append_assoc (map (beat_of p) (range_with_len 0 done)) (beat_of p done ∷ own.0) (beats_of_parts more))
-      ∙ drop_at (map (beat_of p) (range_with_len 0 done)) (beat_of p done ∷ (own.0 ++ beats_of_parts more)) done (length-map (range_with_len 0 done) (beat_of p) ∙ length-range 0 done))
+          ∙ ap (λ t. drop done (t ++ beats_of_parts more)) own.1
+          ∙ ap (drop done) (append_assoc (map (beat_of p) (range_with_len 0 done)) (beat_of p done ∷ own.0) (beats_of_parts more))
+          ∙ drop_at (map (beat_of p) (range_with_len 0 done)) (beat_of p done ∷ (own.0 ++ beats_of_parts more)) done (length-map (range_with_len 0 done) (beat_of p) ∙ length-range 0 done),
+    )
 parts_from (a ∷ front) p more done le =
     let rest : (rest : List BeatOf) × (drop (beats_of_all front + done) (beats_of_parts (map without_id front ++ p ∷ more)) ≡ beat_of p done ∷ rest) = parts_from front p more done le in
-    let counted : (suc a.len + beats_of_all front) + done ≡ length (part_beats (without_id a)) + (beats_of_all front + done) = omega (arith, length-part_beats (without_id a)) in
-    (rest.0,
+    let counted : (suc a.len + beats_of_all front) + done ≡ length (part_beats (without_id a)) + (beats_of_all front + done) = omega (arith, length-part_beats (without_id a)) in (
+      rest.0,
       ap (λ n. drop n (part_beats (without_id a) ++ beats_of_parts (map without_id front ++ p ∷ more))) counted
-      ∙ drop-append-add (part_beats (without_id a)) (beats_of_parts (map without_id front ++ p ∷ more)) (beats_of_all front + done)
-      ∙ rest.1)
+          ∙ drop-append-add (part_beats (without_id a)) (beats_of_parts (map without_id front ++ p ∷ more)) (beats_of_all front + done)
+          ∙ rest.1,
+    )
 
 -- the next beat is the next one of its transaction's parts
 pub next_part : (t : ℕ) (parts xs : List Addr) (passed : List Mark) (count : ℕ) (v : Waiting Addr) (others : List (Waiting Addr)) → IsPrefix (map without_id (of_key number_of_address t xs)) parts →

@@ -1,7 +1,7 @@
 -- A beat of read data that is put: what is read for it.
-use Rattle.std.proofs.Common.{◌≡◌, ◌≢◌, ℕ, ◌+◌, ◌<◌, ◌≤◌, ◌&&◌, ◌==◌, suc, zero, Bool, true, false, cond, List, [], ◌∷◌, ◌++◌, length, map, take, drop, refl, sym, ◌∙◌, ap, subst, arith, inl, inr, append-nil, length-append, IsTrue, true≢false}
-use Rattle.std.specs.Prelude.{filter, flat_map}
-use Rattle.std.specs.List.{AllByRecursion, range_with_len}
+use Rattle.std.proofs.Common.{◌≡◌, ◌≢◌, ℕ, suc, Bool, true, false, cond, List, [], ◌∷◌, ◌++◌, length, map, take, drop, refl, sym, ◌∙◌, ap, subst, arith, inl, inr, append-nil, length-append, IsTrue}
+use Rattle.std.specs.Prelude.{filter}
+use Rattle.std.specs.List.{AllByRecursion}
 use Rattle.std.proofs.lemmas.Bool.{cases_eq}
 use Rattle.std.proofs.lemmas.List.{length-map, map-append, drop-map}
 use Rattle.std.proofs.lemmas.Simd.{map-map}
@@ -37,12 +37,11 @@ stored-lanes : (config : MemoryConfig) (store : Store) (address : ℕ → ℕ) (
     AllByRecursion (IsStored config store) (map (λ lane. record { address = address lane; value = byte_at store (address lane) }) (filter (λ lane. is_okay (read_status config (address lane))) lanes))
 stored-lanes config store address [] = tt
 stored-lanes config store address (k ∷ lanes) =
-    let mk : ℕ → Byte = λ lane. record { address = address lane; value = byte_at store (address lane) } in
     let rest : AllByRecursion (IsStored config store) (map (λ lane. record { address = address lane; value = byte_at store (address lane) }) (filter (λ lane. is_okay (read_status config (address lane))) lanes)) =
     stored-lanes config store address lanes in
     let go : (b : Bool) → is_inside config (address k) ≡ b →
-        AllByRecursion (IsStored config store) (map (λ lane. record { address = address lane; value = byte_at store (address lane) })
-        (cond (is_okay (cond b Okay DecErr)) (k ∷ filter (λ lane. is_okay (read_status config (address lane))) lanes) (filter (λ lane. is_okay (read_status config (address lane))) lanes))) =
+    AllByRecursion (IsStored config store) (map (λ lane. record { address = address lane; value = byte_at store (address lane) })
+    (cond (is_okay (cond b Okay DecErr)) (k ∷ filter (λ lane. is_okay (read_status config (address lane))) lanes) (filter (λ lane. is_okay (read_status config (address lane))) lanes))) =
     elim [
       | true ↦ λ inside. (record { inside = inside; value = refl }, rest)
       | false ↦ λ inside. rest

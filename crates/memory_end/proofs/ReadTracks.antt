@@ -1,5 +1,5 @@
 -- A memory's reads follow their trail, move by move.
-use Rattle.std.proofs.Common.{◌≡◌, ◌≢◌, ℕ, ◌+◌, ◌<◌, ◌≤◌, ◌==◌, suc, zero, Bool, true, false, cond, List, [], ◌∷◌, ◌++◌, Option, Some, None, length, map, take, drop, refl, sym, ◌∙◌, ap, subst, arith, inl, inr, append_assoc, append-nil, length-append}
+use Rattle.std.proofs.Common.{◌≡◌, ℕ, ◌+◌, ◌≤◌, ◌==◌, suc, Bool, true, false, cond, List, [], ◌∷◌, ◌++◌, Some, length, map, drop, refl, sym, ◌∙◌, ap, subst, arith, inl, inr, append_assoc, length-append}
 use Rattle.std.proofs.lemmas.Bool.{cases_eq}
 use Rattle.std.proofs.lemmas.List.{length-map, map-append, drop_at, drop-map}
 use Rattle.axi_beats.specs.declared.beat.Addr.{Addr}
@@ -9,7 +9,7 @@ use Rattle.axi_trail.specs.LinkContracts.{without_id}
 use Rattle.axi_trail.specs.Schedule.{Share}
 use Rattle.axi_trail.specs.Streams.{IsPrefix}
 use Rattle.axi_trail.specs.Waiting.{Waiting, advanced, answered_once, beats_by, held, pending, waiting_shown}
-use Rattle.axi_trail.specs.Words.{Asked, Mark, Reply, InOrderOfId, burst_asked, held_asked, id_of_asked, id_of_reply, id_of_waiting, len_of_asked, mark_of_reply, marks, marks_of, next_mark, next_reply, number_of_address, number_of_mark, number_of_read_data, pending_asked, read_reply}
+use Rattle.axi_trail.specs.Words.{Mark, Reply, InOrderOfId, burst_asked, held_asked, id_of_asked, id_of_reply, id_of_waiting, len_of_asked, mark_of_reply, marks, marks_of, next_mark, next_reply, number_of_address, number_of_mark, number_of_read_data, pending_asked, read_reply}
 use Rattle.axi_trail.proofs.FilterFacts.{length-marks, of_key-cons, of_key-map, of_key-push, of_key-push_other}
 use Rattle.axi_trail.proofs.HeldFacts.{held-answer, held-request, once-own}
 use Rattle.axi_trail.proofs.PrefixFacts.{prefix_flat_map, prefix_length, prefix_map}
@@ -20,14 +20,13 @@ use Rattle.axi_trail.proofs.WaitingFacts.{pending-beat, pending-request}
 use Rattle.flight.specs.Entries.{count_of, of_key}
 use Rattle.memory_end.specs.Accesses.{BeatOf, beats_of_parts}
 use Rattle.memory_end.specs.Beats.{valid_status}
-use Rattle.memory_end.specs.MemoryTable.{after_ar, after_r, next_beat}
+use Rattle.memory_end.specs.MemoryTable.{after_r, next_beat}
 use Rattle.memory_end.specs.Store.{Store}
 use Rattle.memory_end.specs.Tracks.{TracksReads, len_of_address, read_waiting}
 use Rattle.memory_end.specs.declared.config.MemoryConfig.{MemoryConfig}
 use Rattle.memory_end.specs.declared.entry.ReadEntry.{ReadEntry}
 use Rattle.memory_end.proofs.PartPlaces.{count_marks, next_part}
 use Rattle.memory_end.proofs.TrackFacts.{beats_of_all}
-use Rattle.memory_end.proofs.WriteTracks.{one_of}
 
 -- one element more of a beginning
 pub prefix_next : {X : Type 0} (xs ys : List X) (y : X) (rest : List X) → IsPrefix xs ys → drop (length xs) ys ≡ y ∷ rest → IsPrefix (xs ++ y ∷ []) ys
@@ -70,7 +69,6 @@ pub next_read : (shares : ℕ → Share) (e : ReadEntry) (es : List ReadEntry) (
     TracksReads shares (e ∷ es) ar r →
     (rest : List BeatOf) × (drop (length (of_key number_of_read_data e.request.tag.txn r)) (beats_of_parts (shares e.request.tag.txn).parts) ≡ record { request = without_id e.request; beat = e.put } ∷ rest)
 next_read shares e es ar r asked is =
-    let t : ℕ = e.request.tag.txn in
     let found : (rest : List BeatOf) × (drop (count_marks e.request.tag.txn (read_marks r)) (beats_of_parts (shares e.request.tag.txn).parts) ≡ record { request = without_id e.request; beat = e.put } ∷ rest) =
     next_part e.request.tag.txn (shares e.request.tag.txn).parts ar (read_marks r) (length r) (read_waiting e) (map read_waiting es) asked is.in_order (length-read_marks r) (head-pending shares e es ar r is) refl in
     (found.0, ap (λ n. drop n (beats_of_parts (shares e.request.tag.txn).parts)) (sym (count-read_marks e.request.tag.txn r)) ∙ found.1)

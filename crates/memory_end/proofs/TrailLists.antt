@@ -1,12 +1,12 @@
 -- Facts on the first elements of lists, and on what follows them.
-use Rattle.std.proofs.Common.{◌≡◌, ◌≢◌, ℕ, ◌+◌, ◌-◌, ◌<◌, ◌≤◌, suc, zero, Bool, true, false, cond, List, [], ◌∷◌, ◌++◌, length, map, take, drop, refl, sym, ◌∙◌, ap, subst, arith, inl, inr, ◌⊎◌, append_assoc, append-nil}
-use Rattle.std.specs.Prelude.{filter, flat_map, zip}
+use Rattle.std.proofs.Common.{◌≡◌, ℕ, ◌≤◌, suc, zero, List, [], ◌∷◌, ◌++◌, length, take, drop, refl, sym, ◌∙◌, ap, arith, inl, inr, ◌⊎◌, append_assoc, append-nil}
+use Rattle.std.specs.Prelude.{flat_map, zip}
 use Rattle.std.proofs.lemmas.Bool.{cases_eq}
-use Rattle.std.proofs.lemmas.List.{map-append, drop_at}
+use Rattle.std.proofs.lemmas.List.{drop_at}
 use Rattle.std.proofs.lemmas.List.Concat.{flat_map-append}
 use Rattle.flight.specs.Entries.{of_key}
 use Rattle.axi_trail.specs.Streams.{IsPrefix}
-use Rattle.axi_trail.proofs.FilterFacts.{of_key-cons, of_key-skip}
+use Rattle.axi_trail.proofs.FilterFacts.{of_key-skip}
 
 module _ {X : Type 0} where
   -- one more of the first elements is the next one

@@ -1,6 +1,6 @@
 -- A beat of write data that is taken: what is written for it.
-use Rattle.std.proofs.Common.{◌≡◌, ◌≢◌, ℕ, ◌+◌, ◌<◌, ◌≤◌, ◌&&◌, ◌==◌, suc, zero, Bool, true, false, cond, List, [], ◌∷◌, ◌++◌, length, map, take, drop, refl, sym, ◌∙◌, ap, subst, arith, inl, inr, append-nil, length-append, IsTrue, true≢false, eq-eqb}
-use Rattle.std.specs.Prelude.{Contains, filter, flat_map, slice_index}
+use Rattle.std.proofs.Common.{◌≡◌, ◌≢◌, ℕ, ◌<◌, ◌≤◌, ◌==◌, suc, Bool, true, false, cond, List, [], ◌∷◌, ◌++◌, length, map, drop, refl, sym, ◌∙◌, ap, subst, arith, inl, inr, append-nil, length-append, eq-eqb}
+use Rattle.std.specs.Prelude.{Contains, filter}
 use Rattle.std.specs.List.{AllByRecursion}
 use Rattle.std.proofs.lemmas.Bool.{cases_eq, ne_eqb}
 use Rattle.std.proofs.lemmas.List.{map-append}
@@ -57,8 +57,8 @@ lines-written config lines a n x is among le = on (strobed_lanes config.bus x) (
     on (k ∷ lanes) below =
         let rest : AllByRecursion (λ (b : Byte). Contains lines (line_of b.address)) (bytes_on (word_address a n config.bus) x (filter (λ lane. is_okay (write_status config (lane_address a n config.bus lane))) lanes)) = on lanes below.1 in
         let go : (b : Bool) → is_inside config (lane_address a n config.bus k) ≡ b →
-            AllByRecursion (λ (b : Byte). Contains lines (line_of b.address))
-            (bytes_on (word_address a n config.bus) x (cond (is_okay (cond b Okay DecErr)) (k ∷ filter (λ lane. is_okay (write_status config (lane_address a n config.bus lane))) lanes) (filter (λ lane. is_okay (write_status config (lane_address a n config.bus lane))) lanes))) =
+        AllByRecursion (λ (b : Byte). Contains lines (line_of b.address))
+        (bytes_on (word_address a n config.bus) x (cond (is_okay (cond b Okay DecErr)) (k ∷ filter (λ lane. is_okay (write_status config (lane_address a n config.bus lane))) lanes) (filter (λ lane. is_okay (write_status config (lane_address a n config.bus lane))) lanes))) =
         elim [
           | true ↦ λ inside.
               let word : is_inside config (word_address a n config.bus) ≡ true = sym (inside-of_lane config a n k is below.0) ∙ inside in

@@ -1,5 +1,5 @@
 -- The accesses that are due of a transaction at a memory, beat by beat, and what they leave behind.
-use Rattle.std.specs.Prelude.{◌≡◌, ◌==◌, ◌&&◌, ◌+◌, ◌-◌, ◌∷◌, [], ℕ, suc, List, Bool, true, false, map, filter, flat_map, take, zip, if◌then◌else◌}
+use Rattle.std.specs.Prelude.{◌==◌, ◌&&◌, ◌+◌, ◌-◌, ◌∷◌, [], ℕ, suc, List, Bool, true, false, map, filter, flat_map, take, zip, if◌then◌else◌}
 use Rattle.std.specs.Bool.{beq}
 use Rattle.std.specs.List.{range_with_len}
 use Rattle.axi_beats.specs.declared.beat.Addr.{Addr}
@@ -9,7 +9,7 @@ use Rattle.axi_beats.specs.declared.response.Resp.TheVariants.{Okay}
 use Rattle.axi_beats.specs.Response.{worst_of}
 use Rattle.axi_trail.specs.Schedule.{Share, Span}
 use Rattle.memory_end.specs.declared.config.MemoryConfig.{MemoryConfig}
-use Rattle.memory_end.specs.Beats.{Byte, beats_of, first_lane, lane_count, lane_address, strobed_status, valid_lanes, valid_status, written_bytes}
+use Rattle.memory_end.specs.Beats.{Byte, beats_of, first_lane, lane_count, lane_address, strobed_status, valid_lanes, written_bytes}
 use Rattle.memory_end.specs.Events.{Access}
 use Rattle.memory_end.specs.Status.{is_okay, read_status}
 

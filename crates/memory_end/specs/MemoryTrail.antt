@@ -1,6 +1,6 @@
 -- What a memory has passed on its link and accessed, and what its state has to do with it (Arm IHI 0022, ordering
 -- model).
-use Rattle.std.specs.Prelude.{◌≡◌, ◌≢◌, ◌<◌, ◌++◌, ◌∷◌, [], ℕ, suc, List, Bool, true, false, IsTrue, All, AllPairs, Contains, length, map, flat_map, zip, if◌then◌else◌}
+use Rattle.std.specs.Prelude.{◌≡◌, ◌<◌, ◌++◌, ◌∷◌, [], ℕ, List, Bool, true, false, IsTrue, All, AllPairs, Contains, length, map, zip, if◌then◌else◌}
 use Rattle.axi_beats.specs.declared.beat.Addr.{Addr}
 use Rattle.axi_beats.specs.declared.beat.WBeat.{WBeat}
 use Rattle.axi_link.specs.LinkView.{LinkView}
@@ -8,7 +8,7 @@ use Rattle.axi_trail.specs.LinkContracts.{Asks, Answers}
 use Rattle.axi_trail.specs.Schedule.{Schedule, Share, Progress, ComesBefore, bytes_on}
 use Rattle.axi_trail.specs.Streams.{IsPrefix}
 use Rattle.axi_trail.specs.Trail.{Beats, no_beats, joined, moved_below}
-use Rattle.axi_trail.specs.Waiting.{Waiting, held, pending}
+use Rattle.axi_trail.specs.Waiting.{held}
 use Rattle.axi_trail.specs.Words.{number_of_address, number_of_data, number_of_read_data}
 use Rattle.flight.specs.Entries.{of_key}
 use Rattle.memory_end.specs.Accesses.{BeatOf, accesses_of, allowed_before, beats_of_parts, burst_status, due_reads, due_writes, filled_bytes, left_at, span_of}
@@ -20,8 +20,6 @@ use Rattle.memory_end.specs.Status.{is_inside}
 use Rattle.memory_end.specs.Store.{byte_at}
 use Rattle.memory_end.specs.Tracks.{TracksReads, TracksWrites, read_waiting, write_waiting}
 use Rattle.memory_end.specs.declared.config.MemoryConfig.{MemoryConfig}
-use Rattle.memory_end.specs.declared.entry.ReadEntry.{ReadEntry}
-use Rattle.memory_end.specs.declared.entry.WriteEntry.{WriteEntry}
 
 -- What is due of one transaction at a memory: data for each beat of its parts, and the responses and lanes that follow
 -- from its parts.

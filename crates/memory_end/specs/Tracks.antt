@@ -6,7 +6,7 @@ use Rattle.axi_beats.specs.declared.beat.BBeat.{BBeat}
 use Rattle.axi_beats.specs.declared.beat.RBeat.{RBeat}
 use Rattle.axi_trail.specs.Schedule.{Share}
 use Rattle.axi_trail.specs.Streams.{IsPrefix}
-use Rattle.axi_trail.specs.Waiting.{Waiting, beats_by, held, pending}
+use Rattle.axi_trail.specs.Waiting.{Waiting, beats_by, pending}
 use Rattle.axi_trail.specs.Words.{InOrderOfId, burst_asked, marks, mark_of_reply, read_reply, number_of_read_data}
 use Rattle.flight.specs.Entries.{of_key}
 use Rattle.memory_end.specs.Accesses.{burst_status}
@@ -45,7 +45,7 @@ pub record TracksWrites (config : MemoryConfig) (entries : List WriteEntry) (add
   pub data_first : beats_by len_of_address (take (length responses) addresses) ≤ length beats
   pub addresses_first : length beats ≤ beats_by len_of_address addresses
 
--- The first reads that came are answered, of at most one a part, and the others are open.
+-- The first reads that came are answered, and the others are open, of which the first may be answered in part.
 pub record TracksReads (shares : ℕ → Share) (entries : List ReadEntry) (addresses : List Addr) (beats : List RBeat) : Type 0 where
   pub open_reads : map read_waiting entries ≡ pending len_of_address (length beats) addresses
   pub in_order : IsPrefix (map mark_of_reply (map read_reply beats)) (marks (map burst_asked addresses))

@@ -1,24 +1,12 @@
-use Rattle.memory_end.proofs.WriteAccess.{accessed-written}
-use Rattle.memory_end.proofs.ChainFacts.{none_later}
-use Rattle.memory_end.proofs.ReadAccess.{accessed-read}
-use Rattle.memory_end.proofs.FillFacts.{filled-beat}
-use Rattle.memory_end.proofs.AccessFacts.{order-more}
-use Rattle.memory_end.proofs.ReadTracks.{tracks-put}
-use Rattle.memory_end.proofs.LaneFacts.{line-of_lane}
-use Rattle.memory_end.proofs.WriteTracks.{tracks-b}
-use Rattle.memory_end.proofs.PartPlaces.{next_part}
-use Rattle.memory_end.proofs.TrackFacts.{whole-next}
-use Rattle.memory_end.proofs.TrailLists.{drop_next}
+use Rattle.memory_end.proofs.TrailAnswers.{memory-answers}
+use Rattle.memory_end.proofs.TrailAsked.{accesses-were_asked}
+use Rattle.memory_end.proofs.TrailSteps.{memory-opens, memory-steps}
 use Rattle.memory_end.proofs.trail_laws.laws_of_trails.Goals as goal
 
-pub returns-clause-opens : goal.returns-clause-opens
-returns-clause-opens c = let h : Unit {0} = tt in ?
-
-pub returns-clause-steps : goal.returns-clause-steps
-returns-clause-steps c = ?
-
-pub returns-clause-answers : goal.returns-clause-answers
-returns-clause-answers c = ?
-
-pub returns-clause-asked : goal.returns-clause-asked
-returns-clause-asked c = ?
+pub returns : goal.returns
+returns c = record {
+  opens = memory-opens;
+  steps = memory-steps;
+  answers = memory-answers;
+  asked = accesses-were_asked;
+}
