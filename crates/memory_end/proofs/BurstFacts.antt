@@ -1,6 +1,6 @@
 -- A memory's beats in the terms of bursts.
-use Rattle.std.proofs.Common.{◌≡◌, ◌≢◌, ℕ, ◌+◌, ◌-◌, ◌*◌, ◌/◌, ◌%◌, ◌==◌, ◌&&◌, ◌<◌, ◌≤◌, suc, zero, Bool, true, false, cond, List, [], ◌∷◌, ◌++◌, Option, Some, None, length, map, get_or, refl, sym, ◌∙◌, ap, subst, arith, inl, inr, leb, ltb, true≢false, IsTrue, append-nil, append_assoc, length-append}
-use Rattle.std.specs.Prelude.{All, Contains, filter, slice_get, slice_index}
+use Rattle.std.proofs.Common.{◌≡◌, ℕ, ◌+◌, ◌-◌, ◌*◌, ◌/◌, ◌%◌, ◌==◌, ◌&&◌, ◌<◌, ◌≤◌, suc, zero, Bool, true, false, cond, List, [], ◌∷◌, ◌++◌, Option, Some, None, length, map, get_or, refl, sym, ◌∙◌, ap, subst, arith, inl, inr, leb, ltb, true≢false, IsTrue, append-nil, append_assoc, length-append}
+use Rattle.std.specs.Prelude.{All, Contains, filter, slice_index}
 use Rattle.std.specs.Int.{bit_at}
 use Rattle.std.specs.List.{AllByRecursion, range_with_len}
 use Rattle.std.proofs.lemmas.Bool.{cases_lt, lt-leb, le-ltb}
@@ -16,10 +16,9 @@ use Rattle.axi_beats.specs.declared.response.Resp.TheVariants.{Okay, DecErr}
 use Rattle.burst_address.proofs.Beats.{beat-count, beat-line}
 use Rattle.burst_address.proofs.Written.{written-more}
 use Rattle.burst_address.specs.Bytes.{beat_bytes, beat_written, burst_bytes, bytes_before, strobed_byte, written, written_bytes as burst_written}
-use Rattle.burst_address.specs.Formulas.{aligned, beat_at, beats_of, lower_lane, size_of, upper_lane}
+use Rattle.burst_address.specs.Formulas.{aligned, beat_at, beats_of, size_of}
 use Rattle.burst_address.specs.Legal.{IsLegal}
-use Rattle.memory_end.specs.Accesses.{read_addresses}
-use Rattle.memory_end.specs.Beats.{Byte, bytes_on, first_lane, is_strobed, is_valid, lane_address, lane_count, strobed_lanes, valid_lanes, valid_status, word_address, written_bytes}
+use Rattle.memory_end.specs.Beats.{Byte, bytes_on, first_lane, is_strobed, is_valid, lane_address, lane_count, strobed_lanes, valid_lanes, word_address, written_bytes}
 use Rattle.memory_end.specs.BurstBytes.{BeatsAreInLines, LanesAreBytes, LinesAreOfBurst, ReadsBurstBytes, StatusOfBurstBytes, StrobeValidLanes, WritesBurstBytes, all_written_bytes}
 use Rattle.memory_end.specs.MemoryState.{AreLinesAmong, IsMemoryConfig}
 use Rattle.memory_end.specs.Status.{is_inside, is_okay, read_status, worst_among, write_status}
@@ -258,8 +257,8 @@ module _ (config : MemoryConfig) (a : Addr) (is : IsMemoryConfig config) (legal 
       let here : written_bytes config a n w ≡ shown own =
       beat-writes config a n w is legal (λ lane lt strobed. subst (λ (k : ℕ). IsTrue (is_valid a k config.bus lane)) none (valid 0 lane w refl lt strobed)) in
       let later : Strobes (length (front ++ w ∷ [])) ws = λ k lane x at lt strobed.
-          let shift : length front + suc k ≡ length (front ++ w ∷ []) + k = omega (arith, one) in
-          subst (λ (m : ℕ). IsTrue (is_valid a m config.bus lane)) shift (valid (suc k) lane x at lt strobed) in
+      let shift : length front + suc k ≡ length (front ++ w ∷ []) + k = omega (arith, one) in
+      subst (λ (m : ℕ). IsTrue (is_valid a m config.bus lane)) shift (valid (suc k) lane x at lt strobed) in
       let more : shown before ++ written_bytes config a n w ≡ shown (burst_written config.bus a (front ++ w ∷ [])) =
       ap (λ t. shown before ++ t) here
       ∙ sym (map-append byte_of (filter (is_in config) before) (filter (is_in config) own))

@@ -62,12 +62,7 @@ pub fn write_beat(
 }
 
 /// The worst status of the strobed bytes of the next beat of a write, which is at this address.
-pub fn strobed_status(
-    config: &MemoryConfig,
-    entry: &WriteEntry,
-    address: u64,
-    beat: &WBeat,
-) -> Resp
+pub fn strobed_status(config: &MemoryConfig, entry: &WriteEntry, address: u64, beat: &WBeat) -> Resp
     requires config { IsMemoryConfig config.now }
     requires address { address ≡ beat_address entry.now.request entry.now.taken }
     requires strobe { beat.now.strobe < 2 ^ config.now.bus }

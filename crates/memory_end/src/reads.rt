@@ -32,9 +32,9 @@ pub fn put_r(
         return;
     }
     let entry = *entries.get(0);
-    let beat = next_beat(config, &entry, store);
-    set_put(put, number, Some(&beat));
-    if beat.last {
+    let last = entry.put == u16::from(entry.request.len);
+    *put = Some((number, next_beat(config, &entry, store)));
+    if last {
         entries.take(0);
     } else {
         entries.set(0, with_beat(entry));

@@ -1,7 +1,7 @@
-use Rattle.std.proofs.Common.{◌≡◌, ◌+◌, ◌-◌, ◌*◌, ◌/◌, ◌%◌, ◌≤◌, ◌∙◌, ℕ, sym, ap, arith, subst}
+use Rattle.std.proofs.Common.{◌≡◌, ◌+◌, ◌-◌, ◌∙◌, ℕ, sym, ap, arith}
 use Rattle.std.proofs.lemmas.Nat.{div-add-mod'}
 use Rattle.axi_beats.specs.declared.beat.Addr.{Addr}
-use Rattle.burst_address.specs.Formulas.{lower_lane, size_of, upper_lane}
+use Rattle.burst_address.specs.Formulas.{size_of, upper_lane}
 use Rattle.memory_end.specs.Beats.{beat_address, first_lane, lane_count, word_address}
 use Rattle.memory_end.specs.Status.{is_inside}
 use Rattle.memory_end.specs.Store.{lanes_between}

@@ -1,4 +1,4 @@
-use Rattle.std.proofs.Common.{◌≡◌, ◌∙◌, ◌*◌, ◌/◌, ℕ, Bool, sym, ap}
+use Rattle.std.proofs.Common.{◌≡◌, ◌∙◌, ◌*◌, ◌/◌, ℕ, sym, ap}
 use Rattle.memory_end.specs.Status.{is_inside}
 use Rattle.memory_end.specs.Beats.{all_written, bytes_on, strobed_lanes, word_address}
 use Rattle.memory_end.proofs.BeatLemmas.{inside-beat, written-inside, written-outside}

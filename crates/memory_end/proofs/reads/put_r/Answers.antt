@@ -1,4 +1,4 @@
-use Rattle.std.proofs.Common.{◌≡◌, ◌≢◌, ◌∙◌, ◌==◌, ◌<◌, ℕ, Bool, true, Option, Some, sym, ap, arith, eq-eqb, lit<, true≢false}
+use Rattle.std.proofs.Common.{◌≡◌, ◌≢◌, ◌∙◌, ℕ, true, Option, Some, sym, ap, arith, lit<}
 use Rattle.std.specs.Option.{option_map}
 use Rattle.std.proofs.lemmas.Option.{slice_get-map, slice_get_within}
 use Rattle.axi_beats.specs.declared.beat.RBeat.{RBeat}
@@ -11,10 +11,8 @@ use Rattle.memory_end.proofs.reads.put_r.Goals as goal
 
 pub with_beat-requires : goal.with_beat-requires
 with_beat-requires c =
-    let entry : ReadEntry = c.get.result.now in
-    let is : IsReadEntry c.args.config.now c.get.result.now = at-has (IsReadEntry c.args.config.now) c.args.entries.now 0 entry c.get.ensures c.requires.reads in
-    let last : c.next_beat-beat.result.last ≡ (c.get.result.now.put == c.get.result.now.request.len) = ap (λ (b : RBeat). b.last) c.next_beat-beat.ensures in
-    let other : c.get.result.now.put ≢ c.get.result.now.request.len = λ same. true≢false (sym (eq-eqb entry.put entry.request.len same) ∙ sym last ∙ c.if-beat.false) in
+    let is : IsReadEntry c.args.config.now c.get.result.now = at-has (IsReadEntry c.args.config.now) c.args.entries.now 0 c.get.result.now c.get.ensures c.requires.reads in
+    let other : c.get.result.now.put ≢ c.get.result.now.request.len = λ same. c.if-last.false (same ∙ sym c.from.ensures) in
     omega (arith, is.put)
 
 pub set-requires : goal.set-requires
@@ -29,10 +27,9 @@ set-requires c =
       ),
     )
 
-pub returns-then-beat-clause-put : goal.returns-then-beat-clause-put
-returns-then-beat-clause-put c =
+pub returns-then-last-clause-put : goal.returns-then-last-clause-put
+returns-then-last-clause-put c =
     let room : has_room c.args.link.now.depth c.args.link.now.r ≡ true = sym c.room_r.ensures ∙ c.if-not-room_r.false in
-    c.set_put-2.ensures
-    ∙ ap (λ (b : RBeat). put_of c.args.number (Some b)) c.next_beat-beat.ensures
+    ap (λ (b : RBeat). put_of c.args.number (Some b)) c.next_beat.ensures
     ∙ sym (ap (λ (o : Option ReadEntry). put_of c.args.number (passing true (option_map (next_beat c.args.config.now c.args.store.now) o))) c.get.ensures)
     ∙ sym (ap (λ may. put_of c.args.number (passing may (option_map (next_beat c.args.config.now c.args.store.now) (head_of c.args.entries.now)))) room)

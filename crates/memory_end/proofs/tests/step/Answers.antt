@@ -1,4 +1,4 @@
-use Rattle.std.proofs.Common.{◌≡◌, ◌∙◌, ◌+◌, ◌*◌, ◌/◌, ◌^◌, ◌<◌, ◌≤◌, ◌&&◌, ℕ, Bool, true, false, List, [], ◌∷◌, Option, Some, None, sym, ap, subst, arith, refl, IsTrue, leb, ltb}
+use Rattle.std.proofs.Common.{◌≡◌, ◌∙◌, ◌+◌, ◌/◌, ◌^◌, ◌<◌, ◌≤◌, ◌&&◌, ℕ, Bool, true, false, List, [], ◌∷◌, Option, Some, None, sym, ap, subst, arith, refl, IsTrue, leb, ltb}
 use Rattle.std.specs.Prelude.{Contains, IfSome}
 use Rattle.std.proofs.lemmas.Bool.{leb-true, ltb-true}
 use Rattle.axi_beats.specs.declared.beat.Addr.{Addr}
@@ -50,7 +50,7 @@ can bus lines state link among same aw w ar =
     }
 
 pub decide-requires : goal.decide-requires
-decide-requires c =
+decide-requires g c =
     let link : LinkView = c.in_ok-link.link in
     let bus : ℕ = c.args.bus in
     can bus c.args.lines.now c.args.memory.now.state link c.requires.lines c.requires.memory
@@ -59,7 +59,7 @@ decide-requires c =
     (subst (λ (o : Option Addr). IfSome o (IsRequest bus)) (sym c.in_ok-link.ensures.ar) c.check_request-2.ensures)
 
 pub returns : goal.returns
-returns c =
+returns g c =
     let links : List LinkView = c.in_ok-link.link ∷ [] in
     let before : MemoryState = c.args.memory.now.state in
     let first : MemoryState = new_memory (page c.args.bus) 0 c.args.lines.now in

@@ -1,4 +1,4 @@
-use Rattle.std.proofs.Common.{◌≡◌, ◌+◌, ◌<◌, ◌≤◌, ◌∙◌, ℕ, sym, ap, arith}
+use Rattle.std.proofs.Common.{◌≡◌, ◌+◌, ◌∙◌, ℕ, sym, ap, arith}
 use Rattle.std.specs.Prelude.{slice_set}
 use Rattle.memory_end.specs.Store.{byte_at, lanes_between}
 use Rattle.memory_end.proofs.BetweenLemmas.{between-more, between-none}
