@@ -1,19 +1,26 @@
 -- The bytes of one beat lie in one line, and have one status.
-use Rattle.std.proofs.Common.{◌≡◌, ◌≢◌, ℕ, ◌+◌, ◌*◌, ◌/◌, ◌%◌, ◌^◌, ◌<◌, ◌≤◌, ◌==◌, ◌&&◌, ◌||◌, suc, zero, Bool, true, false, cond, List, [], ◌∷◌, map, refl, sym, ◌∙◌, ap, subst, arith, eqb, leb, ltb, inl, inr, IsTrue, replicate, eq-eqb, true≢false}
+use Rattle.std.proofs.Common.{◌≡◌, ◌≢◌, ℕ, ◌+◌, ◌-◌, ◌*◌, ◌/◌, ◌%◌, ◌^◌, ◌<◌, ◌≤◌, ◌==◌, ◌&&◌, ◌||◌, suc, zero, Bool, true, false, cond, List, [], ◌∷◌, map, refl, sym, ◌∙◌, ap, subst, arith, eqb, leb, ltb, inl, inr, IsTrue, replicate, eq-eqb, true≢false, not, Option, Some, None}
 use Rattle.std.specs.Prelude.{filter}
 use Rattle.std.specs.List.{AllByRecursion, range_with_len}
 use Rattle.std.specs.Int.{bit_at}
 use Rattle.std.proofs.lemmas.Bool.{eqb-true, le-leb, lt-leb, lt-ltb, le-ltb, cases_lt}
+use Rattle.std.proofs.lemmas.Nat.{div-add-mod', mod_below}
 use Rattle.std.proofs.lemmas.Nat.Bits.{bit_at-suc, bit_at_lowest, bit_at-zero}
 use Rattle.axi_beats.specs.Word.{IsBusWidth}
 use Rattle.axi_beats.specs.declared.response.Resp.TheVariants.{Okay, DecErr}
 use Rattle.axi_beats.specs.declared.beat.Addr.{Addr}
 use Rattle.axi_beats.specs.declared.beat.WBeat.{WBeat}
+use Rattle.burst_address.proofs.Beats.{beat-count, upper-below}
+use Rattle.burst_address.proofs.Legality.{legal-size}
+use Rattle.burst_address.specs.Formulas.{beats_of, lower_lane, size_of, upper_lane}
+use Rattle.burst_address.specs.Legal.{IsLegal, is_in_page, is_length_of, is_start_of}
+use Rattle.burst_address.specs.declared.rule.BurstRule.{BurstRule}
+use Rattle.burst_address.specs.declared.rule.BurstRule.TheVariants.{Length, Page, Size, WrapAlign}
 use Rattle.memory_end.specs.declared.config.MemoryConfig.{MemoryConfig}
 use Rattle.axi_beats.specs.Response.{worst_of}
 use Rattle.memory_end.specs.MemoryState.{IsMemoryConfig}
-use Rattle.memory_end.specs.Store.{Store, byte_at}
-use Rattle.memory_end.specs.Beats.{strobed_lanes, is_strobed, bytes_on, written_bytes, strobed_status, valid_status, answered_lanes, answered_byte, is_valid}
+use Rattle.memory_end.specs.Store.{Store, byte_at, lanes_between}
+use Rattle.memory_end.specs.Beats.{beat_address, first_lane, lane_count, strobed_lanes, is_strobed, bytes_on, written_bytes, strobed_status, valid_status, answered_lanes, answered_byte, is_valid}
 use Rattle.memory_end.proofs.ListLemmas.{filter-range-below, filter-none, filter-empty, range-below, map-range-agree, map-range-constant}
 use Rattle.memory_end.specs.Status.{is_inside, write_status, is_okay, worst_among}
 
@@ -105,9 +112,50 @@ no_bits (suc k) n lt none =
     let half : n / 2 ≡ 0 = no_bits k (n / 2) (omega arith) (λ i less e. none (suc i) (omega arith) (bit_at-suc n i ∙ e)) in
     omega arith
 
+-- a beat has a valid lane, and its valid lanes are lanes of the bus
+pub lanes-on_bus : (a : Addr) (n bus : ℕ) → IsBusWidth bus → (0 < lane_count a n bus) × (first_lane a n bus + lane_count a n bus ≤ bus)
+lanes-on_bus a n bus is =
+    let lower : lower_lane bus (beat_address a n) < bus = mod_below (beat_address a n) bus (width-bounds bus is).0 in
+    let upper : upper_lane (size_of a) bus (beat_address a n) < bus = upper-below (size_of a) bus (beat_address a n) is in
+    on (lower_lane bus (beat_address a n)) (upper_lane (size_of a) bus (beat_address a n)) lower upper
+  where
+    on : (low high : ℕ) → low < bus → high < bus → (0 < high - low + 1) × (low + (high - low + 1) ≤ bus)
+    on low high lower upper = (omega arith, omega arith)
+
+-- a legal burst's lower lane isn't above its upper one
+pub lanes-ordered : (a : Addr) (n bus : ℕ) → IsBusWidth bus → IsLegal a bus → lower_lane bus (beat_address a n) ≤ upper_lane (size_of a) bus (beat_address a n)
+lanes-ordered a n bus is legal =
+    let facts = beat-count a bus n is legal in
+    omega (arith, facts.0, facts.1)
+
+-- a burst that is legal on a bus is legal on each wider one
+pub legal-wider : (a : Addr) (bus wider : ℕ) → bus ≤ wider → IsLegal a bus → IsLegal a wider
+legal-wider a bus wider le legal =
+    let small : size_of a ≤ bus = legal-size a bus legal in
+    let rest : Option BurstRule =
+    cond (not (is_length_of a.burst (beats_of a))) (Some Length)
+    (cond (not (is_start_of a.burst (size_of a) a.addr)) (Some WrapAlign)
+    (cond (not (is_in_page a.burst (size_of a) (beats_of a) a.addr)) (Some Page) None)) in
+    let here : ltb bus (size_of a) ≡ false = le-ltb bus (size_of a) small in
+    let there : ltb wider (size_of a) ≡ false = le-ltb wider (size_of a) (omega arith) in
+    ap (λ (b : Bool). cond b (Some Size) rest) there ∙ sym (ap (λ (b : Bool). cond b (Some Size) rest) here) ∙ legal
+
 module _ (config : MemoryConfig) (request : Addr) (beat : ℕ) (is : IsMemoryConfig config) where
   abbrev word : ℕ
-  word = request.addr / config.bus * config.bus
+  word = beat_address request beat / config.bus * config.bus
+
+  fits : word % 128 + config.bus ≤ 128
+  fits = word-in_line (beat_address request beat) config.bus is.bus
+
+  -- the beat's address is in the memory where its word is
+  pub inside-beat : is_inside config (beat_address request beat) ≡ is_inside config word
+  inside-beat =
+      let lane : beat_address request beat % config.bus < config.bus = mod_below (beat_address request beat) config.bus (width-bounds config.bus is.bus).0 in
+      let sum : beat_address request beat ≡ word + beat_address request beat % config.bus = sym (div-add-mod' (beat_address request beat) config.bus) in
+      ap (is_inside config) sum ∙ is_inside-lane config word (beat_address request beat % config.bus) is (omega (arith, fits))
+
+  pub status-beat : write_status config (beat_address request beat) ≡ write_status config word
+  status-beat = ap (λ b. cond b Okay DecErr) inside-beat
 
   module _ (w : WBeat) where
     abbrev strobed : List ℕ
@@ -118,15 +166,15 @@ module _ (config : MemoryConfig) (request : Addr) (beat : ℕ) (is : IsMemoryCon
 
     -- inside the memory the strobed bytes are written
     pub written-inside : is_inside config word ≡ true → written_bytes config request beat w ≡ bytes_on word w strobed
-    written-inside inside = ap (bytes_on word w) (filter-inside config word config.bus is (word-in_line request.addr config.bus is.bus) strobed strobed-below inside)
+    written-inside inside = ap (bytes_on word w) (filter-inside config word config.bus is fits strobed strobed-below inside)
 
     -- outside none is
     pub written-outside : is_inside config word ≡ false → written_bytes config request beat w ≡ []
-    written-outside outside = ap (bytes_on word w) (filter-outside config word config.bus is (word-in_line request.addr config.bus is.bus) strobed strobed-below outside)
+    written-outside outside = ap (bytes_on word w) (filter-outside config word config.bus is fits strobed strobed-below outside)
 
     -- the status of strobed bytes
     pub strobed-inside : is_inside config word ≡ true → strobed_status config request beat w ≡ Okay
-    strobed-inside inside = worst-inside config word config.bus is (word-in_line request.addr config.bus is.bus) strobed strobed-below inside
+    strobed-inside inside = worst-inside config word config.bus is fits strobed strobed-below inside
 
     pub strobed-none : w.strobe ≡ 0 → strobed_status config request beat w ≡ Okay
     strobed-none none =
@@ -140,7 +188,7 @@ module _ (config : MemoryConfig) (request : Addr) (beat : ℕ) (is : IsMemoryCon
           | [] ↦ λ e below. absurd (some (no_bits config.bus w.strobe lt (λ i less one.
               let fails : is_strobed w i ≡ false = filter-empty (is_strobed w) 0 config.bus e i (omega arith) (omega arith) in
               true≢false (sym (eq-eqb (bit_at w.strobe i) 1 one) ∙ fails))))
-          | k ∷ ks ↦ λ e below. worst-outside config word config.bus is (word-in_line request.addr config.bus is.bus) k ks below.0 outside
+          | k ∷ ks ↦ λ e below. worst-outside config word config.bus is fits k ks below.0 outside
         ]
         in go strobed refl strobed-below
 
@@ -151,64 +199,81 @@ module _ (config : MemoryConfig) (request : Addr) (beat : ℕ) (is : IsMemoryCon
         elim [ true ↦ strobed-inside | false ↦ strobed-outside some lt ]
         in go (is_inside config word) refl
 
+  -- the status of strobed bytes is that of the beat's address
+  pub strobed-beat : (w : WBeat) → w.strobe ≢ 0 → w.strobe < 2 ^ config.bus → strobed_status config request beat w ≡ write_status config (beat_address request beat)
+  strobed-beat w some lt = strobed-word w some lt ∙ sym status-beat
+
+  abbrev low : ℕ
+  low = first_lane request beat config.bus
+
+  abbrev count : ℕ
+  count = lane_count request beat config.bus
+
+  below : low + count ≤ config.bus
+  below = (lanes-on_bus request beat config.bus is.bus).1
+
   -- the status of valid bytes
   pub valid-inside : is_inside config word ≡ true → valid_status config request beat ≡ Okay
-  valid-inside inside =
-      worst-inside config word config.bus is (word-in_line request.addr config.bus is.bus) (range_with_len 0 config.bus) (range-below 0 config.bus config.bus (omega arith)) inside
+  valid-inside inside = worst-inside config word config.bus is fits (range_with_len low count) (range-below low count config.bus below) inside
 
   pub valid-outside : is_inside config word ≡ false → valid_status config request beat ≡ DecErr
   valid-outside outside =
-      let some : 0 < config.bus = (width-bounds config.bus is.bus).0 in
-      let go : (bus : ℕ) → 0 < bus → bus ≤ config.bus → worst_among (map (λ k. write_status config (word + k)) (range_with_len 0 bus)) ≡ DecErr =
+      let go : (n : ℕ) → 0 < n → low + n ≤ config.bus → worst_among (map (λ k. write_status config (word + k)) (range_with_len low n)) ≡ DecErr =
       elim [
         | zero ↦ λ lt le. absurd (omega arith)
-        | suc n ↦ λ lt le. worst-outside config word config.bus is (word-in_line request.addr config.bus is.bus) 0 (range_with_len (0 + 1) n) some outside
+        | suc n ↦ λ lt le. worst-outside config word config.bus is fits low (range_with_len (low + 1) n) (omega arith) outside
       ]
-      in go config.bus some (omega arith)
+      in go count (lanes-on_bus request beat config.bus is.bus).0 below
 
-  pub valid-word : valid_status config request beat ≡ write_status config word
-  valid-word =
+  pub valid-beat : valid_status config request beat ≡ write_status config (beat_address request beat)
+  valid-beat =
       let go : (b : Bool) → is_inside config word ≡ b → valid_status config request beat ≡ cond b Okay DecErr =
       elim [ true ↦ valid-inside | false ↦ valid-outside ]
-      in go (is_inside config word) refl
+      in go (is_inside config word) refl ∙ sym status-beat
 
   module _ (store : Store) where
-    valid-below : (k : ℕ) → k < config.bus → is_valid request beat config.bus k ≡ true
-    valid-below k lt =
-        let end : k < 0 + config.bus = omega arith in
-        let least : 0 ≤ k = omega arith in
-        ap (λ b. b && ltb k (0 + config.bus)) (le-leb 0 k least) ∙ lt-ltb k (0 + config.bus) end
+    -- what is answered on a lane, by whether it is valid
+    abbrev answer : Bool → ℕ → ℕ
+    answer valid k = cond valid (answered_byte config store (word + k)) 0
 
-    valid-above : (k : ℕ) → config.bus ≤ k → is_valid request beat config.bus k ≡ false
-    valid-above k le =
-        let end : 0 + config.bus ≤ k = omega arith in
-        let least : 0 ≤ k = omega arith in
-        ap (λ b. b && ltb k (0 + config.bus)) (le-leb 0 k least) ∙ le-ltb k (0 + config.bus) end
-
-    pub answered-inside : is_inside config word ≡ true → answered_lanes config store request beat ≡ map (λ k. cond (ltb k config.bus) (byte_at store (word + k)) 0) (range_with_len 0 128)
+    pub answered-inside : is_inside config word ≡ true → answered_lanes config store request beat ≡ lanes_between store word low (low + count)
     answered-inside inside =
-        map-range-agree (λ k. cond (is_valid request beat config.bus k) (answered_byte config store (word + k)) 0) (λ k. cond (ltb k config.bus) (byte_at store (word + k)) 0) 0 128
+        map-range-agree (λ k. answer (is_valid request beat config.bus k) k) (λ k. cond (leb low k && ltb k (low + count)) (byte_at store (word + k)) 0) 0 128
         (λ k le lt. elim (cases_lt k config.bus) [
           | inl less ↦
               let okay : is_okay (write_status config (word + k)) ≡ true =
-              ap is_okay (status-lane config word config.bus is (word-in_line request.addr config.bus is.bus) k less ∙ ap (λ b. cond b Okay DecErr) inside) in
-              ap (λ b. cond b (answered_byte config store (word + k)) 0) (valid-below k less)
-              ∙ ap (λ b. cond b (byte_at store (word + k)) 0) okay
-              ∙ sym (ap (λ b. cond b (byte_at store (word + k)) 0) (lt-ltb k config.bus less))
+              ap is_okay (status-lane config word config.bus is fits k less ∙ ap (λ b. cond b Okay DecErr) inside) in
+              ap (λ b. cond (leb low k && ltb k (low + count)) (cond b (byte_at store (word + k)) 0) 0) okay
           | inr more ↦
-              ap (λ b. cond b (answered_byte config store (word + k)) 0) (valid-above k more)
-              ∙ sym (ap (λ b. cond b (byte_at store (word + k)) 0) (le-ltb k config.bus more))
+              let past : ltb k (low + count) ≡ false = le-ltb k (low + count) (omega (arith, below)) in
+              ap (λ b. cond (leb low k && b) (answered_byte config store (word + k)) 0) past
+              ∙ none (leb low k) (answered_byte config store (word + k)) (byte_at store (word + k))
+              ∙ sym (ap (λ b. cond (leb low k && b) (byte_at store (word + k)) 0) past)
         ])
+      where
+        none : (b : Bool) (x y : ℕ) → cond (b && false) x 0 ≡ cond (b && false) y 0
+        none true x y = refl
+        none false x y = refl
 
     pub answered-outside : is_inside config word ≡ false → answered_lanes config store request beat ≡ replicate 128 0
     answered-outside outside =
-        map-range-agree (λ k. cond (is_valid request beat config.bus k) (answered_byte config store (word + k)) 0) (λ k. 0) 0 128
+        map-range-agree (λ k. answer (is_valid request beat config.bus k) k) (λ k. 0) 0 128
         (λ k le lt. elim (cases_lt k config.bus) [
           | inl less ↦
               let bad : is_okay (write_status config (word + k)) ≡ false =
-              ap is_okay (status-lane config word config.bus is (word-in_line request.addr config.bus is.bus) k less ∙ ap (λ b. cond b Okay DecErr) outside) in
-              ap (λ b. cond b (answered_byte config store (word + k)) 0) (valid-below k less)
-              ∙ ap (λ b. cond b (byte_at store (word + k)) 0) bad
-          | inr more ↦ ap (λ b. cond b (answered_byte config store (word + k)) 0) (valid-above k more)
+              ap is_okay (status-lane config word config.bus is fits k less ∙ ap (λ b. cond b Okay DecErr) outside) in
+              ap (λ b. cond (leb low k && ltb k (low + count)) (cond b (byte_at store (word + k)) 0) 0) bad
+              ∙ zeros (leb low k && ltb k (low + count))
+          | inr more ↦
+              let past : ltb k (low + count) ≡ false = le-ltb k (low + count) (omega (arith, below)) in
+              ap (λ b. cond (leb low k && b) (answered_byte config store (word + k)) 0) past ∙ none (leb low k) (answered_byte config store (word + k))
         ])
         ∙ map-range-constant 0 128 0
+      where
+        zeros : (b : Bool) → (let n : ℕ = cond b 0 0 in n ≡ 0)
+        zeros true = refl
+        zeros false = refl
+
+        none : (b : Bool) (x : ℕ) → cond (b && false) x 0 ≡ 0
+        none true x = refl
+        none false x = refl

@@ -1,6 +1,8 @@
 pub mod AccessFacts
 pub mod Accessed
 pub mod BeatLemmas
+pub mod BetweenLemmas
+pub mod BurstFacts
 pub mod ChainFacts
 pub mod EntryLemmas
 pub mod FillFacts
@@ -22,6 +24,7 @@ pub mod TrailAnswers
 pub mod TrailAsked
 pub mod TrailLists
 pub mod TrailSteps
+pub mod WholeWords
 pub mod WriteAccess
 pub mod WriteSteps
 pub mod WriteTracks

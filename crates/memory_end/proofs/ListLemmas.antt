@@ -1,6 +1,6 @@
 -- Facts on ranges, on folds over a part of them, and on padded lists.
-use Rattle.std.proofs.Common.{◌≡◌, ℕ, ◌+◌, ◌<◌, ◌≤◌, suc, zero, Bool, true, false, cond, List, [], ◌∷◌, ◌++◌, length, map, replicate, refl, sym, ◌∙◌, ap, arith, add-one, inl, inr}
-use Rattle.std.specs.Prelude.{filter, fold, slice_set, nat_lt}
+use Rattle.std.proofs.Common.{◌≡◌, ◌≢◌, ℕ, ◌+◌, ◌<◌, ◌≤◌, suc, zero, Bool, true, false, cond, List, [], ◌∷◌, ◌++◌, length, map, replicate, refl, sym, ◌∙◌, ap, arith, add-one, inl, inr, Some, subst}
+use Rattle.std.specs.Prelude.{All, filter, fold, nat_lt, slice_get, slice_set}
 use Rattle.std.specs.List.{range_with_len, AllByRecursion}
 use Rattle.std.proofs.lemmas.Bool.{lt-ltb, le-ltb, cases_eq}
 use Rattle.std.proofs.lemmas.List.{map-append}
@@ -113,3 +113,21 @@ filter-empty p a (suc n) e k le lt =
 pub range-below : (a n end : ℕ) → a + n ≤ end → AllByRecursion (λ k. k < end) (range_with_len a n)
 range-below a zero end le = tt
 range-below a (suc n) end le = (omega arith, range-below (a + 1) n end (omega arith))
+
+-- one value of a function over a range is set
+pub map-range-set : (f g : ℕ → ℕ) (a n i b : ℕ) → i < n → g (a + i) ≡ b → ((k : ℕ) → a ≤ k → k < a + n → k ≢ a + i → f k ≡ g k) → slice_set (map f (range_with_len a n)) i b ≡ map g (range_with_len a n)
+map-range-set f g a zero i b lt at agree = absurd (omega arith)
+map-range-set f g a (suc n) zero b lt at agree =
+    let here : a + 0 ≡ a = omega arith in
+    ap (λ y. y ∷ map f (range_with_len (a + 1) n)) (sym at ∙ ap g here)
+    ∙ ap (λ t. g a ∷ t) (map-range-agree f g (a + 1) n (λ k le less. agree k (omega arith) (omega arith) (λ e. absurd (omega arith))))
+map-range-set f g a (suc n) (suc i) b lt at agree =
+    let shift : a + suc i ≡ a + 1 + i = omega arith in
+    ap (λ y. y ∷ slice_set (map f (range_with_len (a + 1) n)) i b) (agree a (omega arith) (omega arith) (λ e. absurd (omega arith)))
+    ∙ ap (λ t. g a ∷ t) (map-range-set f g (a + 1) n i b (omega arith) (ap g (sym shift) ∙ at) (λ k le less other. agree k (omega arith) (omega arith) (λ e. other (e ∙ shift))))
+
+-- what holds of all holds at a place
+pub at-has : {X : Type 0} (P : X → Type 0) (xs : List X) (i : ℕ) (x : X) → slice_get xs i ≡ Some x → All P xs → P x
+at-has P [] i x e all = absurd (cc)
+at-has P (y ∷ ys) zero x e all = subst P (let same : y ≡ x = cc in same) (all 0 y (omega arith))
+at-has P (y ∷ ys) (suc i) x e all = at-has P ys i x e (λ k d lt. all (suc k) d (omega arith))

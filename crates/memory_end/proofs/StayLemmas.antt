@@ -8,7 +8,6 @@ use Rattle.axi_beats.specs.declared.beat.Addr.{Addr}
 use Rattle.axi_beats.specs.declared.beat.BBeat.{BBeat}
 use Rattle.axi_beats.specs.declared.beat.WBeat.{WBeat}
 use Rattle.axi_beats.specs.declared.response.Resp.TheVariants.{Okay}
-use Rattle.axi_beats.specs.Word.{IsWholeWord}
 use Rattle.axi_link.specs.LinkView.{LinkView}
 use Rattle.axi_link.specs.Table.{head_of, has_room, passing}
 use Rattle.memory_end.specs.declared.config.MemoryConfig.{MemoryConfig}
@@ -16,7 +15,7 @@ use Rattle.memory_end.specs.declared.entry.WriteEntry.{WriteEntry}
 use Rattle.memory_end.specs.declared.entry.ReadEntry.{ReadEntry}
 use Rattle.memory_end.specs.Beats.{Byte, all_written, beats_of, written_bytes}
 use Rattle.memory_end.specs.Laws.{KeepsArguments, NewIsMemory, StaysMemory}
-use Rattle.memory_end.specs.MemoryState.{IsWriteEntry, IsReadEntry, AreLinesAmong}
+use Rattle.memory_end.specs.MemoryState.{AreLinesAmong, IsReadEntry, IsRequest, IsWriteEntry}
 use Rattle.memory_end.specs.MemoryTable.{after_aw, after_ar, after_b, after_r, after_w, fits, lacks_data, memory_link, memory_aw, memory_ar, memory_b, memory_r, memory_w, next_beat, oldest_lacking, put_read, store_after, store_with, with_beat, with_data}
 use Rattle.memory_end.specs.Store.{Store, IsStore, byte_place, written, written_at}
 
@@ -63,14 +62,14 @@ store-stays before after same is = record {
 }
 
 module _ (config : MemoryConfig) (lines : List ℕ) where
-  after_b-stays : (o : Option BBeat) (entries : List WriteEntry) → All (IsWriteEntry config lines) entries → All (IsWriteEntry config lines) (after_b o entries)
+  pub after_b-stays : (o : Option BBeat) (entries : List WriteEntry) → All (IsWriteEntry config lines) entries → All (IsWriteEntry config lines) (after_b o entries)
   after_b-stays None entries all = all
   after_b-stays (Some beat) entries all = All-drop (IsWriteEntry config lines) 1 entries all
 
   with_beat-stays : (w : WBeat) (entry : WriteEntry) → lacks_data entry ≡ true → IsWriteEntry config lines entry → IsWriteEntry config lines (with_beat config w entry)
   with_beat-stays w entry lacks is =
       let more : entry.taken < beats_of entry.request = ltb-true entry.taken (beats_of entry.request) lacks in
-      record { word = is.word; lines_kept = is.lines_kept; taken = omega arith }
+      record { request = is.request; lines_kept = is.lines_kept; taken = omega arith }
 
   with_data-stays : (w : WBeat) (entries : List WriteEntry) → All (IsWriteEntry config lines) entries → All (IsWriteEntry config lines) (with_data config w entries)
   with_data-stays w [] all = all
@@ -89,12 +88,12 @@ module _ (config : MemoryConfig) (lines : List ℕ) where
   after_w-stays None entries all = all
   after_w-stays (Some w) entries all = with_data-stays w entries all
 
-  after_aw-stays : (o : Option Addr) (entries : List WriteEntry) → IfSome o (IsWholeWord config.bus) → IfSome o (AreLinesAmong config lines) → All (IsWriteEntry config lines) entries → All (IsWriteEntry config lines) (after_aw o entries)
+  after_aw-stays : (o : Option Addr) (entries : List WriteEntry) → IfSome o (IsRequest config.bus) → IfSome o (AreLinesAmong config lines) → All (IsWriteEntry config lines) entries → All (IsWriteEntry config lines) (after_aw o entries)
   after_aw-stays None entries word kept all = all
   after_aw-stays (Some request) entries word kept all =
       let P : WriteEntry → Type 0 = IsWriteEntry config lines in
       let new : WriteEntry = record { request = request; taken = 0; worst = Okay } in
-      All-append P entries (new ∷ []) all (all-cons P new [] record { word = word; lines_kept = kept; taken = omega arith } (All-nil P))
+      All-append P entries (new ∷ []) all (all-cons P new [] record { request = word; lines_kept = kept; taken = omega arith } (All-nil P))
 
 -- what holds of a head holds of what is taken of it
 taken-is : (P : Addr → Type 0) (may : Bool) (o : Option Addr) → IfSome o P → IfSome (passing may o) P
@@ -115,28 +114,28 @@ module _ (config : MemoryConfig) where
         | true ↦ λ is. tail
         | false ↦ λ is.
             let other : e.put ≢ e.request.len = λ same. true≢false (sym (eq-eqb e.put e.request.len same) ∙ is) in
-            all-cons P record { request = e.request; put = e.put + 1 } es record { word = head.word; put = omega (arith, head.put) } tail
+            all-cons P record { request = e.request; put = e.put + 1 } es record { request = head.request; put = omega (arith, head.put) } tail
       ] in
       let go : (room : Bool) → All P (after_r (passing room (Some (next_beat config store e))) (e ∷ es)) =
       elim [ true ↦ step (e.put == e.request.len) refl | false ↦ all ]
       in go (has_room link.depth link.r)
 
-  after_ar-stays : (o : Option Addr) (entries : List ReadEntry) → IfSome o (IsWholeWord config.bus) → All (IsReadEntry config) entries → All (IsReadEntry config) (after_ar o entries)
+  after_ar-stays : (o : Option Addr) (entries : List ReadEntry) → IfSome o (IsRequest config.bus) → All (IsReadEntry config) entries → All (IsReadEntry config) (after_ar o entries)
   after_ar-stays None entries word all = all
   after_ar-stays (Some request) entries word all =
       let P : ReadEntry → Type 0 = IsReadEntry config in
       let new : ReadEntry = record { request = request; put = 0 } in
-      All-append P entries (new ∷ []) all (all-cons P new [] record { word = word; put = omega arith } (All-nil P))
+      All-append P entries (new ∷ []) all (all-cons P new [] record { request = word; put = omega arith } (All-nil P))
 
 pub memory-stays : StaysMemory
 memory-stays round links state is can =
     let link : LinkView = memory_link links state in
     let keeps : Keeps state.store (store_after state.config (memory_w links state) state.write_entries state.store) =
     store_after-keeps state.config (memory_w links state) state.write_entries state.store in
-    let words : IfSome (memory_aw links state) (IsWholeWord state.config.bus) = taken-is (IsWholeWord state.config.bus) (fits state.write_entries) (head_of link.aw) can.aw in
+    let words : IfSome (memory_aw links state) (IsRequest state.config.bus) = taken-is (IsRequest state.config.bus) (fits state.write_entries) (head_of link.aw) can.aw in
     let kept : IfSome (memory_aw links state) (AreLinesAmong state.config state.store.lines) =
     taken-is (AreLinesAmong state.config state.store.lines) (fits state.write_entries) (head_of link.aw) can.aw_lines in
-    let reads : IfSome (memory_ar links state) (IsWholeWord state.config.bus) = taken-is (IsWholeWord state.config.bus) (fits state.read_entries) (head_of link.ar) can.ar in
+    let reads : IfSome (memory_ar links state) (IsRequest state.config.bus) = taken-is (IsRequest state.config.bus) (fits state.read_entries) (head_of link.ar) can.ar in
     let answered : List WriteEntry = after_b (memory_b links state) state.write_entries in
     let filled : List WriteEntry = after_w state.config (memory_w links state) answered in
     let writes : All (IsWriteEntry state.config state.store.lines) (after_aw (memory_aw links state) filled) =

@@ -1,5 +1,6 @@
 pub mod Accesses
 pub mod Beats
+pub mod BurstBytes
 pub mod Events
 pub mod Laws
 pub mod MemoryInside

@@ -1,7 +1,8 @@
 -- A memory as contracts see it between rounds.
-use Rattle.std.specs.Prelude.{◌≡◌, ◌≤◌, ◌%◌, ◌+◌, ◌^◌, ℕ, List, [], Option, Some, None, IsTrue, All, Contains, if◌then◌else◌}
+use Rattle.std.specs.Prelude.{◌≡◌, ◌<◌, ◌≤◌, ◌%◌, ◌+◌, ◌^◌, ℕ, List, [], Option, Some, None, IsTrue, All, Contains, if◌then◌else◌}
 use Rattle.axi_beats.specs.declared.beat.Addr.{Addr}
-use Rattle.axi_beats.specs.Word.{IsBusWidth, IsWholeWord}
+use Rattle.axi_beats.specs.Word.{IsBusWidth}
+use Rattle.burst_address.specs.Legal.{IsLegal}
 use Rattle.memory_end.specs.declared.config.MemoryConfig.{MemoryConfig}
 use Rattle.memory_end.specs.declared.entry.WriteEntry.{WriteEntry}
 use Rattle.memory_end.specs.declared.entry.ReadEntry.{ReadEntry}
@@ -38,21 +39,26 @@ pub record IsMemoryConfig (config : MemoryConfig) : Type 0 where
   pub size : config.size % 4096 ≡ 0
   pub end : config.base + config.size ≤ 2 ^ 63
 
+-- a request that a memory on this bus can do: for a legal burst below 2 ^ 63
+pub record IsRequest (bus : ℕ) (request : Addr) : Type 0 where
+  pub legal : IsLegal request bus
+  pub small : request.addr < 2 ^ 63
+
 -- each line of a request's beats that lies in the memory is one of these lines
 abbrev pub AreLinesAmong : MemoryConfig → List ℕ → Addr → Type 0
 AreLinesAmong config lines request =
     (beat : ℕ) → beat ≤ request.len → IsTrue (is_inside config (word_address request beat config.bus)) →
     Contains lines (line_of (word_address request beat config.bus))
 
--- a write that the memory can do: words of its bus, on lines that it keeps
+-- a write that the memory can do, on lines that it keeps
 pub record IsWriteEntry (config : MemoryConfig) (lines : List ℕ) (entry : WriteEntry) : Type 0 where
-  pub word : IsWholeWord config.bus entry.request
+  pub request : IsRequest config.bus entry.request
   pub lines_kept : AreLinesAmong config lines entry.request
   pub taken : entry.taken ≤ beats_of entry.request
 
 -- a read that the memory can do, with at least one beat to put
 pub record IsReadEntry (config : MemoryConfig) (entry : ReadEntry) : Type 0 where
-  pub word : IsWholeWord config.bus entry.request
+  pub request : IsRequest config.bus entry.request
   pub put : entry.put ≤ entry.request.len
 
 pub record IsMemory (state : MemoryState) : Type 0 where

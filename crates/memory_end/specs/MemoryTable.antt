@@ -7,7 +7,6 @@ use Rattle.axi_beats.specs.declared.beat.BBeat.{BBeat}
 use Rattle.axi_beats.specs.declared.beat.RBeat.{RBeat}
 use Rattle.axi_beats.specs.declared.response.Resp.TheVariants.{Okay}
 use Rattle.axi_beats.specs.Response.{worst_of}
-use Rattle.axi_beats.specs.Word.{IsWholeWord}
 use Rattle.axi_link.specs.LinkView.{LinkView}
 use Rattle.axi_link.specs.Acted.{Acted}
 use Rattle.axi_link.specs.Table.{link_of, head_of, has_room, passing, take_of, put_of}
@@ -16,7 +15,7 @@ use Rattle.memory_end.specs.declared.config.MemoryConfig.{MemoryConfig}
 use Rattle.memory_end.specs.declared.entry.WriteEntry.{WriteEntry}
 use Rattle.memory_end.specs.declared.entry.ReadEntry.{ReadEntry}
 use Rattle.memory_end.specs.Beats.{beats_of, strobed_status, written_bytes, all_written, valid_status, answered_lanes}
-use Rattle.memory_end.specs.MemoryState.{MemoryState, AreLinesAmong}
+use Rattle.memory_end.specs.MemoryState.{MemoryState, AreLinesAmong, IsRequest}
 use Rattle.memory_end.specs.Store.{Store}
 
 -- the memory's link
@@ -167,12 +166,12 @@ memory_out links state = record {
 abbrev pub memory_table : List LinkView → MemoryState → Acted MemoryState
 memory_table links state = record { state = memory_next links state; out = memory_out links state }
 
--- what may come to a memory in a round, of which there is a first one: requests for words of its bus, writes on lines
--- that it keeps, and strobes on lanes of its bus
+-- what may come to a memory in a round, of which there is a first one: requests for legal bursts, writes on lines that
+-- it keeps, and strobes on lanes of its bus
 pub record CanMemory (round : ℕ) (links : List LinkView) (state : MemoryState) : Type 0 where
   pub started : 0 < round
   pub upper : state.upper < length links
-  pub aw : IfSome (head_of (memory_link links state).aw) (IsWholeWord state.config.bus)
+  pub aw : IfSome (head_of (memory_link links state).aw) (IsRequest state.config.bus)
   pub aw_lines : IfSome (head_of (memory_link links state).aw) (AreLinesAmong state.config state.store.lines)
-  pub ar : IfSome (head_of (memory_link links state).ar) (IsWholeWord state.config.bus)
+  pub ar : IfSome (head_of (memory_link links state).ar) (IsRequest state.config.bus)
   pub strobe : IfSome (head_of (memory_link links state).w) (λ w. w.strobe < 2 ^ state.config.bus)

@@ -1,5 +1,6 @@
 -- The bytes of a memory. Lines of 128 bytes that a run may write are kept; every other byte has one fill value.
-use Rattle.std.specs.Prelude.{◌≡◌, ◌≢◌, ◌<◌, ◌+◌, ◌*◌, ◌/◌, ◌%◌, ℕ, List, Option, Some, None, length, replicate, slice_get, slice_set, unwrap_or, option_map, option_and_then, AllPairs, Contains}
+use Rattle.std.specs.Prelude.{◌≡◌, ◌≢◌, ◌<◌, ◌+◌, ◌*◌, ◌/◌, ◌%◌, ◌&&◌, ℕ, List, Option, Some, None, length, map, nat_le, nat_lt, replicate, slice_get, slice_set, unwrap_or, option_map, option_and_then, AllPairs, Contains, if◌then◌else◌}
+use Rattle.std.specs.List.{range_with_len}
 use Rattle.flight.specs.Entries.{place_of}
 
 -- the numbers of the kept lines, ascending; their bytes, 128 for each line in this order; the value of all others
@@ -27,6 +28,11 @@ byte_place store address = option_map (λ place. 128 * place + address % 128) (p
 -- the byte of an address
 abbrev pub byte_at : Store → ℕ → ℕ
 byte_at store address = unwrap_or (option_and_then (slice_get store.bytes) (byte_place store address)) store.fill
+
+-- 128 lanes: those from a low one on, before an end, have the bytes of the word at an address, and all others 0
+abbrev pub lanes_between : Store → ℕ → ℕ → ℕ → List ℕ
+lanes_between store word low end =
+    map (λ lane. if nat_le low lane && nat_lt lane end then byte_at store (word + lane) else 0) (range_with_len 0 128)
 
 -- the store with a byte written at a place
 abbrev pub written_at : Store → Option ℕ → ℕ → Store

@@ -1,9 +1,9 @@
 //! The bytes of single beats: what a W beat writes and what an R beat answers.
 
 ghost use Rattle.std.specs.Prelude.{◌≡◌, ◌*◌, ◌/◌, ◌<◌, ◌≤◌, ◌^◌};
-ghost use Rattle.axi_beats.specs.Word.{IsBusWidth, IsWholeWord};
-ghost use Rattle.memory_end.specs.Beats.{all_written, answered_lanes, strobed_status, valid_status, written_bytes};
-ghost use Rattle.memory_end.specs.MemoryState.{IsMemoryConfig};
+ghost use Rattle.axi_beats.specs.Word.{IsBusWidth};
+ghost use Rattle.memory_end.specs.Beats.{all_written, answered_lanes, beat_address, strobed_status, written_bytes};
+ghost use Rattle.memory_end.specs.MemoryState.{IsMemoryConfig, IsReadEntry, IsRequest};
 ghost use Rattle.memory_end.specs.Status.{is_inside, write_status};
 
 use crate::config::MemoryConfig;
@@ -19,67 +19,77 @@ pub fn is_inside(config: &MemoryConfig, address: u64) -> bool
     config.base <= address && address < config.base + config.size
 }
 
-/// The address of the byte on lane 0 of a request's beats.
-fn word_address(request: &Addr, bus: u8) -> u64
-    requires { 0 < bus }
-    ensures { result ≡ request.now.addr / bus * bus }
+/// The address of a beat of a request, counted from 0.
+pub fn beat_address(config: &MemoryConfig, request: &Addr, beat: u16) -> u64
+    requires config { IsMemoryConfig config.now }
+    requires request { IsRequest config.now.bus request.now }
+    requires beat { beat ≤ request.now.len }
+    ensures address { result ≡ beat_address request.now beat }
+    ensures limit { result < 2 ^ 63 }
 {
-    request.addr / u64::from(bus) * u64::from(bus)
+    burst_address::beat_address(request, u32::from(beat))
 }
 
-/// The status that all bytes of a request's word have, since they lie in one line.
-fn word_status(config: &MemoryConfig, request: &Addr) -> Resp
+/// The status of the byte at an address. All bytes of a beat have that of its address, since they
+/// lie in one line.
+pub fn status(config: &MemoryConfig, address: u64) -> Resp
     requires { IsMemoryConfig config.now }
-    ensures { result ≡ write_status config.now (request.now.addr / config.now.bus * config.now.bus) }
+    ensures { result ≡ write_status config.now address }
 {
-    if is_inside(config, word_address(request, config.bus)) {
+    if is_inside(config, address) {
         Resp::Okay
     } else {
         Resp::DecErr
     }
 }
 
-/// Writes the strobed OKAY bytes of the next beat of a write.
-pub fn write_beat(store: &mut ByteStore, config: &MemoryConfig, entry: &WriteEntry, beat: &WBeat)
+/// Writes the strobed OKAY bytes of the next beat of a write, which is at this address.
+pub fn write_beat(
+    store: &mut ByteStore,
+    config: &MemoryConfig,
+    entry: &WriteEntry,
+    address: u64,
+    beat: &WBeat,
+)
     requires config { IsMemoryConfig config.now }
+    requires address { address ≡ beat_address entry.now.request entry.now.taken }
     ensures { store.new ≡ all_written store.old (written_bytes config.now entry.now.request entry.now.taken beat.now) }
 {
-    let word = word_address(&entry.request, config.bus);
-    if is_inside(config, word) {
-        store.write_word(word, config.bus, beat);
+    if is_inside(config, address) {
+        let bus = u64::from(config.bus);
+        store.write_word(address / bus * bus, config.bus, beat);
     }
 }
 
-/// The worst status of the strobed bytes of the next beat of a write.
-pub fn strobed_status(config: &MemoryConfig, entry: &WriteEntry, beat: &WBeat) -> Resp
+/// The worst status of the strobed bytes of the next beat of a write, which is at this address.
+pub fn strobed_status(config: &MemoryConfig, entry: &WriteEntry, address: u64, beat: &WBeat) -> Resp
     requires config { IsMemoryConfig config.now }
+    requires address { address ≡ beat_address entry.now.request entry.now.taken }
     requires strobe { beat.now.strobe < 2 ^ config.now.bus }
     ensures { result ≡ strobed_status config.now entry.now.request entry.now.taken beat.now }
 {
     if beat.strobe == 0 {
         return Resp::Okay;
     }
-    word_status(config, &entry.request)
+    status(config, address)
 }
 
-/// The lanes of the next beat of a read.
-pub fn read_lanes(store: &ByteStore, config: &MemoryConfig, entry: &ReadEntry) -> Lanes
+/// The lanes of the next beat of a read, which is at this address.
+pub fn read_lanes(
+    store: &ByteStore,
+    config: &MemoryConfig,
+    entry: &ReadEntry,
+    address: u64,
+) -> Lanes
     requires config { IsMemoryConfig config.now }
-    requires word { IsWholeWord config.now.bus entry.now.request }
+    requires entry { IsReadEntry config.now entry.now }
+    requires address { address ≡ beat_address entry.now.request entry.now.put }
+    requires limit { address < 2 ^ 63 }
     ensures { result ≡ answered_lanes config.now store.now entry.now.request entry.now.put }
 {
-    let word = word_address(&entry.request, config.bus);
-    if is_inside(config, word) {
-        store.read_word(word, config.bus)
-    } else {
-        Lanes::zero()
+    if !is_inside(config, address) {
+        return Lanes::zero();
     }
-}
-
-/// The worst status of the bytes of the next beat of a read.
-pub fn valid_status(config: &MemoryConfig, entry: &ReadEntry) -> Resp
-    requires config { IsMemoryConfig config.now }
-    ensures { result ≡ valid_status config.now entry.now.request entry.now.put }
-{
-    word_status(config, &entry.request)
+    let (low, high) = burst_address::lanes(&entry.request, u32::from(entry.put), config.bus);
+    store.read_lanes(address - u64::from(low), low, high)
 }

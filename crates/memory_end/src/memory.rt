@@ -90,8 +90,8 @@ impl Memory {
 
     /// Decides what the memory takes and puts in a round, from its state and the links as they stand
     /// at the round's start, and goes on to its next state. Rounds count from 1. Its link is among
-    /// the links and offers requests for words of its bus alone, writes on lines that it keeps or
-    /// outside it, and strobes on lanes of its bus.
+    /// the links and offers requests for legal bursts below 2^63 alone, writes on lines that it
+    /// keeps or outside it, and strobes on lanes of its bus.
     pub fn decide(&mut self, round: u64, links: &[Link])
         requires { CanMemory round links.now self.old.state }
         ensures { self.new ≡ memory_table links.now self.old.state }

@@ -1,5 +1,6 @@
 //! What holds of a memory's definitions.
 
+ghost use Rattle.memory_end.specs.BurstBytes.{BeatsAreInLines, LanesAreBytes, LinesAreOfBurst, ReadsBurstBytes, StatusOfBurstBytes, WritesBurstBytes};
 ghost use Rattle.memory_end.specs.Laws.{KeepsArguments, MovesAlwaysFit, NewIsMemory, StaysMemory};
 ghost use Rattle.memory_end.specs.Store.{ReadsOthers, ReadsWritten};
 
@@ -14,4 +15,12 @@ pub fn laws()
     ensures opens { NewIsMemory }
     ensures stays { StaysMemory }
     ensures keeps { KeepsArguments }
+
+    // Its beats are those of legal bursts: their lines, and the bytes that they read and write.
+    ensures bytes { LanesAreBytes }
+    ensures lines { BeatsAreInLines }
+    ensures burst_lines { LinesAreOfBurst }
+    ensures reads { ReadsBurstBytes }
+    ensures status { StatusOfBurstBytes }
+    ensures writes { WritesBurstBytes }
 {}

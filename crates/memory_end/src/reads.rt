@@ -1,11 +1,11 @@
 //! The read channels of a memory in one round: AR and R.
 
-ghost use Rattle.std.specs.Prelude.{◌≡◌, ◌<◌, All, IsTrue, is_some, length, option_copied};
+ghost use Rattle.std.specs.Prelude.{◌≡◌, ◌<◌, ◌+◌, All, IsTrue, is_some, length, option_copied};
 ghost use Rattle.axi_link.specs.Table.{passing, put_of, take_of};
 ghost use Rattle.memory_end.specs.MemoryState.{IsMemoryConfig, IsReadEntry};
 ghost use Rattle.memory_end.specs.MemoryTable.{after_ar, after_r, next_beat, put_read};
 
-use crate::beats::{read_lanes, valid_status};
+use crate::beats::{beat_address, read_lanes, status};
 use crate::config::MemoryConfig;
 use crate::entry::ReadEntry;
 use crate::store::ByteStore;
@@ -32,18 +32,23 @@ pub fn put_r(
         return;
     }
     let entry = *entries.get(0);
-    let beat = next_beat(config, &entry, store);
-    set_put(put, number, Some(&beat));
-    if beat.last {
+    let last = entry.put == u16::from(entry.request.len);
+    *put = Some((number, next_beat(config, &entry, store)));
+    if last {
         entries.take(0);
     } else {
-        entries.set(
-            0,
-            ReadEntry {
-                request: entry.request,
-                put: entry.put + 1,
-            },
-        );
+        entries.set(0, with_beat(entry));
+    }
+}
+
+/// A read that has one more beat put.
+fn with_beat(entry: ReadEntry) -> ReadEntry
+    requires { entry.put < entry.request.len }
+    ensures { result ≡ record { request = entry.request; put = entry.put + 1 } }
+{
+    ReadEntry {
+        request: entry.request,
+        put: entry.put + 1,
     }
 }
 
@@ -53,10 +58,11 @@ fn next_beat(config: &MemoryConfig, entry: &ReadEntry, store: &ByteStore) -> RBe
     requires entry { IsReadEntry config.now entry.now }
     ensures { result ≡ next_beat config.now store.now entry.now }
 {
+    let address = beat_address(config, &entry.request, entry.put);
     RBeat {
         id: entry.request.id,
-        lanes: read_lanes(store, config, entry),
-        resp: valid_status(config, entry),
+        lanes: read_lanes(store, config, entry, address),
+        resp: status(config, address),
         last: entry.put == u16::from(entry.request.len),
         tag: entry.request.tag,
     }

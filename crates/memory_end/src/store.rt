@@ -4,7 +4,7 @@ ghost use Rattle.std.specs.Prelude.{◌≡◌, ◌<◌, ◌≤◌, ◌+◌, ◌%
 ghost use Rattle.std.specs.List.{range_with_len};
 ghost use Rattle.flight.specs.Entries.{place_of};
 ghost use Rattle.memory_end.specs.Beats.{is_strobed, strobed_lanes, bytes_on, all_written};
-ghost use Rattle.memory_end.specs.Store.{new_store, byte_at, line_of};
+ghost use Rattle.memory_end.specs.Store.{new_store, byte_at, lanes_between, line_of};
 
 use axi_beats::{Lanes, NoMemory, WBeat};
 use std::alloc::Global;
@@ -52,16 +52,17 @@ impl ByteStore {
         self.byte_in(line_place(&self.lines, address / 128), address)
     }
 
-    /// The bytes of the word at an address, which lies in one line: the one at `word + n` on lane n,
-    /// and 0 on the lanes beyond the bus.
-    pub fn read_word(&self, word: u64, bus: u8) -> Lanes
-        requires line { word % 128 + bus ≤ 128 }
-        requires end { word + bus < 2 ^ 64 }
-        ensures { result ≡ map (λ lane. if nat_lt lane bus then byte_at self.now (word + lane) else 0) (range_with_len 0 128) }
+    /// The bytes of the word at an address, which lies in one line: the one at `word + n` on lane n
+    /// from lane `low` to lane `high`, and 0 on all others.
+    pub fn read_lanes(&self, word: u64, low: u8, high: u8) -> Lanes
+        requires order { low ≤ high }
+        requires line { word % 128 + high < 128 }
+        requires end { word + high < 2 ^ 64 }
+        ensures { result ≡ lanes_between self.now word low (high + 1) }
     {
         let place = line_place(&self.lines, word / 128);
         let mut lanes = Lanes::zero();
-        for lane in 0..bus {
+        for lane in low..high + 1 {
             lanes.set(lane, self.byte_in(place, word + u64::from(lane)));
         }
         lanes

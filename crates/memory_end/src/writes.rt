@@ -2,10 +2,11 @@
 
 ghost use Rattle.std.specs.Prelude.{◌≡◌, ◌<◌, ◌^◌, ℕ, All, IsTrue, IfSome, is_some, length, option_copied, slice_get};
 ghost use Rattle.axi_link.specs.Table.{head_of, passing, put_of, take_of};
+ghost use Rattle.memory_end.specs.Beats.{beat_address};
 ghost use Rattle.memory_end.specs.MemoryState.{IsMemoryConfig, IsWriteEntry};
 ghost use Rattle.memory_end.specs.MemoryTable.{after_aw, after_b, after_w, answer_to, lacks_data, lacking_place, put_response, store_after, taken_data, with_beat};
 
-use crate::beats::{strobed_status, write_beat};
+use crate::beats::{beat_address, strobed_status, write_beat};
 use crate::config::MemoryConfig;
 use crate::entry::WriteEntry;
 use crate::store::ByteStore;
@@ -67,6 +68,7 @@ pub fn take_w(
     store: &mut ByteStore,
 )
     requires config { IsMemoryConfig config.now }
+    requires writes { All (IsWriteEntry config.now store.old.lines) entries.old }
     requires strobe { IfSome (head_of link.now.w) (λ w. w.strobe < 2 ^ config.now.bus) }
     ensures take { take.new ≡ take_of number (is_some (taken_data link.now entries.old)) }
     ensures entries { entries.new ≡ after_w config.now (taken_data link.now entries.old) entries.old }
@@ -82,8 +84,9 @@ pub fn take_w(
     };
     set_take(take, number, true);
     let entry = *entries.get(place);
-    write_beat(store, config, &entry, beat);
-    entries.set(place, with_beat(config, entry, beat));
+    let address = beat_address(config, &entry.request, entry.taken);
+    write_beat(store, config, &entry, address, beat);
+    entries.set(place, with_beat(config, entry, address, beat));
 }
 
 /// The place of the oldest write that lacks data.
@@ -99,9 +102,10 @@ fn lacking(entries: &Flight<WriteEntry>) -> Option<usize>
     None
 }
 
-/// A write that has one more data beat.
-fn with_beat(config: &MemoryConfig, entry: WriteEntry, beat: &WBeat) -> WriteEntry
+/// A write that has one more data beat, which is at this address.
+fn with_beat(config: &MemoryConfig, entry: WriteEntry, address: u64, beat: &WBeat) -> WriteEntry
     requires config { IsMemoryConfig config.now }
+    requires address { address ≡ beat_address entry.request entry.taken }
     requires strobe { beat.now.strobe < 2 ^ config.now.bus }
     requires lacking { IsTrue (lacks_data entry) }
     ensures { result ≡ with_beat config.now beat.now entry }
@@ -109,7 +113,7 @@ fn with_beat(config: &MemoryConfig, entry: WriteEntry, beat: &WBeat) -> WriteEnt
     WriteEntry {
         request: entry.request,
         taken: entry.taken + 1,
-        worst: worst(entry.worst, strobed_status(config, &entry, beat)),
+        worst: worst(entry.worst, strobed_status(config, &entry, address, beat)),
     }
 }
 

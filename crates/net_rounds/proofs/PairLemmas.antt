@@ -4,7 +4,7 @@ use Rattle.std.specs.Prelude.{All, Contains, IfSome, not, take}
 use Rattle.std.specs.List.{enumerate_from}
 use Rattle.std.proofs.lemmas.List.Elements.{All-contains_itself, All-filter, filter_passes}
 use Rattle.std.proofs.lemmas.Option.{slice_get-get_or}
-use Rattle.axi_beats.specs.Word.{IsWholeWord}
+use Rattle.axi_beats.specs.Word.{IsBusWidth, IsWholeWord}
 use Rattle.axi_beats.specs.declared.beat.Addr.{Addr}
 use Rattle.axi_beats.specs.declared.beat.WBeat.{WBeat}
 use Rattle.axi_link.specs.LinkView.{LinkView}
@@ -17,7 +17,8 @@ use Rattle.manager_end.specs.ManagerTable.{manager_aw, manager_ar, manager_w, ma
 use Rattle.manager_end.specs.Script.{CanPush, IsScript, ScriptItem, sent_bytes}
 use Rattle.manager_end.specs.declared.script.WriteByte.{WriteByte}
 use Rattle.memory_end.proofs.StayLemmas.{memory-stays}
-use Rattle.memory_end.specs.MemoryState.{IsMemory, AreLinesAmong}
+use Rattle.memory_end.proofs.WholeWords.{word-is_request}
+use Rattle.memory_end.specs.MemoryState.{AreLinesAmong, IsMemory, IsRequest}
 use Rattle.memory_end.specs.MemoryTable.{CanMemory, memory_out}
 use Rattle.memory_end.specs.declared.config.MemoryConfig.{MemoryConfig}
 use Rattle.net_rounds.proofs.StoreStays.{lines-stay}
@@ -138,6 +139,11 @@ can-manager p n holds = record { counted = omega arith; linked = subst (λ (k : 
 at-head : {X : Type 0} (P : X → Type 0) (queue : LinkView → List X) (link : LinkView) (upper : ℕ) → upper ≡ 0 → All P (queue link) → IfSome (head_of (queue (link_of (link ∷ []) upper))) P
 at-head P queue link upper is all = subst (λ (u : ℕ). IfSome (head_of (queue (link_of (link ∷ []) u))) P) (sym is) (All-slice_get P (queue link) 0 all)
 
+-- a head that is a whole word is a request that the memory can do
+head-request : (bus : ℕ) (o : Option Addr) → IsBusWidth bus → IfSome o (IsWholeWord bus) → IfSome o (IsRequest bus)
+head-request bus None is word = tt
+head-request bus (Some a) is word = word-is_request bus a is word
+
 pub can-memory : (p : Pair) (n : ℕ) → PairHolds p → CanMemory (suc n) (p.link ∷ []) p.memory.state
 can-memory p n holds =
     let Word : Addr → Type 0 = IsWholeWord p.memory.state.config.bus in
@@ -145,9 +151,11 @@ can-memory p n holds =
     let Strobe : WBeat → Type 0 = λ w. w.strobe < 2 ^ p.memory.state.config.bus in record {
       started = omega arith;
       upper = subst (λ (k : ℕ). k < 1) (sym holds.upper) (omega arith);
-      aw = at-head Word (λ l. l.aw) p.link p.memory.state.upper holds.upper holds.link.aw;
+      aw = head-request p.memory.state.config.bus (head_of (link_of (p.link ∷ []) p.memory.state.upper).aw) holds.memory.config.bus
+          (at-head Word (λ l. l.aw) p.link p.memory.state.upper holds.upper holds.link.aw);
       aw_lines = at-head Lines (λ l. l.aw) p.link p.memory.state.upper holds.upper holds.link.aw_lines;
-      ar = at-head Word (λ l. l.ar) p.link p.memory.state.upper holds.upper holds.link.ar;
+      ar = head-request p.memory.state.config.bus (head_of (link_of (p.link ∷ []) p.memory.state.upper).ar) holds.memory.config.bus
+          (at-head Word (λ l. l.ar) p.link p.memory.state.upper holds.upper holds.link.ar);
       strobe = at-head Strobe (λ l. l.w) p.link p.memory.state.upper holds.upper holds.link.w;
     }
 

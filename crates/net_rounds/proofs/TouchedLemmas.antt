@@ -10,6 +10,8 @@ use Rattle.axi_beats.specs.Word.{IsWholeWord}
 use Rattle.manager_end.specs.Beats.{request_of}
 use Rattle.manager_end.specs.ManagerState.{ManagerState, IsManager, writes_of}
 use Rattle.manager_end.specs.Script.{ScriptItem}
+use Rattle.memory_end.proofs.WholeWords.{word-beat}
+use Rattle.memory_end.specs.Beats.{beat_address}
 use Rattle.memory_end.specs.MemoryState.{AreLinesAmong}
 use Rattle.memory_end.specs.Store.{line_of}
 use Rattle.net_rounds.proofs.Choosing.{Contains-filter, Contains-range}
@@ -46,8 +48,9 @@ touched-item :
     (script : List ScriptItem) (item : ScriptItem) → Contains script item → item.txn.write ≡ true → IsWholeWord 4 item.txn.request → AreLinesAmong ram (touched_lines script) (request_of item)
 unfolding touched_lines
 touched-item script item among writes word beat within inside =
-    let own = word-own item.txn.request.addr word.aligned in
-    let low : item.txn.request.addr < 8192 = subst (λ (a : ℕ). a < 8192) own (inside-low (item.txn.request.addr / 4 * 4) inside) in
+    let at : beat_address item.txn.request beat ≡ item.txn.request.addr = word-beat 4 beat item.txn.request word within in
+    let own : beat_address item.txn.request beat / 4 * 4 ≡ item.txn.request.addr = ap (λ a. a / 4 * 4) at ∙ word-own item.txn.request.addr word.aligned in
+    let low : item.txn.request.addr < 8192 = subst (λ (a : ℕ). a < 8192) own (inside-low (beat_address item.txn.request beat / 4 * 4) inside) in
     subst (λ (a : ℕ). Contains (lines_below 64 script) (line_of a)) (sym own) (lines-own 64 script item among writes (line-low item.txn.request.addr low))
 
 pub touched-kept : (s : ManagerState) → IsManager s → s.bus ≡ 4 → KeepsLines ram (touched_lines s.script) s.script

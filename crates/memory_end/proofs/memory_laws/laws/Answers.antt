@@ -1,3 +1,4 @@
+use Rattle.memory_end.proofs.BurstFacts.{beats-in_lines, lanes-are_bytes, lines-of_burst, reads-burst_bytes, status-of_burst_bytes, writes-burst_bytes}
 use Rattle.memory_end.proofs.FitLemmas.{memory-fits}
 use Rattle.memory_end.proofs.ReadLemmas.{reads-written, reads-others}
 use Rattle.memory_end.proofs.StayLemmas.{memory-keeps, memory-stays, new-is_memory}
@@ -20,3 +21,21 @@ returns-clause-stays c = memory-stays
 
 pub returns-clause-keeps : goal.returns-clause-keeps
 returns-clause-keeps c = memory-keeps
+
+pub returns-clause-bytes : goal.returns-clause-bytes
+returns-clause-bytes c = lanes-are_bytes
+
+pub returns-clause-lines : goal.returns-clause-lines
+returns-clause-lines c = beats-in_lines
+
+pub returns-clause-burst_lines : goal.returns-clause-burst_lines
+returns-clause-burst_lines c = lines-of_burst
+
+pub returns-clause-reads : goal.returns-clause-reads
+returns-clause-reads c = reads-burst_bytes
+
+pub returns-clause-status : goal.returns-clause-status
+returns-clause-status c = status-of_burst_bytes
+
+pub returns-clause-writes : goal.returns-clause-writes
+returns-clause-writes c = writes-burst_bytes

@@ -1,12 +1,16 @@
-use Rattle.std.proofs.Common.{◌≡◌, ◌∙◌, ℕ, Option, Some, sym, ap, lit<}
+use Rattle.std.proofs.Common.{◌≡◌, ◌∙◌, ◌<◌, ℕ, Option, Some, sym, ap, arith, lit<}
 use Rattle.std.specs.Prelude.{is_some, slice_set}
 use Rattle.std.specs.Option.{option_copied, option_map}
 use Rattle.std.proofs.lemmas.Option.{slice_get-map, slice_get_within}
+use Rattle.std.proofs.lemmas.Bool.{ltb-true}
 use Rattle.axi_beats.specs.declared.beat.WBeat.{WBeat}
 use Rattle.axi_link.specs.Table.{head_of, take_of}
 use Rattle.memory_end.specs.declared.entry.WriteEntry.{WriteEntry}
+use Rattle.memory_end.specs.Beats.{beats_of}
+use Rattle.memory_end.specs.MemoryState.{IsWriteEntry}
 use Rattle.memory_end.specs.MemoryTable.{after_w, store_after, store_with}
 use Rattle.memory_end.proofs.EntryLemmas.{IsOldestLacking, oldest_lacking-at, taken_data-none, taken_data-some}
+use Rattle.memory_end.proofs.ListLemmas.{at-has}
 use Rattle.memory_end.proofs.writes.take_w.Goals as goal
 
 pub returns-in_default-clause-take : goal.returns-in_default-clause-take
@@ -20,6 +24,16 @@ returns-in_default-clause-entries c =
 pub returns-in_default-clause-store : goal.returns-in_default-clause-store
 returns-in_default-clause-store c =
     sym (ap (λ (o : Option WBeat). store_after c.args.config.now o c.args.entries.now c.args.store.now) (taken_data-none c.args.link.now c.args.entries.now (sym c.lacking.ensures.place ∙ c.in_default.is)))
+
+pub beat_address-address-requires-clause-request : goal.beat_address-address-requires-clause-request
+beat_address-address-requires-clause-request c =
+    (at-has (IsWriteEntry c.args.config.now c.args.store.now.lines) c.args.entries.now c.in-Some.place c.get.result.now c.get.ensures c.requires.writes).request
+
+pub beat_address-address-requires-clause-beat : goal.beat_address-address-requires-clause-beat
+beat_address-address-requires-clause-beat c =
+    let oldest : IsOldestLacking c.args.entries.now c.in-Some.place c.get.result.now = oldest_lacking-at c.args.entries.now c.in-Some.place c.get.result.now (sym c.lacking.ensures.place ∙ c.in-Some.is) c.get.ensures in
+    let more : c.get.result.now.taken < beats_of c.get.result.now.request = ltb-true c.get.result.now.taken (beats_of c.get.result.now.request) oldest.lacks in
+    omega arith
 
 pub with_beat-requires-clause-lacking : goal.with_beat-requires-clause-lacking
 with_beat-requires-clause-lacking c =

@@ -1,5 +1,5 @@
 use Rattle.std.proofs.Common.{◌≡◌, ◌∙◌, ℕ, ◌<◌, ◌≤◌, List, Option, not, length, sym, ap, subst, arith}
-use Rattle.std.specs.Prelude.{is_some}
+use Rattle.std.specs.Prelude.{All, is_some}
 use Rattle.std.specs.Option.{option_copied}
 use Rattle.axi_beats.specs.declared.beat.Addr.{Addr}
 use Rattle.axi_beats.specs.declared.beat.BBeat.{BBeat}
@@ -11,11 +11,17 @@ use Rattle.axi_link.specs.Table.{head_of, passing, put_of, take_of}
 use Rattle.axi_link.specs.declared.out.Out.{Out}
 use Rattle.memory_end.specs.declared.entry.WriteEntry.{WriteEntry}
 use Rattle.memory_end.specs.MemoryInside.{memory_state}
-use Rattle.memory_end.specs.MemoryState.{MemoryState, IsMemory}
+use Rattle.memory_end.specs.MemoryState.{IsMemory, IsWriteEntry, MemoryState}
 use Rattle.memory_end.specs.MemoryTable.{CanMemory, after_aw, after_ar, after_b, after_r, after_w, fits, memory_aw, memory_ar, memory_b, memory_link, memory_next, memory_out, memory_r, memory_table, memory_w, oldest_lacking, put_read, put_response, store_after, taken_data}
 use Rattle.memory_end.proofs.MemoryLemmas.{fits-not_full, lt-not_full, length-after_b, length-after_w, oldest_lacking-after_b, out-is, state_with, state_with-same, store_after-same}
-use Rattle.memory_end.proofs.StayLemmas.{memory-stays}
+use Rattle.memory_end.proofs.StayLemmas.{after_b-stays, memory-stays}
 use Rattle.memory_end.proofs.memory.Memory.decide.Goals as goal
+
+pub take_w-requires-clause-writes : goal.take_w-requires-clause-writes
+take_w-requires-clause-writes c =
+    let Has : WriteEntry → Type 0 = IsWriteEntry c.self.inside.config c.self.inside.store.lines in
+    subst (λ (es : List WriteEntry). All Has es) (sym c.put_b.ensures.entries)
+    (after_b-stays c.self.inside.config c.self.inside.store.lines (put_response c.link_at-link.result.now c.self.inside.write_entries) c.self.inside.write_entries c.self.invariant.state.writes)
 
 pub take_aw-requires : goal.take_aw-requires
 take_aw-requires c = λ room.
