@@ -8,7 +8,7 @@ use Rattle.traffic.specs.declared.port.ManagerPort.{ManagerPort}
 use Rattle.traffic.specs.declared.fault.TrafficFault.{TrafficFault}
 use Rattle.traffic.specs.declared.fault.TrafficFault.TheVariants.{BadLine, UnknownManager, BadId, IllegalBurst, TooMuchTraffic, NoMemory}
 
--- the request for a burst; one of over 256 beats, which no `len` of 8 bits tells, is of no legal length
+-- the request for a burst; one of over 256 beats, whose `len` is no byte, is of no legal length
 abbrev pub request_of : Access → Addr
 request_of access = record {
   id = access.start.id;
