@@ -1,5 +1,5 @@
 -- The bytes of a whole word of 4 bytes by their lanes, and what the one data beat of a write shows on these.
-use Rattle.std.proofs.Common.{◌≡◌, ◌<◌, ◌+◌, ◌*◌, ◌/◌, ◌%◌, ◌^◌, ◌-◌, ◌==◌, ◌∷◌, [], ℕ, zero, suc, List, Some, None, Bool, true, false, cond, length, get_or, refl, sym, ap, ◌∙◌, arith}
+use Rattle.std.proofs.Common.{◌≡◌, ◌<◌, ◌+◌, ◌*◌, ◌/◌, ◌%◌, ◌^◌, ◌-◌, ◌==◌, ◌∷◌, [], ℕ, zero, suc, List, Some, None, Bool, true, false, cond, length, get_or, refl, sym, ap, ap₂, ◌∙◌, arith}
 use Rattle.std.specs.Prelude.{filter, map, slice_index}
 use Rattle.std.specs.Int.{bit_at}
 use Rattle.std.specs.List.{range_with_len}
@@ -12,7 +12,7 @@ use Rattle.manager_end.specs.Beats.{data_of, lane_of, lanes_of, strobe_of}
 use Rattle.manager_end.specs.Script.{ScriptItem}
 use Rattle.manager_end.specs.declared.script.WriteByte.{WriteByte}
 use Rattle.memory_end.specs.Beats.{is_strobed, lane_address, strobed_lanes, valid_lanes, word_address}
-use Rattle.net_rounds.proofs.PlanFacts.{IsTrafficItem, part_of}
+use Rattle.net_rounds.proofs.PlanFacts.{IsTrafficItem, all-lanes, first-lane, part_of, word-at}
 use Rattle.net_rounds.specs.Due.{strobed_bytes, strobed_value}
 
 -- the strobe of a byte's lane
@@ -97,7 +97,8 @@ module _ (item : ScriptItem) (known : IsTrafficItem item) where
   -- its one beat has the addresses of all lanes
   first-beat : beat_bytes item.txn.request 0 ≡ range_with_len (word + 0) 4
   first-beat =
-      let start : item.txn.request.addr ≡ word + 0 = omega (arith, known.word.aligned) in
+      let at = word-at item known in
+      let start : item.txn.request.addr ≡ word + 0 = omega (arith, known.word.aligned, at) in
       let four : item.txn.request.addr / 4 * 4 + 4 - item.txn.request.addr ≡ 4 = omega (arith, known.word.aligned) in
       ap (λ (kind : Burst). valid_bytes (size_of item.txn.request) (address_of kind (size_of item.txn.request) (beats_of item.txn.request) item.txn.request.addr 0)) known.word.incrementing
       ∙ ap (λ size. valid_bytes size item.txn.request.addr) known.word.wide
@@ -105,7 +106,9 @@ module _ (item : ScriptItem) (known : IsTrafficItem item) where
       ∙ ap (λ a. range_with_len a 4) start
 
   pub beat-lanes : beat_bytes item.txn.request 0 ≡ map (lane_address (part_of item) 0 4) (valid_lanes (part_of item) 0 4)
-  beat-lanes = first-beat ∙ range-shift word 0 4
+  beat-lanes =
+      first-beat ∙ range-shift word 0 4
+      ∙ ap₂ (λ first count. map (lane_address (part_of item) 0 4) (range_with_len first count)) (sym (first-lane item known)) (sym (all-lanes item known))
 
   pub burst-beat : burst_bytes item.txn.request ≡ beat_bytes item.txn.request 0
   burst-beat = ap (λ len. bytes_before item.txn.request (len + 1)) known.word.one_beat

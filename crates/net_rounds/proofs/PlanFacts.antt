@@ -1,5 +1,5 @@
 -- The plan of the built-in network's link is that of its script, for the manager above it and for the memory below it.
-use Rattle.std.proofs.Common.{◌≡◌, ◌≢◌, ◌<◌, ◌+◌, ◌==◌, ◌&&◌, ◌^◌, ◌++◌, ◌∷◌, [], ℕ, zero, suc, List, Bool, true, false, cond, length, get_or, refl, sym, ap, ◌∙◌, subst, inl, inr, eq-eqb, arith}
+use Rattle.std.proofs.Common.{◌≡◌, ◌≢◌, ◌<◌, ◌+◌, ◌==◌, ◌&&◌, ◌^◌, ◌++◌, ◌∷◌, [], ℕ, zero, suc, List, Bool, true, false, cond, length, get_or, refl, sym, ap, ap₂, ◌-◌, ◌∙◌, subst, inl, inr, eq-eqb, arith}
 use Rattle.std.specs.Prelude.{◌⊎◌, All, AllPairs, Contains, map, not, zip, if◌then◌else◌}
 use Rattle.std.specs.Bool.{beq}
 use Rattle.std.specs.List.{range_with_len}
@@ -10,12 +10,14 @@ use Rattle.axi_beats.specs.Word.{IsWholeWord}
 use Rattle.axi_beats.specs.declared.beat.Addr.{Addr}
 use Rattle.axi_beats.specs.declared.beat.WBeat.{WBeat}
 use Rattle.axi_trail.specs.LinkContracts.{without_id}
-use Rattle.axi_trail.specs.Schedule.{SameChain, Share}
+use Rattle.axi_trail.specs.Schedule.{SameChain, Share, Span}
+use Rattle.axi_beats.specs.declared.beat.Burst.{Burst}
+use Rattle.burst_address.specs.Formulas.{address_of, beats_of as burst_beats, lower_lane, size_of, upper_lane}
 use Rattle.manager_end.specs.Beats.{request_of}
 use Rattle.manager_end.specs.ManagerTrail.{HasItem, IsItsOwn, IsPlanOf, shares_of}
 use Rattle.manager_end.specs.Script.{ScriptItem, sent_bytes}
 use Rattle.memory_end.specs.Accesses.{BeatOf, beats_of_parts, burst_status, span_of}
-use Rattle.memory_end.specs.Beats.{beats_of, valid_status}
+use Rattle.memory_end.specs.Beats.{beat_address, beats_of, first_lane, lane_count, valid_status}
 use Rattle.memory_end.specs.MemoryTrail.{Suits}
 use Rattle.net_rounds.proofs.BuiltInPlan.{no_share, plan_of, read_share, share_at, share_of, write_share}
 use Rattle.net_rounds.proofs.PairLemmas.{script-sent}
@@ -175,6 +177,26 @@ part_of item = without_id (request_of item)
 pub one-beat : (item : ScriptItem) → IsTrafficItem item → beats_of_parts (part_of item ∷ []) ≡ record { request = part_of item; beat = 0 } ∷ []
 one-beat item known = ap (λ len. map (λ n. record { request = part_of item; beat = n }) (range_with_len 0 (len + 1)) ++ []) known.word.one_beat
 
+-- its one beat is at its address, and has all lanes
+pub word-at : (item : ScriptItem) → IsTrafficItem item → beat_address (part_of item) 0 ≡ item.txn.request.addr
+word-at item known = ap (λ (kind : Burst). address_of kind (size_of (part_of item)) (burst_beats (part_of item)) item.txn.request.addr 0) known.word.incrementing
+
+pub first-lane : (item : ScriptItem) → IsTrafficItem item → first_lane (part_of item) 0 4 ≡ 0
+first-lane item known = ap (lower_lane 4) (word-at item known) ∙ known.word.aligned
+
+pub all-lanes : (item : ScriptItem) → IsTrafficItem item → lane_count (part_of item) 0 4 ≡ 4
+all-lanes item known =
+    let last : upper_lane 4 4 item.txn.request.addr ≡ 3 = omega (arith, known.word.aligned) in
+    ap₂ (λ (size address : ℕ). upper_lane size 4 address - first_lane (part_of item) 0 4 + 1) known.word.wide (word-at item known)
+    ∙ ap₂ (λ (high low : ℕ). high - low + 1) last (first-lane item known)
+
+-- lanes from the lowest to the highest one
+abbrev span : ℕ → ℕ → Span
+span low high = record { low = low; high = high }
+
+word-span : (item : ScriptItem) → IsTrafficItem item → span_of ram (record { request = part_of item; beat = 0 }) ≡ record { low = 0; high = 3 }
+word-span item known = ap₂ (λ (first count : ℕ). span first (first + count - 1)) (first-lane item known) (all-lanes item known)
+
 -- the plan has each transaction as it is
 has-write : (script : List ScriptItem) (item : ScriptItem) → item.txn.write ≡ true → (plan_of script).writes item.txn.number ≡ write_share item → item.txn.request.id < 2 ^ 4 → HasItem (plan_of script) 4 item
 has-write script item direction own fits = record {
@@ -188,7 +210,7 @@ has-read : (script : List ScriptItem) (item : ScriptItem) → IsTrafficItem item
 has-read script item known direction own fits = record {
   parts = ap (λ b. ((if b then (plan_of script).writes else (plan_of script).reads) item.txn.number).parts) direction ∙ ap (λ (s : Share). s.parts) own;
   write_data = λ is. absurd (true≢false (sym is ∙ direction));
-  lanes = λ is. ap (λ (s : Share). s.lanes) own ∙ ap (map (span_of ram)) (one-beat item known);
+  lanes = λ is. ap (λ (s : Share). s.lanes) own ∙ ap (map (span_of ram)) (one-beat item known) ∙ ap (λ (s : Span). s ∷ []) (word-span item known);
   id_fits = fits;
 }
 
