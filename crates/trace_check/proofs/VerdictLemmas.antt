@@ -1,5 +1,5 @@
 -- What a verdict says of each link.
-use Rattle.std.proofs.Common.{◌≡◌, ◌≢◌, ℕ, ◌+◌, ◌<◌, ◌≤◌, ◌∷◌, [], ◌⊎◌, inl, inr, Bool, true, false, List, Option, Some, None, refl, sym, ap, subst, ◌∙◌, arith, length, suc, zero, max, ltb}
+use Rattle.std.proofs.Common.{◌≡◌, ◌≢◌, ℕ, ◌+◌, ◌<◌, ◌≤◌, ◌∷◌, [], ◌⊎◌, inl, inr, Bool, true, false, List, Option, Some, None, refl, sym, ap, subst, ◌∙◌, arith, length, suc, zero, ltb}
 use Rattle.std.specs.Prelude.{if◌then◌else◌, Result, Ok, Err}
 use Rattle.std.specs.List.{find}
 use Rattle.std.specs.Option.{option_map}
@@ -12,10 +12,9 @@ use Rattle.trace_check.specs.Histories.{broken_at, broken_in, fault_of_link, fau
 use Rattle.trace_check.specs.Lines.{judged_lines, shown_by}
 use Rattle.trace_check.specs.Table.{is_lite}
 use Rattle.trace_check.specs.VerdictLaws.{BrokenTracesTellTheFirst, IsFirstFault, KeepsRules, LegalTracesKeepTheRules, Shows}
-use Rattle.trace_check.specs.Verdicts.{verdict_of, verdict_of_lines, verdict_of_ports, verdict_of_rules}
+use Rattle.trace_check.specs.Verdicts.{verdict_of_lines, verdict_of_ports, verdict_of_rules}
 use Rattle.trace_check.specs.declared.verdict.PortFault.{PortFault}
-use Rattle.trace_check.specs.declared.verdict.Verdict.{Verdict}
-use Rattle.trace_check.specs.declared.verdict.Verdict.TheVariants.{BadTraceLine, Broken, Legal, NotBuilt}
+use Rattle.trace_check.specs.declared.verdict.Verdict.TheVariants.{Broken, Legal}
 
 -- ---- the least number at which something is answered
 
