@@ -1,6 +1,6 @@
 -- A memory's beats in the terms of bursts.
 use Rattle.std.proofs.Common.{◌≡◌, ℕ, ◌+◌, ◌-◌, ◌*◌, ◌/◌, ◌%◌, ◌==◌, ◌&&◌, ◌<◌, ◌≤◌, suc, zero, Bool, true, false, cond, List, [], ◌∷◌, ◌++◌, Option, Some, None, length, map, get_or, refl, sym, ◌∙◌, ap, subst, arith, inl, inr, leb, ltb, true≢false, IsTrue, append-nil, append_assoc, length-append}
-use Rattle.std.specs.Prelude.{All, Contains, filter, slice_index}
+use Rattle.std.specs.Prelude.{All, Contains, filter, slice_get, slice_index}
 use Rattle.std.specs.Int.{bit_at}
 use Rattle.std.specs.List.{AllByRecursion, range_with_len}
 use Rattle.std.proofs.lemmas.Bool.{cases_lt, lt-leb, le-ltb}
@@ -18,8 +18,8 @@ use Rattle.burst_address.proofs.Written.{written-more}
 use Rattle.burst_address.specs.Bytes.{beat_bytes, beat_written, burst_bytes, bytes_before, strobed_byte, written, written_bytes as burst_written}
 use Rattle.burst_address.specs.Formulas.{aligned, beat_at, beats_of, size_of}
 use Rattle.burst_address.specs.Legal.{IsLegal}
-use Rattle.memory_end.specs.Beats.{Byte, bytes_on, first_lane, is_strobed, is_valid, lane_address, lane_count, strobed_lanes, valid_lanes, word_address, written_bytes}
-use Rattle.memory_end.specs.BurstBytes.{BeatsAreInLines, LanesAreBytes, LinesAreOfBurst, ReadsBurstBytes, StatusOfBurstBytes, StrobeValidLanes, WritesBurstBytes, all_written_bytes}
+use Rattle.memory_end.specs.Beats.{Byte, bytes_on, first_lane, is_strobed, is_valid, lane_address, lane_count, strobed_lanes, strobed_status, valid_lanes, word_address, written_bytes}
+use Rattle.memory_end.specs.BurstBytes.{BeatsAreInLines, LanesAreBytes, LinesAreOfBurst, ReadsBurstBytes, StatusOfBurstBytes, StatusOfWrittenBytes, StrobesValidLanes, WritesBeatBytes, WritesBurstBytes, all_written_bytes, inside_of}
 use Rattle.memory_end.specs.MemoryState.{AreLinesAmong, IsMemoryConfig}
 use Rattle.memory_end.specs.Status.{is_inside, is_okay, read_status, worst_among, write_status}
 use Rattle.memory_end.specs.Store.{line_of}
@@ -199,7 +199,7 @@ module _ (config : MemoryConfig) (a : Addr) (n : ℕ) (w : WBeat) (is : IsMemory
       in go (is_inside config (word + k))
 
   -- the strobes are on valid lanes alone
-  module _ (valid : (lane : ℕ) → lane < config.bus → IsTrue (is_strobed w lane) → IsTrue (is_valid a n config.bus lane)) where
+  module _ (valid : StrobesValidLanes config.bus a n w) where
     abbrev low : ℕ
     low = first_lane a n config.bus
 
@@ -226,19 +226,35 @@ module _ (config : MemoryConfig) (a : Addr) (n : ℕ) (w : WBeat) (is : IsMemory
         (λ k lt. not-strobed k (omega (arith, bounds.0, bounds.1)) (out-before k lt))
         (λ k from below. not-strobed k below (out-after k from))
 
-    pub beat-writes : written_bytes config a n w ≡ map byte_of (filter (is_in config) (beat_written config.bus a n w))
-    beat-writes =
+    -- what the beat says of the burst's bytes
+    written-pairs : beat_written config.bus a n w ≡ map pair (filter (is_strobed w) (valid_lanes a n config.bus))
+    written-pairs =
         let bounds = lanes-on_bus a n config.bus is.bus in
         let bytes : map (λ k. word + k) (valid_lanes a n config.bus) ≡ beat_bytes a n = lanes-are_bytes a config.bus n is.bus legal in
+        sym (ap (λ bs. written bs (map (strobed_byte config.bus w) bs)) bytes)
+        ∙ written-lanes (valid_lanes a n config.bus) (range-below low count config.bus bounds.1)
+
+    beat-writes : written_bytes config a n w ≡ inside_of config (beat_written config.bus a n w)
+    beat-writes =
         ap (λ lanes. bytes_on word w (filter (λ lane. is_okay (write_status config (word + lane))) lanes)) strobed-valid
         ∙ inside-lanes (filter (is_strobed w) (valid_lanes a n config.bus))
-        ∙ ap (λ ps. map byte_of (filter (is_in config) ps))
-        (sym (written-lanes (valid_lanes a n config.bus) (range-below low count config.bus bounds.1))
-        ∙ ap (λ bs. written bs (map (strobed_byte config.bus w) bs)) bytes)
+        ∙ ap (inside_of config) (sym written-pairs)
+
+    beat-status : strobed_status config a n w ≡ worst_among (map (λ (p : ℕ × ℕ). write_status config p.0) (beat_written config.bus a n w))
+    beat-status =
+        ap (λ lanes. worst_among (map (λ lane. write_status config (word + lane)) lanes)) strobed-valid
+        ∙ ap worst_among (sym (map-map (λ (p : ℕ × ℕ). write_status config p.0) pair (filter (is_strobed w) (valid_lanes a n config.bus))))
+        ∙ ap (λ ps. worst_among (map (λ (p : ℕ × ℕ). write_status config p.0) ps)) (sym written-pairs)
+
+pub writes-beat_bytes : WritesBeatBytes
+writes-beat_bytes config a n w is legal valid = beat-writes config a n w is legal valid
+
+pub status-of_written_bytes : StatusOfWrittenBytes
+status-of_written_bytes config a n w is legal valid = beat-status config a n w is legal valid
 
 module _ (config : MemoryConfig) (a : Addr) (is : IsMemoryConfig config) (legal : IsLegal a config.bus) where
   abbrev Strobes : ℕ → List WBeat → Type 0
-  Strobes n ws = StrobeValidLanes config.bus a n ws
+  Strobes n ws = (k : ℕ) (w : WBeat) → slice_get ws k ≡ Some w → StrobesValidLanes config.bus a (n + k) w
 
   -- the beats after some first ones
   rest-writes : (front ws : List WBeat) → length front + length ws ≤ beats_of a → Strobes (length front) ws →
@@ -255,10 +271,10 @@ module _ (config : MemoryConfig) (a : Addr) (is : IsMemoryConfig config) (legal 
       let none : length front + 0 ≡ length front = omega arith in
       let one : length (front ++ w ∷ []) ≡ suc (length front) = omega (arith, length-append front (w ∷ [])) in
       let here : written_bytes config a n w ≡ shown own =
-      beat-writes config a n w is legal (λ lane lt strobed. subst (λ (k : ℕ). IsTrue (is_valid a k config.bus lane)) none (valid 0 lane w refl lt strobed)) in
-      let later : Strobes (length (front ++ w ∷ [])) ws = λ k lane x at lt strobed.
+      beat-writes config a n w is legal (subst (λ (k : ℕ). StrobesValidLanes config.bus a k w) none (valid 0 w refl)) in
+      let later : Strobes (length (front ++ w ∷ [])) ws = λ k x at.
       let shift : length front + suc k ≡ length (front ++ w ∷ []) + k = omega (arith, one) in
-      subst (λ (m : ℕ). IsTrue (is_valid a m config.bus lane)) shift (valid (suc k) lane x at lt strobed) in
+      subst (λ (m : ℕ). StrobesValidLanes config.bus a m x) shift (valid (suc k) x at) in
       let more : shown before ++ written_bytes config a n w ≡ shown (burst_written config.bus a (front ++ w ∷ [])) =
       ap (λ t. shown before ++ t) here
       ∙ sym (map-append byte_of (filter (is_in config) before) (filter (is_in config) own))
@@ -274,7 +290,10 @@ pub writes-burst_bytes : WritesBurstBytes
 writes-burst_bytes config a ws is legal le valid =
     let none : map byte_of (filter (is_in config) (burst_written config.bus a [])) ≡ [] = ap (λ ps. map byte_of (filter (is_in config) ps)) (written-none (burst_bytes a)) in
     let few : 0 + length ws ≤ beats_of a = omega arith in
-    ap (λ t. t ++ all_written_bytes config a 0 ws) (sym none) ∙ rest-writes config a is legal [] ws few valid
+    let each : (k : ℕ) (w : WBeat) → slice_get ws k ≡ Some w → StrobesValidLanes config.bus a (0 + k) w = λ k w at.
+    let same : k ≡ 0 + k = omega arith in
+    subst (λ (m : ℕ). StrobesValidLanes config.bus a m w) same (valid k w at) in
+    ap (λ t. t ++ all_written_bytes config a 0 ws) (sym none) ∙ rest-writes config a is legal [] ws few each
   where
     written-none : (xs : List ℕ) → written xs [] ≡ []
     written-none [] = refl

@@ -4,6 +4,7 @@ pub mod BeatLemmas
 pub mod BetweenLemmas
 pub mod BurstFacts
 pub mod ChainFacts
+pub mod DueFacts
 pub mod EntryLemmas
 pub mod FillFacts
 pub mod FitLemmas

@@ -1,6 +1,6 @@
 //! What holds of a memory's definitions.
 
-ghost use Rattle.memory_end.specs.BurstBytes.{BeatsAreInLines, LanesAreBytes, LinesAreOfBurst, ReadsBurstBytes, StatusOfBurstBytes, WritesBurstBytes};
+ghost use Rattle.memory_end.specs.BurstBytes.{BeatsAreInLines, DueReadsAreOfParts, DueWritesAreOfParts, LanesAreBytes, LinesAreOfBurst, ReadsBurstBytes, StatusOfBurstBytes, StatusOfWrittenBytes, WritesBeatBytes, WritesBurstBytes};
 ghost use Rattle.memory_end.specs.Laws.{KeepsArguments, MovesAlwaysFit, NewIsMemory, StaysMemory};
 ghost use Rattle.memory_end.specs.Store.{ReadsOthers, ReadsWritten};
 
@@ -21,6 +21,12 @@ pub fn laws()
     ensures lines { BeatsAreInLines }
     ensures burst_lines { LinesAreOfBurst }
     ensures reads { ReadsBurstBytes }
-    ensures status { StatusOfBurstBytes }
+    ensures read_status { StatusOfBurstBytes }
+    ensures beat_writes { WritesBeatBytes }
+    ensures write_status { StatusOfWrittenBytes }
     ensures writes { WritesBurstBytes }
+
+    // So what is due of a transaction is what its parts read and write.
+    ensures due_reads { DueReadsAreOfParts }
+    ensures due_writes { DueWritesAreOfParts }
 {}

@@ -1,4 +1,5 @@
-use Rattle.memory_end.proofs.BurstFacts.{beats-in_lines, lanes-are_bytes, lines-of_burst, reads-burst_bytes, status-of_burst_bytes, writes-burst_bytes}
+use Rattle.memory_end.proofs.BurstFacts.{beats-in_lines, lanes-are_bytes, lines-of_burst, reads-burst_bytes, status-of_burst_bytes, status-of_written_bytes, writes-beat_bytes, writes-burst_bytes}
+use Rattle.memory_end.proofs.DueFacts.{due-reads, due-writes}
 use Rattle.memory_end.proofs.FitLemmas.{memory-fits}
 use Rattle.memory_end.proofs.ReadLemmas.{reads-written, reads-others}
 use Rattle.memory_end.proofs.StayLemmas.{memory-keeps, memory-stays, new-is_memory}
@@ -34,8 +35,20 @@ returns-clause-burst_lines c = lines-of_burst
 pub returns-clause-reads : goal.returns-clause-reads
 returns-clause-reads c = reads-burst_bytes
 
-pub returns-clause-status : goal.returns-clause-status
-returns-clause-status c = status-of_burst_bytes
+pub returns-clause-read_status : goal.returns-clause-read_status
+returns-clause-read_status c = status-of_burst_bytes
 
 pub returns-clause-writes : goal.returns-clause-writes
 returns-clause-writes c = writes-burst_bytes
+
+pub returns-clause-beat_writes : goal.returns-clause-beat_writes
+returns-clause-beat_writes c = writes-beat_bytes
+
+pub returns-clause-write_status : goal.returns-clause-write_status
+returns-clause-write_status c = status-of_written_bytes
+
+pub returns-clause-due_reads : goal.returns-clause-due_reads
+returns-clause-due_reads c = due-reads
+
+pub returns-clause-due_writes : goal.returns-clause-due_writes
+returns-clause-due_writes c = due-writes

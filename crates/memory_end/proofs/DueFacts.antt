@@ -1,0 +1,98 @@
+-- What is due at a memory, part by part.
+use Rattle.std.proofs.Common.{◌≡◌, ℕ, ◌+◌, suc, zero, List, [], ◌∷◌, ◌++◌, length, map, take, refl, sym, ◌∙◌, ap, arith, add-one, append-nil}
+use Rattle.std.specs.Prelude.{All, filter, flat_map, zip}
+use Rattle.std.specs.List.{range_with_len}
+use Rattle.std.proofs.lemmas.Grind.{flat_map-append}
+use Rattle.std.proofs.lemmas.List.{length-map, map-append, take_all}
+use Rattle.std.proofs.lemmas.List.Elements.{filter-append}
+use Rattle.std.proofs.lemmas.List.FromFn.{length-range_with_len}
+use Rattle.axi_beats.specs.declared.beat.Addr.{Addr}
+use Rattle.axi_beats.specs.declared.beat.WBeat.{WBeat}
+use Rattle.burst_address.specs.Bytes.{beat_bytes, burst_bytes, bytes_before}
+use Rattle.burst_address.specs.Legal.{IsLegal}
+use Rattle.memory_end.specs.Accesses.{BeatOf, beats_of_parts, read_addresses}
+use Rattle.memory_end.specs.Beats.{Byte, beats_of, written_bytes}
+use Rattle.memory_end.specs.BurstBytes.{DueReadsAreOfParts, DueWritesAreOfParts, all_written_bytes}
+use Rattle.memory_end.specs.MemoryState.{IsMemoryConfig}
+use Rattle.memory_end.specs.Status.{is_inside}
+use Rattle.memory_end.specs.declared.config.MemoryConfig.{MemoryConfig}
+use Rattle.memory_end.proofs.BurstFacts.{reads-burst_bytes}
+use Rattle.memory_end.proofs.ListLemmas.{range-more}
+
+-- a beat of a part
+abbrev beat_of : Addr → ℕ → BeatOf
+beat_of part n = record { request = part; beat = n }
+
+module _ (config : MemoryConfig) (is : IsMemoryConfig config) where
+  abbrev inside : List ℕ → List ℕ
+  inside bytes = filter (is_inside config) bytes
+
+  -- the first beats of a part read its first bytes
+  part-reads : (a : Addr) (k : ℕ) → IsLegal a config.bus → flat_map (read_addresses config) (map (beat_of a) (range_with_len 0 k)) ≡ inside (bytes_before a k)
+  part-reads a zero legal = refl
+  part-reads a (suc k) legal =
+      let reads : List BeatOf → List ℕ = flat_map (read_addresses config) in
+      let last : 0 + k ≡ k = omega arith in
+      ap (λ n. reads (map (beat_of a) (range_with_len 0 n))) (sym (add-one k))
+      ∙ ap (λ ns. reads (map (beat_of a) ns)) (range-more 0 k)
+      ∙ ap reads (map-append (beat_of a) (range_with_len 0 k) ((0 + k) ∷ []))
+      ∙ flat_map-append (read_addresses config) (map (beat_of a) (range_with_len 0 k)) (beat_of a (0 + k) ∷ [])
+      ∙ ap (λ t. t ++ reads (beat_of a (0 + k) ∷ [])) (part-reads a k legal)
+      ∙ ap (λ t. inside (bytes_before a k) ++ t) (append-nil (read_addresses config (beat_of a (0 + k))) ∙ ap (λ n. read_addresses config (beat_of a n)) last ∙ reads-burst_bytes config a k is legal)
+      ∙ sym (filter-append (is_inside config) (bytes_before a k) (beat_bytes a k))
+
+  parts-read : (parts : List Addr) → All (λ part. IsLegal part config.bus) parts → flat_map (read_addresses config) (beats_of_parts parts) ≡ flat_map (λ part. inside (burst_bytes part)) parts
+  parts-read [] legal = refl
+  parts-read (a ∷ parts) legal =
+      flat_map-append (read_addresses config) (map (beat_of a) (range_with_len 0 (beats_of a))) (beats_of_parts parts)
+      ∙ ap (λ t. t ++ flat_map (read_addresses config) (beats_of_parts parts)) (part-reads a (beats_of a) (legal 0 a (omega arith)))
+      ∙ ap (λ t. inside (burst_bytes a) ++ t) (parts-read parts (λ k d lt. legal (suc k) d (omega arith)))
+
+pub due-reads : DueReadsAreOfParts
+due-reads config share is legal =
+    ap (flat_map (read_addresses config)) (take_all (length (beats_of_parts share.parts)) (beats_of_parts share.parts) (omega arith))
+    ∙ parts-read config is share.parts legal
+
+-- pairs
+zip-take : {X Y : Type 0} (xs : List X) (ys : List Y) → take (length xs) (zip xs ys) ≡ zip xs ys
+zip-take [] ys = refl
+zip-take (x ∷ xs) [] = refl
+zip-take (x ∷ xs) (y ∷ ys) = ap (λ t. (x, y) ∷ t) (zip-take xs ys)
+
+zip-append : {X Y : Type 0} (xs more : List X) (ys others : List Y) → length ys ≡ length xs → zip (xs ++ more) (ys ++ others) ≡ zip xs ys ++ zip more others
+zip-append [] more [] others e = refl
+zip-append [] more (y ∷ ys) others e = absurd (omega arith)
+zip-append (x ∷ xs) more [] others e = absurd (omega arith)
+zip-append (x ∷ xs) more (y ∷ ys) others e = ap (λ t. (x, y) ∷ t) (zip-append xs more ys others (omega arith))
+
+module _ (config : MemoryConfig) where
+  abbrev writes_of : BeatOf × WBeat → List Byte
+  writes_of b = written_bytes config b.0.request b.0.beat b.1
+
+  part-writes : (a : Addr) (n k : ℕ) (ws : List WBeat) → length ws ≡ k → flat_map writes_of (zip (map (beat_of a) (range_with_len n k)) ws) ≡ all_written_bytes config a n ws
+  part-writes a n zero [] e = refl
+  part-writes a n zero (w ∷ ws) e = absurd (omega arith)
+  part-writes a n (suc k) [] e = absurd (omega arith)
+  part-writes a n (suc k) (w ∷ ws) e =
+      ap (λ t. written_bytes config a n w ++ t) (part-writes a (n + 1) k ws (omega arith) ∙ ap (λ m. all_written_bytes config a m ws) (add-one n))
+
+  parts-write : (parts : List Addr) (sent : List (List WBeat)) → map (λ (ws : List WBeat). length ws) sent ≡ map beats_of parts →
+      flat_map writes_of (zip (beats_of_parts parts) (flat_map (λ (ws : List WBeat). ws) sent)) ≡ flat_map (λ (p : Addr × List WBeat). all_written_bytes config p.0 0 p.1) (zip parts sent)
+  parts-write [] [] e = refl
+  parts-write [] (ws ∷ sent) e = absurd (cc)
+  parts-write (a ∷ parts) [] e = absurd (cc)
+  parts-write (a ∷ parts) (ws ∷ sent) e =
+      let own : length ws ≡ beats_of a = cc in
+      let rest : map (λ (ws : List WBeat). length ws) sent ≡ map beats_of parts = cc in
+      let beats : List BeatOf = map (beat_of a) (range_with_len 0 (beats_of a)) in
+      let later : List WBeat = flat_map (λ (ws : List WBeat). ws) sent in
+      let long : length ws ≡ length (map (beat_of a) (range_with_len 0 (beats_of a))) = own ∙ sym (length-map (range_with_len 0 (beats_of a)) (beat_of a) ∙ length-range_with_len 0 (beats_of a)) in
+      ap (flat_map writes_of) (zip-append beats (beats_of_parts parts) ws later long)
+      ∙ flat_map-append writes_of (zip beats ws) (zip (beats_of_parts parts) later)
+      ∙ ap (λ t. t ++ flat_map writes_of (zip (beats_of_parts parts) later)) (part-writes a 0 (beats_of a) ws own)
+      ∙ ap (λ t. all_written_bytes config a 0 ws ++ t) (parts-write parts sent rest)
+
+pub due-writes : DueWritesAreOfParts
+due-writes config share e =
+    ap (flat_map (writes_of config)) (zip-take (beats_of_parts share.parts) (flat_map (λ (ws : List WBeat). ws) share.write_data))
+    ∙ parts-write config share.parts share.write_data e
