@@ -1,5 +1,6 @@
 //! A memory at the end of a link: it takes the writes and reads that come, and answers them in the
-//! order in which they came.
+//! order in which they came. Each may be any legal burst on its bus of 4 to 128 bytes, of all three
+//! kinds, with unaligned starts, narrow beats and any strobes.
 //!
 //! A memory keeps the bytes of the lines that a run may write; all other bytes have its fill value.
 //! A contract sees it as the record of its arguments, its open requests and its bytes, and as what
