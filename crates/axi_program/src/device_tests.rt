@@ -8,10 +8,15 @@ use std::test::Fail;
 /// The input: a write, and a read of what it wrote.
 const INPUT: &[u8] = b"%%\nwrite m 1 0x10 4 incr 11223344\nwait m\nread m 2 0x10 4 incr 1\n";
 
-/// The lines of its run, and how many bytes of them stand after each line.
-const TEXT: &[u8] = b"1 write m 1 5 okay\n2 read m 6 9 okay:11223344\nrounds 9\n";
-
-const ENDS: [usize; 4] = [0, 19, 46, 55];
+/// The first lines of its run: none to all three.
+fn first_lines(count: u64) -> &'static [u8] {
+    match count {
+        0 => b"",
+        1 => b"1 write m 1 5 okay\n",
+        2 => b"1 write m 1 5 okay\n2 read m 6 9 okay:11223344\n",
+        _ => b"1 write m 1 5 okay\n2 read m 6 9 okay:11223344\nrounds 9\n",
+    }
+}
 
 /// What the top call answers over this source and this sink, and what it writes.
 fn compare(
@@ -19,14 +24,14 @@ fn compare(
     source: &mut MemorySource,
     sink: &mut MemorySink,
     status: Status,
-    written: usize,
+    lines: u64,
 ) -> Result<(), Fail> {
     let alloc = rt.alloc();
     let mut words = Vec::new(alloc);
     words.push(String::from_str(alloc, "axinet")?)?;
     words.push(String::from_str(alloc, "run")?)?;
     assert_eq!(rt; axinet(alloc, &words, source, sink, &OpenGate), status);
-    assert_eq!(rt; sink.bytes(), &TEXT[..written]);
+    assert_eq!(rt; sink.bytes(), first_lines(lines));
     Ok(())
 }
 
@@ -35,12 +40,12 @@ fn source_that_fails(
     rt: &(impl Alloc<A = Global> + Abort),
     call: u64,
     status: Status,
-    written: usize,
+    lines: u64,
 ) -> Result<(), Fail> {
     let alloc = rt.alloc();
     let mut source = MemorySource::new(INPUT.to_vec(alloc)?, [call].to_vec(alloc)?, 16);
     let mut sink = MemorySink::new(alloc, 100, Vec::new(alloc), 100)?;
-    compare(rt, &mut source, &mut sink, status, written)
+    compare(rt, &mut source, &mut sink, status, lines)
 }
 
 /// The call of this number fails of a sink that takes each piece whole.
@@ -48,12 +53,12 @@ fn sink_that_fails(
     rt: &(impl Alloc<A = Global> + Abort),
     call: u64,
     status: Status,
-    written: usize,
+    lines: u64,
 ) -> Result<(), Fail> {
     let alloc = rt.alloc();
     let mut source = MemorySource::new(INPUT.to_vec(alloc)?, Vec::new(alloc), 100);
     let mut sink = MemorySink::new(alloc, 100, [call].to_vec(alloc)?, 100)?;
-    compare(rt, &mut source, &mut sink, status, written)
+    compare(rt, &mut source, &mut sink, status, lines)
 }
 
 #[test]
@@ -62,20 +67,15 @@ fn a_failing_source_is_a_read_fault(rt: HostRuntime) -> Result<(), Fail> {
     for call in 1..6 {
         source_that_fails(&rt, call, Status::ReadFault, 0)?;
     }
-    source_that_fails(&rt, 6, Status::Done, ENDS[3])
+    source_that_fails(&rt, 6, Status::Done, 3)
 }
 
 #[test]
 fn a_failing_sink_is_a_write_fault(rt: HostRuntime) -> Result<(), Fail> {
     for call in 1..4 {
-        sink_that_fails(
-            &rt,
-            call,
-            Status::WriteFault,
-            ENDS[usize::from(call as u8) - 1],
-        )?;
+        sink_that_fails(&rt, call, Status::WriteFault, call - 1)?;
     }
-    sink_that_fails(&rt, 4, Status::Done, ENDS[3])
+    sink_that_fails(&rt, 4, Status::Done, 3)
 }
 
 #[test]
@@ -83,5 +83,5 @@ fn devices_of_one_byte_make_the_same_text(rt: HostRuntime) -> Result<(), Fail> {
     let alloc = rt.alloc();
     let mut source = MemorySource::new(INPUT.to_vec(alloc)?, Vec::new(alloc), 1);
     let mut sink = MemorySink::new(alloc, 100, Vec::new(alloc), 1)?;
-    compare(&rt, &mut source, &mut sink, Status::Done, ENDS[3])
+    compare(&rt, &mut source, &mut sink, Status::Done, 3)
 }
