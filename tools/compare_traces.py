@@ -16,12 +16,7 @@ import sys
 
 TOP = os.path.dirname(os.path.dirname(os.path.abspath(__file__)))
 PROGRAM = os.path.join(TOP, 'crates', 'axinet', 'out', 'axinet')
-NETWORK = b'''version = 1
-node = [
- {name="m", kind="manager", bus=4, id_width=4, to="ram"},
- {name="ram", kind="memory", bus=4, base=0, size=8192},
-]
-'''
+NETWORK = open(os.path.join(TOP, 'tools', 'built_in.toml'), 'rb').read()
 
 
 def call(program, words, data):
