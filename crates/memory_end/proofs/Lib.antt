@@ -18,6 +18,7 @@ pub mod ReadAccess
 pub mod ReadLemmas
 pub mod ReadSteps
 pub mod ReadTracks
+pub mod RowFacts
 pub mod StayLemmas
 pub mod StoreLemmas
 pub mod TrackFacts

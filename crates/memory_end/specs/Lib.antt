@@ -7,6 +7,7 @@ pub mod MemoryInside
 pub mod MemoryState
 pub mod MemoryTable
 pub mod MemoryTrail
+pub mod RowLaws
 pub mod Status
 pub mod Store
 pub mod StoreInside

@@ -2,6 +2,7 @@
 
 ghost use Rattle.memory_end.specs.BurstBytes.{BeatsAreInLines, DueReadsAreOfParts, DueWritesAreOfParts, LanesAreBytes, LinesAreOfBurst, ReadsBurstBytes, StatusOfBurstBytes, StatusOfWrittenBytes, WritesBeatBytes, WritesBurstBytes};
 ghost use Rattle.memory_end.specs.Laws.{KeepsArguments, MovesAlwaysFit, NewIsMemory, StaysMemory};
+ghost use Rattle.memory_end.specs.RowLaws.{RowsAreDone};
 ghost use Rattle.memory_end.specs.Store.{ReadsOthers, ReadsWritten};
 
 /// The laws of a memory's bytes and of its table.
@@ -15,6 +16,9 @@ pub fn laws()
     ensures opens { NewIsMemory }
     ensures stays { StaysMemory }
     ensures keeps { KeepsArguments }
+
+    // What a row of its table can do in a round is done in that round.
+    ensures rows { RowsAreDone }
 
     // Its beats are those of legal bursts: their lines, and the bytes that they read and write.
     ensures bytes { LanesAreBytes }

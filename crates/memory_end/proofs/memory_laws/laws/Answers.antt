@@ -2,6 +2,7 @@ use Rattle.memory_end.proofs.BurstFacts.{beats-in_lines, lanes-are_bytes, lines-
 use Rattle.memory_end.proofs.DueFacts.{due-reads, due-writes}
 use Rattle.memory_end.proofs.FitLemmas.{memory-fits}
 use Rattle.memory_end.proofs.ReadLemmas.{reads-written, reads-others}
+use Rattle.memory_end.proofs.RowFacts.{rows-are_done}
 use Rattle.memory_end.proofs.StayLemmas.{memory-keeps, memory-stays, new-is_memory}
 use Rattle.memory_end.proofs.memory_laws.laws.Goals as goal
 
@@ -52,3 +53,6 @@ returns-clause-due_reads c = due-reads
 
 pub returns-clause-due_writes : goal.returns-clause-due_writes
 returns-clause-due_writes c = due-writes
+
+pub returns-clause-rows : goal.returns-clause-rows
+returns-clause-rows c = rows-are_done
