@@ -5,7 +5,8 @@ use Rattle.std.specs.Fmt.{digits}
 use Rattle.axi_beats.specs.declared.response.Resp.TheVariants.{Okay, SlvErr, DecErr}
 use Rattle.plain_text.specs.Printing.{pairs}
 use Rattle.axi_program.specs.Refusals.{no_separator, not_built}
-use Rattle.axi_program.specs.Text.{answer_line, refusal_line, rounds_line, run_text}
+use Rattle.axi_program.specs.Text.{refusal_line, rounds_line, run_text}
+use Rattle.trace_text.specs.AnswerLine.{answer_line}
 use Rattle.axi_program.specs.Traffic.{request_for, strobed}
 
 refusal_lines : map refusal_line (no_separator ∷ not_built 0 ∷ not_built 17 ∷ []) ≡ codes "refused 3 NoSeparator\n" ∷ codes "refused 23 NotBuilt 0\n" ∷ codes "refused 23 NotBuilt 17\n" ∷ []

@@ -20,7 +20,8 @@ use Rattle.net_rounds.specs.Run.{run_length}
 use Rattle.axi_program.proofs.TextLaws.{answer_lines-next}
 use Rattle.axi_program.specs.Faults.{Rose}
 use Rattle.axi_program.specs.Outcome.{Answers, Stalls, line_at, noted_answers, parting, run_end, run_outcome, run_rounds, text_of, text_of_net, traced}
-use Rattle.axi_program.specs.Text.{answer_line, answer_lines, rounds_line, run_text}
+use Rattle.axi_program.specs.Text.{answer_lines, rounds_line, run_text}
+use Rattle.trace_text.specs.AnswerLine.{answer_line}
 use Rattle.axi_program.specs.Trace.{HasRun, traced_by}
 use Rattle.axi_program.specs.Traffic.{manager_name}
 use Rattle.axi_program.specs.Transfers.{AppendsPrefix}

@@ -4,11 +4,11 @@
 //! of a phase pass, each with what it promises and with the implementations that stand in memory and over the
 //! runtime's streams. `status` has the answers of the top call.
 //!
-//! `document` reads the input, and its lines by `traffic`, to the manager's script. `texts` and `answer_text` write
-//! what the program says.
+//! `words` has the commands. `document` reads a document, and its lines by `traffic`, to the manager's script;
+//! `run` runs it, with the lines of its `trace` where they are asked for. `check` judges a trace. `texts` writes what
+//! the program says, and `refuse` the line of a refusal. `top` is the call that puts them together.
 #![tactic(auto)]
 
-mod answer_text;
 mod check;
 #[cfg(test)]
 mod device_tests;
@@ -27,7 +27,6 @@ mod trace_tests;
 mod traffic;
 mod words;
 
-pub use answer_text::render_answer;
 pub use document::{DocumentFault, INPUT_LIMIT, read_document};
 pub use outside::gate::{Gate, OpenGate};
 pub use outside::memory_sink::MemorySink;

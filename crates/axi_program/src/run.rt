@@ -13,7 +13,6 @@ ghost use Rattle.axi_program.specs.Text.{answer_lines};
 ghost use Rattle.axi_program.specs.Trace.{HasRun, traced_by};
 ghost use Rattle.axi_program.specs.Transfers.{AppendsPrefix};
 
-use crate::answer_text::render_answer;
 use crate::outside::sink::Sink;
 use crate::outside::source::Failed;
 use crate::outside::write_all::write_piece;
@@ -24,6 +23,7 @@ use manager_end::{Manager, Script};
 use net_rounds::Net;
 use plain_text::line_buffer::LineBuffer;
 use std::alloc::Global;
+use trace_text::render_answers;
 
 /// The name of the built-in manager.
 const MANAGER: &str = "m";
@@ -147,7 +147,7 @@ fn render_place(line: &mut LineBuffer, manager: &Manager, place: u32)
     ensures { line.new ≡ line_at manager.now.state.script manager.now.state.answers place }
 {
     match manager.answer(place) {
-        Some(answer) => render_answer(line, MANAGER, manager.script().txn(place), answer),
+        Some(answer) => render_answers(line, MANAGER, manager.script().txn(place), answer),
         None => unreachable!(),
     }
 }

@@ -1,3 +1,4 @@
+pub mod AnswerLemmas
 pub mod BeatForms
 pub mod FieldForms
 pub mod KnownLines

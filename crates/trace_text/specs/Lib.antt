@@ -1,3 +1,4 @@
+pub mod AnswerLine
 pub mod Form
 pub mod Line
 pub mod LineLaws

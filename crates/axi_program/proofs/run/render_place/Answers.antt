@@ -5,7 +5,7 @@ use Rattle.manager_end.specs.declared.script.Txn.{Txn}
 use Rattle.std.specs.Prelude.{Option, Some, option_map, slice_get}
 use Rattle.std.specs.Option.{option_copied}
 use Rattle.axi_program.proofs.RunLaws.{item-at, line_at-is, not-missing, noted-at, short-at, size-at}
-use Rattle.axi_program.specs.Text.{answer_line}
+use Rattle.trace_text.specs.AnswerLine.{answer_line}
 use Rattle.axi_program.specs.Traffic.{manager_name}
 use Rattle.axi_program.proofs.run.render_place.Goals as goal
 
@@ -18,14 +18,14 @@ told c = ap (λ script. option_map (λ (item : ScriptItem). item.txn) (slice_get
 noted : (c : goal.After-txn) → slice_get c.args.manager.now.state.answers c.args.place ≡ Some c.in-Some.answer.now
 noted c = noted-at _ _ (sym c.answer.ensures ∙ ap option_copied c.in-Some.is)
 
-pub render_answer-requires-clause-width : goal.render_answer-requires-clause-width
-render_answer-requires-clause-width c = size-at c.args.manager.now.state.script c.args.place c.txn.result.now c.requires.script (told c)
+pub render_answers-requires-clause-width : goal.render_answers-requires-clause-width
+render_answers-requires-clause-width c = size-at c.args.manager.now.state.script c.args.place c.txn.result.now c.requires.script (told c)
 
-pub render_answer-requires-clause-beats : goal.render_answer-requires-clause-beats
-render_answer-requires-clause-beats c = (short-at c.args.manager.now.state.answers c.args.place _ c.requires.notes.short (noted c)).responses
+pub render_answers-requires-clause-beats : goal.render_answers-requires-clause-beats
+render_answers-requires-clause-beats c = (short-at c.args.manager.now.state.answers c.args.place _ c.requires.notes.short (noted c)).responses
 
-pub render_answer-requires-clause-bytes : goal.render_answer-requires-clause-bytes
-render_answer-requires-clause-bytes c = (short-at c.args.manager.now.state.answers c.args.place _ c.requires.notes.short (noted c)).bytes
+pub render_answers-requires-clause-bytes : goal.render_answers-requires-clause-bytes
+render_answers-requires-clause-bytes c = (short-at c.args.manager.now.state.answers c.args.place _ c.requires.notes.short (noted c)).bytes
 
 pub unreachable-requires : goal.unreachable-requires
 unreachable-requires c =
@@ -38,4 +38,4 @@ returns c =
     let noted = noted-at _ _ (sym c.answer.ensures ∙ ap option_copied c.in-Some.is) in
     let at = item-at c.args.manager.now.state.script c.args.place c.txn.result.now told in
     let line = line_at-is c.args.manager.now.state.script c.args.manager.now.state.answers c.args.place at.0 c.in-Some.answer.now at.1 noted in
-    c.render_answer.ensures ∙ ap (λ (t : Txn). answer_line manager_name t c.in-Some.answer.now) (sym at.2) ∙ sym line
+    c.render_answers.ensures ∙ ap (λ (t : Txn). answer_line manager_name t c.in-Some.answer.now) (sym at.2) ∙ sym line

@@ -1,5 +1,5 @@
-use Rattle.axi_program.proofs.TextLaws.{written-more}
-use Rattle.axi_program.proofs.answer_text.push_beats.Goals as goal
+use Rattle.trace_text.proofs.AnswerLemmas.{written-more}
+use Rattle.trace_text.proofs.answers.push_beats.Goals as goal
 
 pub loop-beat-preserved : goal.loop-beat-preserved
 loop-beat-preserved c =

@@ -3,19 +3,19 @@
 //! The call replaces the bytes of a line buffer by one line with its line feed, and takes no memory.
 
 ghost use Rattle.std.specs.Prelude.{◌≡◌, ◌≤◌, ◌+◌, ◌*◌, ◌++◌, drop, length, take};
-ghost use Rattle.axi_program.specs.Text.{answer_line, beat_text, direction, outcome, read_outcome, response_name, write_outcome};
+ghost use Rattle.trace_text.specs.AnswerLine.{answer_line, beat_text, direction, outcome, read_outcome, response_name, write_outcome};
 
 use axi_beats::Resp;
 use manager_end::{Answer, Txn};
 use plain_text::line_buffer::LineBuffer;
 
-/// Writes the line of a transaction: its number, its direction, the name of its manager, which has at most 32
+/// Writes the line of a transaction and its answer: its number, its direction, the name of its manager, which has at most 32
 /// bytes, the rounds of its issue and of its answer, and what came for it.
 ///
 /// The transaction has beats of at most 128 bytes, and its answer at most 256 beats of 4096 bytes in all, as for any
 /// burst.
-#[tactic(auto, unfolding(crate::specs::Text::answer_line))]
-pub fn render_answer(line: &mut LineBuffer, manager: &str, txn: &Txn, answer: &Answer)
+#[tactic(auto, unfolding(crate::specs::AnswerLine::answer_line))]
+pub fn render_answers(line: &mut LineBuffer, manager: &str, txn: &Txn, answer: &Answer)
     requires name { length manager.now ≤ 32 }
     requires width { txn.now.request.size ≤ 7 }
     requires beats { length answer.now.resps ≤ 256 }

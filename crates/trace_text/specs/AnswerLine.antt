@@ -1,0 +1,43 @@
+-- The line of a transaction and its answer (Arm IHI 0022, read and write response structure).
+use Rattle.std.specs.Prelude.{ℕ, ◌^◌, Bool, List, [], ◌∷◌, ◌++◌, take, drop, if◌then◌else◌, codes}
+use Rattle.std.specs.Fmt.{decimal}
+use Rattle.axi_beats.specs.declared.response.Resp.{Resp}
+use Rattle.axi_beats.specs.declared.response.Resp.TheVariants.{Okay, SlvErr, DecErr}
+use Rattle.manager_end.specs.Answer.{AnswerView}
+use Rattle.manager_end.specs.declared.script.Txn.{Txn}
+use Rattle.plain_text.specs.Printing.{pairs}
+
+-- how a response is written
+abbrev pub response_name : Resp → List ℕ
+response_name Okay = codes "okay"
+response_name SlvErr = codes "slverr"
+response_name DecErr = codes "decerr"
+
+-- the one response to a write
+abbrev pub write_outcome : List Resp → List ℕ
+write_outcome [] = []
+write_outcome (resp ∷ more) = codes " " ++ response_name resp
+
+-- one beat of a read: its response and its bytes
+abbrev pub beat_text : Resp → List ℕ → List ℕ
+beat_text resp bytes = codes " " ++ response_name resp ++ codes ":" ++ pairs bytes
+
+-- all beats of a read, of which each has so many bytes
+abbrev pub read_outcome : ℕ → List Resp → List ℕ → List ℕ
+read_outcome width [] bytes = []
+read_outcome width (resp ∷ more) bytes = beat_text resp (take width bytes) ++ read_outcome width more (drop width bytes)
+
+-- what came for a transaction
+abbrev pub outcome : Txn → AnswerView → List ℕ
+outcome txn answer =
+    if txn.write then write_outcome answer.resps
+    else read_outcome (2 ^ txn.request.size) answer.resps answer.bytes
+
+-- whether it wrote or read
+abbrev pub direction : Bool → List ℕ
+direction write = if write then codes " write " else codes " read "
+
+-- `<number> write|read <manager> <issued> <answered>`, and what came
+unfoldable pub answer_line : List ℕ → Txn → AnswerView → List ℕ
+answer_line manager txn answer =
+    decimal txn.number ++ direction txn.write ++ manager ++ codes " " ++ decimal answer.issued ++ codes " " ++ decimal answer.answered ++ outcome txn answer ++ codes "\n"
