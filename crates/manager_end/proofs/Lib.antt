@@ -1,6 +1,8 @@
 pub mod AfterLemmas
+pub mod AnswerLemmas
 pub mod AskLaws
 pub mod BeatLemmas
+pub mod BurstLemmas
 pub mod DirectionLemmas
 pub mod EntryLemmas
 pub mod HeldLemmas
@@ -14,6 +16,7 @@ pub mod PassedLemmas
 pub mod PlaceLemmas
 pub mod RowLemmas
 pub mod ScriptLemmas
+pub mod SendingLemmas
 pub mod StepLemmas
 pub mod TrailLaws
 pub mod TrailLemmas

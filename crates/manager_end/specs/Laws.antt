@@ -1,8 +1,9 @@
 -- What holds of the manager's table, whatever the links bring.
 use Rattle.std.specs.Prelude.{◌≡◌, ◌<◌, ℕ, List, true, All, IsSome, length}
-use Rattle.axi_beats.specs.Word.{IsWholeWord, IsBusWidth}
+use Rattle.axi_beats.specs.Word.{IsBusWidth}
 use Rattle.axi_link.specs.Fits.{MovesFit}
 use Rattle.axi_link.specs.LinkView.{LinkView}
+use Rattle.burst_address.specs.Legal.{IsLegal}
 use Rattle.manager_end.specs.ManagerState.{ManagerState, IsManager, answer_of, is_done, new_manager}
 use Rattle.manager_end.specs.ManagerTable.{manager_next, manager_out}
 use Rattle.manager_end.specs.Script.{ScriptItem, IsScript}
@@ -14,7 +15,7 @@ ManagerMovesFit = (links : List LinkView) (s : ManagerState) → MovesFit links 
 -- what holds of a manager holds of one that has issued nothing
 abbrev pub ManagerBegins : Type 0
 ManagerBegins =
-    (script : List ScriptItem) (lower bus : ℕ) → IsScript script → IsBusWidth bus → All (λ (item : ScriptItem). IsWholeWord bus item.txn.request) script →
+    (script : List ScriptItem) (lower bus : ℕ) → IsScript script → IsBusWidth bus → All (λ (item : ScriptItem). IsLegal item.txn.request bus) script →
     IsManager (new_manager script lower bus)
 
 -- what holds of a manager holds after a round

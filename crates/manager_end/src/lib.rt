@@ -9,11 +9,13 @@
 mod answer;
 mod answers;
 mod beats;
+mod burst;
 mod direction;
 mod entry;
 mod manager;
 mod manager_laws;
 mod script;
+mod sending;
 #[cfg(test)]
 mod tests;
 
