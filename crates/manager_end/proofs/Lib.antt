@@ -4,6 +4,7 @@ pub mod AskLaws
 pub mod BeatLemmas
 pub mod BurstLemmas
 pub mod DirectionLemmas
+pub mod DueLemmas
 pub mod EntryLemmas
 pub mod HeldLemmas
 pub mod IssueLemmas
