@@ -21,4 +21,5 @@ pub mod SendingLemmas
 pub mod StepLemmas
 pub mod TrailLaws
 pub mod TrailLemmas
+pub mod TurnLemmas
 pub mod WaitingLemmas
