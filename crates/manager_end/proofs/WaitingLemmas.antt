@@ -7,10 +7,12 @@ use Rattle.std.proofs.lemmas.List.{get_or-set_same, get_or-set_other, map-append
 use Rattle.std.proofs.lemmas.List.Elements.{All-cons, All-head, All-tail}
 use Rattle.std.proofs.lemmas.List.Sums.{sum_by-set}
 use Rattle.std.proofs.lemmas.Option.{slice_get_within, get_or_from_slice_get}
+use Rattle.axi_beats.specs.declared.beat.RBeat.{RBeat}
+use Rattle.axi_link.specs.Table.{passing}
 use Rattle.flight.specs.Entries.{place_of, without_oldest}
-use Rattle.manager_end.specs.Answer.{AnswerView, unanswered, issued_in, noted}
+use Rattle.manager_end.specs.Answer.{AnswerView, is_last, unanswered, issued_in, noted}
 use Rattle.manager_end.specs.ManagerState.{IsDue, AreWaiting, AreDistinct, waiting, is_answered}
-use Rattle.manager_end.specs.ManagerTable.{answering, left_waiting, with_issued}
+use Rattle.manager_end.specs.ManagerTable.{answering, ending, left_waiting, with_issued}
 use Rattle.manager_end.specs.Script.{ScriptItem}
 use Rattle.manager_end.specs.declared.direction.Direction.{Direction}
 use Rattle.manager_end.specs.declared.entry.Entry.{Entry}
@@ -294,6 +296,22 @@ module _ {X : Type 0} where
         | Some e ↦ λ some. ap (λ (id : ℕ). without_oldest (λ (entry : Entry). entry.id) id entries) (oldest-id (id_of head) entries e some)
       ]
       in go (find (λ (entry : Entry). entry.id == id_of head) entries) refl
+
+-- those that are left where the last answer comes to the one that was looked for
+pub left-ending : (answers : List AnswerView) (entries : List Entry) (head : RBeat) (place : ℕ) → option_map (λ (entry : Entry). entry.place) (find (λ (entry : Entry). entry.id == head.id) entries) ≡ Some place → is_last (get_or answers place (unanswered 0)) ≡ true →
+    left_waiting (ending answers (answering (λ (beat : RBeat). beat.id) entries (Some head))) entries ≡ without_oldest (λ (entry : Entry). entry.id) head.id entries
+left-ending answers entries head place at last =
+    let go : (o : Option Entry) → find (λ (entry : Entry). entry.id == head.id) entries ≡ o → option_map (λ (entry : Entry). entry.place) o ≡ Some place →
+    left_waiting (ending answers (option_map (λ (entry : Entry). (entry, head)) o)) entries ≡ without_oldest (λ (entry : Entry). entry.id) head.id entries =
+    elim [
+      | None ↦ λ none there. absurd (cc)
+      | Some e ↦ λ some there.
+          let same : e.place ≡ place = inner e.place place there
+          in let ends : is_last (get_or answers e.place (unanswered 0)) ≡ true = subst (λ (q : ℕ). is_last (get_or answers q (unanswered 0)) ≡ true) (sym same) last
+          in let passed : Bool → List Entry = λ b. left_waiting {X = RBeat} (passing b (Some (e, head))) entries
+          in ap passed ends ∙ ap (λ (id : ℕ). without_oldest (λ (entry : Entry). entry.id) id entries) (oldest-id head.id entries e some)
+    ]
+    in go (find (λ (entry : Entry). entry.id == head.id) entries) refl at
 
 pub direction-same : (new old : Direction) (entries : List Entry) → new.places ≡ old.places → new.issued ≡ old.issued → new.entries ≡ entries → new ≡ record old { entries = entries }
 direction-same new old entries places issued waits =

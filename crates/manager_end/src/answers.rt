@@ -1,8 +1,9 @@
 //! `Answers`, seen in clauses as the list of what is noted of each transaction of a script.
 
 ghost use Rattle.std.specs.Prelude.{◌≡◌, ◌<◌, ◌≤◌, ◌^◌, [], length, map, slice_get, slice_index_or};
-ghost use Rattle.std.specs.Prelude.{All, Some, IfOk, false, true};
+ghost use Rattle.std.specs.Prelude.{All, Some, IfOk, false, true, if◌then◌else◌};
 ghost use Rattle.axi_beats.specs.Word.{IsBusWidth};
+ghost use Rattle.burst_address.specs.Bytes.{burst_bytes};
 ghost use Rattle.burst_address.specs.Legal.{IsLegal};
 ghost use Rattle.manager_end.specs.Answer.{answered_in, awaited_of, is_last, issued_in, noted};
 ghost use Rattle.manager_end.specs.Answer.{unanswered};
@@ -12,7 +13,7 @@ ghost use Rattle.manager_end.specs.ManagerTable.{read_in};
 use crate::answer::Answer;
 use crate::burst::burst_count;
 use crate::script::{Script, Txn};
-use axi_beats::{NoMemory, RBeat, Resp};
+use axi_beats::{Addr, NoMemory, RBeat, Resp};
 use std::alloc::Global;
 use std::marker::Model;
 
@@ -40,7 +41,7 @@ impl Answers {
         let mut items = Vec::new(alloc);
         for n in 0..script.len() {
             let txn = script.txn(n);
-            let answer = Answer::new(alloc, due_resps(txn), due_bytes(txn))?;
+            let answer = Answer::new(alloc, due_resps(txn), due_bytes(txn.write, script.request(n)))?;
             if items.push(answer).is_err() {
                 return Err(NoMemory);
             }
@@ -92,7 +93,7 @@ impl Answers {
             (read_in round bus (slice_get script.now place) beat.now) self.old }
         ensures last { result ≡ is_last (slice_index_or self.old place (unanswered 0)) }
     {
-        let request = &script.txn(place).request;
+        let request = script.request(place);
         self.items[place as usize].note_data(round, request, bus, beat)
     }
 }
@@ -109,15 +110,11 @@ fn due_resps(txn: &Txn) -> usize
     }
 }
 
-/// How many bytes a transaction reads.
-fn due_bytes(txn: &Txn) -> usize
-    requires start { txn.now.request.addr < 2 ^ 63 }
-    requires legal { IsLegal txn.now.request 128 }
-    ensures { result ≡ due_bytes txn.now }
+/// How many bytes a write reads, which is none, or a read with this request.
+fn due_bytes(write: bool, request: &Addr) -> usize
+    requires start { request.now.addr < 2 ^ 63 }
+    requires legal { IsLegal request.now 128 }
+    ensures { result ≡ (if write then 0 else length (burst_bytes request.now)) }
 {
-    if txn.write {
-        0
-    } else {
-        burst_count(&txn.request)
-    }
+    if write { 0 } else { burst_count(request) }
 }

@@ -75,16 +75,16 @@ fn next_beat(script: &Script, place: u32, bus: u8, sending: &Sending) -> WBeat
     ensures { option_map (λ item. data_beat item bus sending.now.beats)
         (slice_get script.now place) ≡ Some result }
 {
-    let txn = script.txn(place);
+    let request = script.request(place);
     let bytes = script.bytes(place);
-    let (low, high) = lanes(&txn.request, sending.beats, bus);
+    let (low, high) = lanes(request, sending.beats, bus);
     let end = sending.bytes + usize::from(high - low) + 1;
     let (lanes, strobe) = on_lanes(part(bytes, sending.bytes, end), low);
     WBeat {
         lanes,
         strobe,
-        last: sending.beats == u32::from(txn.request.len),
-        tag: tag(txn),
+        last: sending.beats == u32::from(request.len),
+        tag: tag(script.txn(place)),
     }
 }
 

@@ -157,7 +157,7 @@ impl Manager {
         );
         set_take(&mut self.out.b_take, self.lower, written);
         set_take(&mut self.out.r_take, self.lower, got.is_some());
-        self.answered += u32::from(written) + u32::from(got == Some(true));
+        self.answered += u32::from(written) + u32::from(got.unwrap_or(false));
         self.sending.step(&self.script, data);
         issue(
             &mut self.writes,

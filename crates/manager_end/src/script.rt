@@ -95,11 +95,20 @@ impl Script {
     /// The transaction at place `n`, counted from 0, which is below the length.
     pub fn txn(&self, n: u32) -> &Txn
         requires { n < length self.now }
-        ensures value { option_map (λ item. item.txn) (slice_get self.now n) ≡ Some result.now }
-        ensures start { result.now.request.addr < 2 ^ 63 }
-        ensures legal { IsLegal result.now.request 128 }
+        ensures { option_map (λ item. item.txn) (slice_get self.now n) ≡ Some result.now }
     {
         &self.items[n as usize].txn
+    }
+
+    /// The request of the transaction at place `n`, which is below the length.
+    pub(crate) fn request(&self, n: u32) -> &Addr
+        requires { n < length self.now }
+        ensures value { option_map (λ item. item.txn.request) (slice_get self.now n)
+            ≡ Some result.now }
+        ensures start { result.now.addr < 2 ^ 63 }
+        ensures legal { IsLegal result.now 128 }
+    {
+        &self.items[n as usize].txn.request
     }
 
     /// The bytes that were pushed with the transaction at place `n`, which is below the length.

@@ -27,7 +27,7 @@ impl Sending {
         let Some(place) = place else {
             return;
         };
-        let request = &script.txn(place).request;
+        let request = script.request(place);
         if self.beats == u32::from(request.len) {
             self.writes += 1;
             self.beats = 0;

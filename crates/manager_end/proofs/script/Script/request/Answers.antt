@@ -2,7 +2,7 @@ use Rattle.std.proofs.Common.{◌<◌, ap, arith, length, subst, sym}
 use Rattle.std.proofs.lemmas.List.{length-map}
 use Rattle.manager_end.specs.ScriptInside.{item_view}
 use Rattle.manager_end.proofs.ScriptLemmas.{item-can}
-use Rattle.manager_end.proofs.script.Script.txn.Goals as goal
+use Rattle.manager_end.proofs.script.Script.request.Goals as goal
 
 pub returns-clause-start : goal.returns-clause-start
 returns-clause-start c =
