@@ -1,6 +1,7 @@
 pub mod AfterLemmas
 pub mod AnswerLemmas
 pub mod AskLaws
+pub mod AskedLemmas
 pub mod BeatLemmas
 pub mod BurstLemmas
 pub mod DirectionLemmas
@@ -18,6 +19,7 @@ pub mod PlaceLemmas
 pub mod RowLemmas
 pub mod ScriptLemmas
 pub mod SendingLemmas
+pub mod SentLemmas
 pub mod StepLemmas
 pub mod TrailLaws
 pub mod TrailLemmas
