@@ -84,6 +84,7 @@ sent-prefix bus sent beats transactions =
   where
     front-of : {X : Type 0} (n : ℕ) (xs : List X) → IsPrefix (take n xs) xs
     front-of n xs = record { rest = drop n xs; whole = sym (take-append-drop n xs) }
+
     prefix_then : {X : Type 0} {xs ys zs : List X} → IsPrefix xs ys → IsPrefix ys zs → IsPrefix xs zs
     prefix_then {xs = xs} one other = record { rest = one.rest ++ other.rest; whole = other.whole ∙ ap (λ ws. ws ++ other.rest) one.whole ∙ append_assoc xs one.rest other.rest }
 

@@ -148,4 +148,3 @@ module _ (plan : Schedule) (bus : ℕ) (script : List ScriptItem) (planned : IsP
           in let same : here.0.0 ≡ own_at.0 = number-once script planned.numbered here.0.0 own_at.0 here.0.1 own.item place.0 own_at.1 (ap (λ (x : Asked). x.number) here.2 ∙ sym own.same_number)
           in let one : here.0.1 ≡ own.item = same_Some here.0.1 own.item (sym place.0 ∙ ap (slice_get script) same ∙ own_at.1)
           in absurd (apart (ap (λ (x : Asked). x.id) (sym here.2) ∙ ap (λ (i : ScriptItem). i.txn.request.id) one ∙ own.same_id ∙ ap (λ (x : Asked). x.id) there.2))
-

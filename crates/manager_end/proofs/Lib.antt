@@ -25,3 +25,4 @@ pub mod TrailLaws
 pub mod TrailLemmas
 pub mod TurnLemmas
 pub mod WaitingLemmas
+pub mod WordLemmas

@@ -97,6 +97,7 @@ beats-most sent beats transactions (Some x) next most =
     none-yet : (o : Option (ℕ × ScriptItem)) → IfSome o (λ (next : ℕ × ScriptItem). 0 ≤ next.1.txn.request.len)
     none-yet None = tt
     none-yet (Some p) = omega arith
+
     one-more : (k len : ℕ) → k ≤ len → k ≢ len → k + 1 ≤ len
     one-more k len le apart = elim (cases_order k len) [ inl same ↦ absurd (apart same) | inr other ↦ elim other [ inl less ↦ omega arith | inr above ↦ absurd (omega arith) ] ]
 

@@ -77,12 +77,12 @@ sending-next script sending (Some x) next within =
     elim [
       | true ↦ λ last. sending-first script (sending.writes + 1) (sending.writes + 1)
       | false ↦ λ some. subst (λ (o : Option (ℕ × ScriptItem)). IfSome o (λ (next : ℕ × ScriptItem). IsWithin (after false) next.1)) (sym at) (record {
-          write = own.write;
-          beats = below sending.beats x.1.txn.request.len own.beats (eqb-false sending.beats x.1.txn.request.len some);
-          bytes =
-              let one : suc sending.beats ≡ sending.beats + 1 = omega arith
-              in ap (λ (k : ℕ). k + length (beat_bytes x.1.txn.request sending.beats)) own.bytes ∙ sym (bytes-next x.1.txn.request sending.beats) ∙ ap (λ (k : ℕ). length (bytes_before x.1.txn.request k)) one;
-        })
+        write = own.write;
+        beats = below sending.beats x.1.txn.request.len own.beats (eqb-false sending.beats x.1.txn.request.len some);
+        bytes =
+            let one : suc sending.beats ≡ sending.beats + 1 = omega arith
+            in ap (λ (k : ℕ). k + length (beat_bytes x.1.txn.request sending.beats)) own.bytes ∙ sym (bytes-next x.1.txn.request sending.beats) ∙ ap (λ (k : ℕ). length (bytes_before x.1.txn.request k)) one;
+      })
     ]
     in go (sending.beats == x.1.txn.request.len) refl
   where

@@ -41,7 +41,11 @@ impl Answers {
         let mut items = Vec::new(alloc);
         for n in 0..script.len() {
             let txn = script.txn(n);
-            let answer = Answer::new(alloc, due_resps(txn), due_bytes(txn.write, script.request(n)))?;
+            let answer = Answer::new(
+                alloc,
+                due_resps(txn),
+                due_bytes(txn.write, script.request(n)),
+            )?;
             if items.push(answer).is_err() {
                 return Err(NoMemory);
             }
