@@ -7,6 +7,8 @@ use Rattle.std.proofs.KnownBytes.{Appends-trans}
 use Rattle.std.proofs.lemmas.List.{take-append-le, take_all}
 use Rattle.std.proofs.lemmas.Option.{get_or_from_slice_get, slice_get-get_or, slice_get_within}
 use Rattle.std.proofs.Math.Seq.{take-append-add}
+use Rattle.burst_address.proofs.Legality.{legal-size}
+use Rattle.burst_address.proofs.Numbers.{exponent_below}
 use Rattle.manager_end.specs.Answer.{AnswerView}
 use Rattle.manager_end.specs.ManagerState.{ManagerState, answered_one, is_answered}
 use Rattle.manager_end.specs.Script.{CanPush, IsScript, ScriptItem}
@@ -40,7 +42,9 @@ pub size-at : (script : List ScriptItem) (place : ℕ) (txn : Txn) → IsScript 
 size-at script place txn pushed told =
     let at = item-at script place txn told in
     let can : CanPush (take place script) (at.0).txn (at.0).bytes = subst (λ (o : Option ScriptItem). IfSome o (λ item. CanPush (take place script) item.txn item.bytes)) at.1 (pushed place) in
-    subst (λ (t : Txn). t.request.size ≤ 7) at.2 can.size
+    let below = exponent_below (at.0).txn.request.size (legal-size (at.0).txn.request 128 can.legal) in
+    let small : (at.0).txn.request.size ≤ 7 = omega (arith, below) in
+    subst (λ (t : Txn). t.request.size ≤ 7) at.2 small
 
 -- an answer that came is what is noted
 pub noted-at : (o : Option AnswerView) (a : AnswerView) → answered_one o ≡ Some a → o ≡ Some a

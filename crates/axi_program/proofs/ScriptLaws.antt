@@ -1,11 +1,15 @@
 -- Scripts that grow by one transaction.
-use Rattle.std.proofs.Common.{◌≡◌, ℕ, ◌+◌, ◌^◌, ◌<◌, zero, suc, List, [], ◌∷◌, ◌++◌, length, refl, subst, sym, arith}
+use Rattle.std.proofs.Common.{◌≡◌, ℕ, ◌+◌, ◌^◌, ◌-◌, ◌<◌, ◌∙◌, zero, suc, Bool, true, false, cond, List, [], ◌∷◌, ◌++◌, length, refl, subst, sym, arith}
 use Rattle.std.specs.Prelude.{IfSome, slice_get}
 use Rattle.std.proofs.lemmas.List.Elements.{All-push}
-use Rattle.manager_end.specs.Script.{ScriptItem}
+use Rattle.burst_address.specs.Bytes.{burst_bytes}
+use Rattle.manager_end.proofs.WordLemmas.{word-bytes, word-legal}
+use Rattle.manager_end.specs.Script.{CanPush, ScriptItem}
+use Rattle.manager_end.specs.declared.script.Txn.{Txn}
+use Rattle.manager_end.specs.declared.script.WriteByte.{WriteByte}
 use Rattle.axi_beats.specs.declared.beat.Addr.{Addr}
 use Rattle.axi_program.specs.declared.traffic.Access.{Access}
-use Rattle.axi_program.specs.Traffic.{IsAccess, FitsNetwork, IsNetworkScript, request_for}
+use Rattle.axi_program.specs.Traffic.{IsAccess, FitsNetwork, IsInOrder, IsNetworkScript, request_for}
 
 module _ {X : Type 0} where
   -- what holds of each element and its place holds after one more
@@ -25,6 +29,20 @@ fits-request item access is in_range =
       inside = in_range.inside;
       id = in_range.id;
     })
+
+-- it can be pushed
+pub can-push : (script : List ScriptItem) (txn : Txn) (bytes : List WriteByte) (access : Access) → txn.request ≡ request_for access → IsAccess access → length bytes ≡ cond txn.write 4 0 → IsInOrder script txn.after → length script < 2 ^ 32 - 1 → CanPush script txn bytes
+can-push script txn bytes access is in_range sent order short =
+    let word = (fits-request (record { txn = txn; bytes = bytes }) access is in_range).word in
+    let go : (write : Bool) → length bytes ≡ cond write 4 0 → length bytes ≡ cond write (length (burst_bytes txn.request)) 0 =
+    λ write. elim write as (λ write. length bytes ≡ cond write 4 0 → length bytes ≡ cond write (length (burst_bytes txn.request)) 0) [ true ↦ λ e. e ∙ sym (word-bytes txn.request 4 word) | false ↦ λ e. e ] in
+    record {
+      start = word.small;
+      legal = word-legal txn.request 4 word 128 refl (omega arith);
+      bytes_sent = go txn.write sent;
+      after = order;
+      short = short;
+    }
 
 -- the script after one more transaction
 pub suits-push : (script after : List ScriptItem) (item : ScriptItem) (access : Access) → after ≡ script ++ item ∷ [] → item.txn.request ≡ request_for access → IsAccess access

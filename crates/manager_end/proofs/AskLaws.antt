@@ -1,181 +1,112 @@
 -- A manager asks on its link as it should.
-use Rattle.std.proofs.Common.{◌≡◌, ◌≢◌, ◌⊎◌, ℕ, ◌<◌, ◌≤◌, ◌==◌, ◌^◌, suc, Bool, true, false, List, [], ◌∷◌, ◌++◌, Some, All, length, map, take, refl, sym, ◌∙◌, ap, subst, inl, inr, arith, append_assoc, append-nil}
-use Rattle.std.specs.Prelude.{IsTrue, flat_map, slice_get}
-use Rattle.std.proofs.lemmas.Bool.{cases_eq, eq-eqb}
-use Rattle.std.proofs.lemmas.List.{length-map, take_at, take-map}
-use Rattle.std.proofs.lemmas.List.Elements.{All-head, All-tail}
-use Rattle.std.proofs.lemmas.Option.{same_Some}
+use Rattle.std.proofs.Common.{◌≡◌, ◌≢◌, ℕ, ◌+◌, ◌<◌, zero, suc, Bool, true, false, List, [], ◌∷◌, ◌++◌, Option, Some, None, All, map, take, take-append-drop, refl, sym, ◌∙◌, ap, subst, inl, inr, arith, append_assoc, append-nil, eq-eqb}
+use Rattle.std.specs.List.{range_with_len}
+use Rattle.std.specs.Prelude.{IsTrue, drop, flat_map, slice_get}
+use Rattle.std.proofs.lemmas.Bool.{cases_eq, ne_eqb}
+use Rattle.std.proofs.lemmas.List.{map-append}
+use Rattle.std.proofs.lemmas.List.Concat.{flat_map-append}
 use Rattle.std.proofs.lemmas.Simd.{map-map}
 use Rattle.axi_beats.specs.declared.beat.Addr.{Addr}
 use Rattle.axi_beats.specs.declared.beat.WBeat.{WBeat}
+use Rattle.burst_address.specs.Formulas.{beats_of}
 use Rattle.flight.specs.Entries.{of_key}
-use Rattle.axi_trail.proofs.FilterFacts.{of_key-cons, of_key-map, of_key-skip}
+use Rattle.axi_trail.proofs.FilterFacts.{of_key-append, of_key-cons, of_key-skip}
 use Rattle.axi_trail.proofs.MarkFacts.{prefix_agree}
-use Rattle.axi_trail.proofs.PrefixFacts.{prefix_map, prefix_same, prefix_of_same, prefix_take}
+use Rattle.axi_trail.proofs.PrefixFacts.{Agree_fronts, prefix_after, prefix_flat_map, prefix_map, prefix_of_key, prefix_of_same, prefix_same}
 use Rattle.axi_trail.proofs.StreamFacts.{prefix_itself, prefix_nil}
-use Rattle.axi_trail.specs.LinkContracts.{OneIdAtATime, Requests, WholeBeforeTheNext, without_id}
-use Rattle.axi_trail.specs.Schedule.{Progress, SameChain, Schedule}
+use Rattle.axi_trail.specs.LinkContracts.{OneIdAtATime, Requests, WholeBeforeTheNext}
+use Rattle.axi_trail.specs.Schedule.{Progress, Schedule}
 use Rattle.axi_trail.specs.Streams.{Agree, IsPrefix}
 use Rattle.axi_trail.specs.Trail.{Beats}
-use Rattle.axi_trail.specs.Words.{Asked, Mark, Reply, announced_marks, burst_asked, burst_marks, data_marks, mark_of_data, marks, number_of_address, number_of_asked, number_of_data, read_replies, write_replies}
-use Rattle.manager_end.specs.Beats.{data_of, request_of as request_of_item}
+use Rattle.axi_trail.specs.Words.{Asked, Mark, Reply, announced_marks, burst_asked, burst_marks, data_marks, mark_of_data, marks, marks_of, number_of_data, read_replies, write_replies}
+use Rattle.manager_end.specs.Beats.{data_beat, data_beats, request_of as request_of_item}
 use Rattle.manager_end.specs.ManagerOrder.{IsAt, note_at}
 use Rattle.manager_end.specs.ManagerState.{ManagerState, issued_of, of_direction, writes_of}
-use Rattle.manager_end.specs.ManagerTrail.{HasItem, IsItsOwn, IsPlanOf, ManagerAsks, ManagerKeeps, shares_of}
+use Rattle.manager_end.specs.ManagerTrail.{HasItem, IsPlanOf, ManagerAsks, ManagerKeeps, first_data, shares_of}
 use Rattle.manager_end.specs.Script.{ScriptItem}
-use Rattle.manager_end.proofs.HeldLemmas.{asked_by, len_of_item}
-use Rattle.manager_end.proofs.ListLemmas.{map-from, take-from, take-has}
-use Rattle.manager_end.proofs.NumberLemmas.{all-at, at-all, at-contains, number-before, number-once, number_of_item}
-use Rattle.manager_end.proofs.PlaceLemmas.{direction-at, direction-before, direction-of, direction-once, filter-has}
-use Rattle.manager_end.proofs.TrailLemmas.{items-single}
+use Rattle.manager_end.proofs.AskedLemmas.{ids-asked, lone-numbers, lone-of_key, one-asked, parts-asked, whole-asked}
+use Rattle.manager_end.proofs.HeldLemmas.{asked_by}
+use Rattle.manager_end.proofs.ListLemmas.{map-from, take-from, take-one}
+use Rattle.manager_end.proofs.NumberLemmas.{all-at, at-all, number_of_item}
+use Rattle.manager_end.proofs.PlaceLemmas.{direction-at}
+use Rattle.manager_end.proofs.SentLemmas.{data_of_first}
 
--- a key stands at one place
-abbrev IsLone : {X : Type 0} → (X → ℕ) → List X → Type 0
-IsLone {X} key_of xs = (j k : ℕ) (x y : X) → slice_get xs j ≡ Some x → slice_get xs k ≡ Some y → key_of x ≡ key_of y → j ≡ k
+-- the data of a transaction has its number
+data-numbers : (bus t : ℕ) (p : ℕ × ScriptItem) (ks : List ℕ) → number_of_item p ≡ t → of_key number_of_data t (map (data_beat p.1 bus) ks) ≡ map (data_beat p.1 bus) ks
+data-numbers bus t p [] own = refl
+data-numbers bus t p (k ∷ ks) own = of_key-cons number_of_data t (data_beat p.1 bus k) (map (data_beat p.1 bus) ks) own ∙ ap (λ (ws : List WBeat). data_beat p.1 bus k ∷ ws) (data-numbers bus t p ks own)
 
-module _ {X : Type 0} (key_of : X → ℕ) (key : ℕ) where
-  none-of_key : (xs : List X) → ((k : ℕ) (x : X) → slice_get xs k ≡ Some x → key_of x ≢ key) → of_key key_of key xs ≡ []
-  none-of_key [] none = refl
-  none-of_key (x ∷ xs) none = of_key-skip key_of key x xs (none 0 x refl) ∙ none-of_key xs (λ k y at. none (suc k) y at)
+data-others : (bus t : ℕ) (p : ℕ × ScriptItem) (ks : List ℕ) → number_of_item p ≢ t → of_key number_of_data t (map (data_beat p.1 bus) ks) ≡ []
+data-others bus t p [] other = refl
+data-others bus t p (k ∷ ks) other = of_key-skip number_of_data t (data_beat p.1 bus k) (map (data_beat p.1 bus) ks) other ∙ data-others bus t p ks other
 
-  -- so at most one item has it
-  lone-of_key : (xs : List X) → IsLone key_of xs → (of_key key_of key xs ≡ []) ⊎ ((k : ℕ) × (x : X) × (slice_get xs k ≡ Some x) × (key_of x ≡ key) × (of_key key_of key xs ≡ x ∷ []))
-  lone-of_key [] lone = inl refl
-  lone-of_key (x ∷ xs) lone = elim (cases_eq (key_of x) key) [
-    | inl own ↦
-        let others : of_key key_of key xs ≡ [] = none-of_key xs (λ k y at same. let one = lone 0 (suc k) x y refl at (own ∙ sym same) in absurd (omega arith))
-        in inr (0, x, refl, own, of_key-cons key_of key x xs own ∙ ap (λ ys. x ∷ ys) others)
-    | inr other ↦ elim (lone-of_key xs (λ j k y z at_y at_z same. let one = lone (suc j) (suc k) y z at_y at_z same in omega arith)) [
-      | inl none ↦ inl (of_key-skip key_of key x xs other ∙ none)
-      | inr one ↦ inr (suc one.0, one.1, one.2, one.3, of_key-skip key_of key x xs other ∙ one.4)
+-- of all data the beats of a number are those of its transactions
+data-of_number : (bus t : ℕ) (ps : List (ℕ × ScriptItem)) → of_key number_of_data t (flat_map (λ (p : ℕ × ScriptItem). data_beats p.1 bus) ps) ≡ flat_map (λ (p : ℕ × ScriptItem). data_beats p.1 bus) (of_key number_of_item t ps)
+data-of_number bus t [] = refl
+data-of_number bus t (p ∷ ps) =
+    of_key-append number_of_data t (data_beats p.1 bus) (flat_map (λ (q : ℕ × ScriptItem). data_beats q.1 bus) ps)
+    ∙ elim (cases_eq (number_of_item p) t) [
+      | inl own ↦
+          ap (λ (ws : List WBeat). ws ++ of_key number_of_data t (flat_map (λ (q : ℕ × ScriptItem). data_beats q.1 bus) ps)) (data-numbers bus t p (range_with_len 0 (beats_of p.1.txn.request)) own)
+          ∙ ap (λ (ws : List WBeat). data_beats p.1 bus ++ ws) (data-of_number bus t ps)
+          ∙ ap (flat_map (λ (q : ℕ × ScriptItem). data_beats q.1 bus)) (sym (of_key-cons number_of_item t p ps own))
+      | inr other ↦
+          ap (λ (ws : List WBeat). ws ++ of_key number_of_data t (flat_map (λ (q : ℕ × ScriptItem). data_beats q.1 bus) ps)) (data-others bus t p (range_with_len 0 (beats_of p.1.txn.request)) other)
+          ∙ data-of_number bus t ps
+          ∙ ap (flat_map (λ (q : ℕ × ScriptItem). data_beats q.1 bus)) (sym (of_key-skip number_of_item t p ps other))
     ]
-  ]
 
-  -- and exactly one, where one has it
-  one-of_key : (xs : List X) → IsLone key_of xs → (k : ℕ) (x : X) → slice_get xs k ≡ Some x → key_of x ≡ key → length (of_key key_of key xs) ≡ 1
-  one-of_key xs lone k x at own = elim (lone-of_key xs lone) [
-    | inl none ↦
-        let has : (n : ℕ) × (slice_get (of_key key_of key xs) n ≡ Some x) = filter-has (λ y. key_of y == key) xs k x at (eq-eqb (key_of x) key own)
-        in absurd (nothing has.0 x (ap (λ ys. slice_get ys has.0) (sym none) ∙ has.1))
-    | inr one ↦ ap length one.4
-  ]
-    where
-      nothing : (n : ℕ) (x : X) → slice_get [] n ≡ Some x → ⊥
-      nothing n x at = cc
-
-lone-take : {X : Type 0} (key_of : X → ℕ) (n : ℕ) (xs : List X) → IsLone key_of xs → IsLone key_of (take n xs)
-lone-take key_of n xs lone j k x y at_x at_y same = lone j k x y (take-from n xs j x at_x).1 (take-from n xs k y at_y).1 same
-
--- what stands in the middle
-middle : {X : Type 0} (xs : List X) (x : X) (ys : List X) → slice_get (xs ++ x ∷ ys) (length xs) ≡ Some x
-middle [] x ys = refl
-middle (z ∷ zs) x ys = middle zs x ys
-
-module _ (plan : Schedule) (bus : ℕ) (script : List ScriptItem) (planned : IsPlanOf plan bus script) (write : Bool) where
-  lone-numbers : IsLone number_of_item (of_direction write script)
-  lone-numbers j k p q at_p at_q same =
-      let place = number-once script planned.numbered p.0 q.0 p.1 q.1 (direction-at write script j p at_p).0 (direction-at write script k q at_q).0 same
-      in direction-once write script j k p q at_p at_q place
-
-  -- the schedule has a transaction of the direction
-  part-of : (k : ℕ) (p : ℕ × ScriptItem) → slice_get (of_direction write script) k ≡ Some p → (shares_of plan write p.1.txn.number).parts ≡ without_id (request_of_item p.1) ∷ []
-  part-of k p at =
-      let place = direction-at write script k p at
-      in subst (λ (way : Bool). (shares_of plan way p.1.txn.number).parts ≡ without_id (request_of_item p.1) ∷ []) place.1 (at-all (HasItem plan bus) script p.0 p.1 planned.items place.0).parts
-
-  -- its chain has the others of its ID
-  own-of : (k : ℕ) (p : ℕ × ScriptItem) (t : ℕ) → slice_get (of_direction write script) k ≡ Some p → SameChain (shares_of plan write) t p.1.txn.number → IsItsOwn script write p.1.txn.request.id t
-  own-of k p t at chain =
-      let place = direction-at write script k p at
-      in let own = at-all (λ (item : ScriptItem). (number : ℕ) → SameChain (shares_of plan item.txn.write) number item.txn.number → IsItsOwn script item.txn.write item.txn.request.id number) script p.0 p.1 planned.chains place.0
-      in subst (λ (way : Bool). SameChain (shares_of plan way) t p.1.txn.number → IsItsOwn script way p.1.txn.request.id t) place.1 (own t) chain
-
-  module _ (n : ℕ) where
-    parts-asked : (t : ℕ) → IsPrefix (map without_id (of_key number_of_address t (map (λ (p : ℕ × ScriptItem). request_of_item p.1) (take n (of_direction write script))))) (shares_of plan write t).parts
-    parts-asked t =
-        let own : of_key number_of_address t (map (λ (p : ℕ × ScriptItem). request_of_item p.1) (take n (of_direction write script))) ≡ map (λ (p : ℕ × ScriptItem). request_of_item p.1) (of_key number_of_item t (take n (of_direction write script))) =
-        of_key-map number_of_address (λ (p : ℕ × ScriptItem). request_of_item p.1) t (take n (of_direction write script))
-        in elim (lone-of_key number_of_item t (take n (of_direction write script)) (lone-take number_of_item n (of_direction write script) lone-numbers)) [
-          | inl none ↦ prefix_same (ap (map without_id) (own ∙ ap (map (λ (p : ℕ × ScriptItem). request_of_item p.1)) none)) (prefix_nil (shares_of plan write t).parts)
-          | inr one ↦
-              let parts : (shares_of plan write t).parts ≡ without_id (request_of_item one.1.1) ∷ [] =
-              ap (λ (k : ℕ). (shares_of plan write k).parts) (sym one.3) ∙ part-of one.0 one.1 (take-from n (of_direction write script) one.0 one.1 one.2).1
-              in prefix_same (ap (map without_id) (own ∙ ap (map (λ (p : ℕ × ScriptItem). request_of_item p.1)) one.4)) (prefix_of_same (prefix_itself (without_id (request_of_item one.1.1) ∷ [])) (sym parts))
-        ]
-
-    ids-asked : All (λ (a : Addr). a.id < 2 ^ plan.id_width) (map (λ (p : ℕ × ScriptItem). request_of_item p.1) (take n (of_direction write script)))
-    ids-asked = all-at (λ (a : Addr). a.id < 2 ^ plan.id_width) (map (λ (p : ℕ × ScriptItem). request_of_item p.1) (take n (of_direction write script))) (λ k a at.
-        let from : (p : ℕ × ScriptItem) × (slice_get (take n (of_direction write script)) k ≡ Some p) × (request_of_item p.1 ≡ a) = map-from (λ (p : ℕ × ScriptItem). request_of_item p.1) (take n (of_direction write script)) k a at
-        in let place = direction-at write script k from.0 (take-from n (of_direction write script) k from.0 from.1).1
-        in subst (λ (b : Addr). b.id < 2 ^ plan.id_width) from.2 (at-all (HasItem plan bus) script from.0.0 from.0.1 planned.items place.0).id_fits)
-
-    module _ (len_of : Addr → ℕ) where
-      -- the item behind a request
-      item-at : (k : ℕ) (a : Asked) → slice_get (map (asked_by len_of) (take n (of_direction write script))) k ≡ Some a →
-          (p : ℕ × ScriptItem) × (slice_get (take n (of_direction write script)) k ≡ Some p) × (asked_by len_of p ≡ a) × (slice_get (of_direction write script) k ≡ Some p)
-      item-at k a at =
-          let from : (p : ℕ × ScriptItem) × (slice_get (take n (of_direction write script)) k ≡ Some p) × (asked_by len_of p ≡ a) = map-from (asked_by len_of) (take n (of_direction write script)) k a at
-          in (from.0, from.1, from.2, (take-from n (of_direction write script) k from.0 from.1).1)
-
-      whole-asked : WholeBeforeTheNext (shares_of plan write) (map (asked_by len_of) (take n (of_direction write script)))
-      whole-asked before a after t split comes =
-          let here = item-at (length before) a (ap (λ (xs : List Asked). slice_get xs (length before)) split ∙ middle before a after)
-          in let number : here.0.1.txn.number ≡ a.number = ap (λ (x : Asked). x.number) here.2
-          in let own = own-of (length before) here.0 t here.3 (comes.1 ∙ ap (λ (k : ℕ). (shares_of plan write k).chain) (sym number))
-          in let own_at = at-contains script own.item own.among
-          in let own_way : (i : ℕ) × (slice_get (of_direction write script) i ≡ Some (own_at.0, own.item)) = direction-of write script own_at.0 own.item own_at.1 own.direction
-          in let place = direction-at write script (length before) here.0 here.3
-          in let earlier : own_at.0 < here.0.0 = number-before script planned.numbered own_at.0 here.0.0 own.item here.0.1 own_at.1 place.0 (omega (arith, own.same_number, number, comes.0))
-          in let less : own_way.0 < length before = direction-before write script own_way.0 (length before) (own_at.0, own.item) here.0 own_way.1 here.3 earlier
-          in let front : before ≡ map (asked_by len_of) (take (length before) (take n (of_direction write script))) =
-          sym (take_at before (a ∷ after) (length before) refl) ∙ ap (take (length before)) (sym split) ∙ take-map (asked_by len_of) (length before) (take n (of_direction write script))
-          in let within : own_way.0 < n = let first = take-from n (of_direction write script) (length before) here.0 here.1 in omega (arith, first.0)
-          in let inside : slice_get (take (length before) (take n (of_direction write script))) own_way.0 ≡ Some (own_at.0, own.item) =
-          take-has (length before) (take n (of_direction write script)) own_way.0 (own_at.0, own.item) less (take-has n (of_direction write script) own_way.0 (own_at.0, own.item) within own_way.1)
-          in let lone = lone-take number_of_item (length before) (take n (of_direction write script)) (lone-take number_of_item n (of_direction write script) lone-numbers)
-          in ap (λ (xs : List Asked). length (of_key number_of_asked t xs)) front
-          ∙ ap length (of_key-map number_of_asked (asked_by len_of) t (take (length before) (take n (of_direction write script))))
-          ∙ length-map (of_key number_of_item t (take (length before) (take n (of_direction write script)))) (asked_by len_of)
-          ∙ one-of_key number_of_item t (take (length before) (take n (of_direction write script))) lone own_way.0 (own_at.0, own.item) inside own.same_number
-          ∙ sym (ap length (ap (λ (k : ℕ). (shares_of plan write k).parts) (sym own.same_number) ∙ part-of own_way.0 (own_at.0, own.item) own_way.1))
-
-      one-asked : (replies : List Reply) → OneIdAtATime (shares_of plan write) (map (asked_by len_of) (take n (of_direction write script))) replies
-      one-asked replies before a between next after split chain apart =
-          let there = item-at (length (before ++ a ∷ between)) next (ap (λ (xs : List Asked). slice_get xs (length (before ++ a ∷ between))) split ∙ middle (before ++ a ∷ between) next after)
-          in let here = item-at (length before) a (ap (λ (xs : List Asked). slice_get xs (length before)) (split ∙ append_assoc before (a ∷ between) (next ∷ after)) ∙ middle before a (between ++ next ∷ after))
-          in let own = own-of (length (before ++ a ∷ between)) there.0 a.number there.3 (chain ∙ ap (λ (k : ℕ). (shares_of plan write k).chain) (sym (ap (λ (x : Asked). x.number) there.2)))
-          in let own_at = at-contains script own.item own.among
-          in let place = direction-at write script (length before) here.0 here.3
-          in let same : here.0.0 ≡ own_at.0 = number-once script planned.numbered here.0.0 own_at.0 here.0.1 own.item place.0 own_at.1 (ap (λ (x : Asked). x.number) here.2 ∙ sym own.same_number)
-          in let one : here.0.1 ≡ own.item = same_Some here.0.1 own.item (sym place.0 ∙ ap (slice_get script) same ∙ own_at.1)
-          in absurd (apart (ap (λ (x : Asked). x.id) (sym here.2) ∙ ap (λ (i : ScriptItem). i.txn.request.id) one ∙ own.same_id ∙ ap (λ (x : Asked). x.id) there.2))
-
--- the data of a transaction, and the marks of it
-data-asked : (plan : Schedule) (bus n : ℕ) (script : List ScriptItem) → IsPlanOf plan bus script → (t : ℕ) → IsPrefix (of_key number_of_data t (map (λ (p : ℕ × ScriptItem). data_of p.1) (take n (writes_of script)))) (flat_map (λ beats. beats) (plan.writes t).write_data)
-data-asked plan bus n script planned t =
-    let own : of_key number_of_data t (map (λ (p : ℕ × ScriptItem). data_of p.1) (take n (writes_of script))) ≡ map (λ (p : ℕ × ScriptItem). data_of p.1) (of_key number_of_item t (take n (writes_of script))) =
-    of_key-map number_of_data (λ (p : ℕ × ScriptItem). data_of p.1) t (take n (writes_of script))
-    in elim (lone-of_key number_of_item t (take n (writes_of script)) (lone-take number_of_item n (writes_of script) (lone-numbers plan bus script planned true))) [
-      | inl none ↦ prefix_same (own ∙ ap (map (λ (p : ℕ × ScriptItem). data_of p.1)) none) (prefix_nil (flat_map (λ beats. beats) (plan.writes t).write_data))
+-- the data of a transaction is the schedule's
+data-asked : (plan : Schedule) (bus : ℕ) (script : List ScriptItem) → IsPlanOf plan bus script → (t : ℕ) → IsPrefix (of_key number_of_data t (flat_map (λ (p : ℕ × ScriptItem). data_beats p.1 bus) (writes_of script))) (flat_map (λ beats. beats) (plan.writes t).write_data)
+data-asked plan bus script planned t =
+    let own = data-of_number bus t (writes_of script)
+    in elim (lone-of_key number_of_item t (writes_of script) (lone-numbers plan bus script planned true)) [
+      | inl none ↦ prefix_same (own ∙ ap (flat_map (λ (p : ℕ × ScriptItem). data_beats p.1 bus)) none) (prefix_nil (flat_map (λ beats. beats) (plan.writes t).write_data))
       | inr one ↦
-          let place = direction-at true script one.0 one.1 (take-from n (writes_of script) one.0 one.1 one.2).1
-          in let beats_due : (plan.writes t).write_data ≡ (data_of one.1.1 ∷ []) ∷ [] =
-          ap (λ (k : ℕ). (plan.writes k).write_data) (sym one.3) ∙ (at-all (HasItem plan bus) script one.1.0 one.1.1 planned.items place.0).write_data place.1
-          in prefix_same (own ∙ ap (map (λ (p : ℕ × ScriptItem). data_of p.1)) one.4) (prefix_of_same (prefix_itself (data_of one.1.1 ∷ [])) (sym (ap (flat_map (λ (beats : List WBeat). beats)) beats_due)))
+          let place = direction-at true script one.0 one.1 one.2
+          in let beats_due : (plan.writes t).write_data ≡ data_beats one.1.1 bus ∷ [] = ap (λ (k : ℕ). (plan.writes k).write_data) (sym one.3) ∙ (at-all (HasItem plan bus) script one.1.0 one.1.1 planned.items place.0).write_data place.1
+          in prefix_same (own ∙ ap (flat_map (λ (p : ℕ × ScriptItem). data_beats p.1 bus)) one.4) (prefix_of_same (prefix_itself (data_beats one.1.1 bus ++ [])) (sym (ap (flat_map (λ (beats : List WBeat). beats)) beats_due)))
     ]
 
--- the mark of a transaction's one beat
-abbrev mark_of_item : ℕ × ScriptItem → Mark
-mark_of_item p = record { number = p.1.txn.number; last = true }
+-- what was sent is the first of all data
+sent-prefix : (bus sent beats : ℕ) (transactions : List (ℕ × ScriptItem)) → IsPrefix (data_of_first bus transactions sent beats) (flat_map (λ (p : ℕ × ScriptItem). data_beats p.1 bus) transactions)
+sent-prefix bus sent beats transactions =
+    let go : (o : Option (ℕ × ScriptItem)) → slice_get transactions sent ≡ o → IsPrefix (flat_map (λ (p : ℕ × ScriptItem). data_beats p.1 bus) (take sent transactions) ++ first_data bus beats o) (flat_map (λ (p : ℕ × ScriptItem). data_beats p.1 bus) transactions) =
+    elim [
+      | None ↦ λ none. prefix_same (append-nil (flat_map (λ (p : ℕ × ScriptItem). data_beats p.1 bus) (take sent transactions))) (prefix_flat_map (λ (p : ℕ × ScriptItem). data_beats p.1 bus) (front-of sent transactions))
+      | Some x ↦ λ at.
+          let next : flat_map (λ (p : ℕ × ScriptItem). data_beats p.1 bus) (take (suc sent) transactions) ≡ flat_map (λ (p : ℕ × ScriptItem). data_beats p.1 bus) (take sent transactions) ++ (data_beats x.1 bus ++ []) =
+          ap (flat_map (λ (p : ℕ × ScriptItem). data_beats p.1 bus)) (take-one sent transactions x at) ∙ flat_map-append (λ (p : ℕ × ScriptItem). data_beats p.1 bus) (take sent transactions) (x ∷ [])
+          in let part : IsPrefix (take beats (data_beats x.1 bus)) (data_beats x.1 bus ++ []) = prefix_of_same (front-of beats (data_beats x.1 bus)) (sym (append-nil (data_beats x.1 bus)))
+          in prefix_then (prefix_of_same (prefix_after (flat_map (λ (p : ℕ × ScriptItem). data_beats p.1 bus) (take sent transactions)) part) (sym next)) (prefix_flat_map (λ (p : ℕ × ScriptItem). data_beats p.1 bus) (front-of (suc sent) transactions))
+    ]
+    in go (slice_get transactions sent) refl
+  where
+    front-of : {X : Type 0} (n : ℕ) (xs : List X) → IsPrefix (take n xs) xs
+    front-of n xs = record { rest = drop n xs; whole = sym (take-append-drop n xs) }
 
-marks-single : (ps : List (ℕ × ScriptItem)) → All (λ p. len_of_item p ≡ 0) ps → marks (map (asked_by (λ a. a.len)) ps) ≡ map mark_of_item ps
-marks-single [] single = refl
-marks-single (p ∷ ps) single =
-    ap (λ (len : ℕ). burst_marks p.1.txn.number len ++ marks (map (asked_by (λ a. a.len)) ps)) (All-head (λ q. len_of_item q ≡ 0) p ps single)
-    ∙ ap (λ (ms : List Mark). record { number = p.1.txn.number; last = true } ∷ ms) (marks-single ps (All-tail (λ q. len_of_item q ≡ 0) p ps single))
+    prefix_then : {X : Type 0} {xs ys zs : List X} → IsPrefix xs ys → IsPrefix ys zs → IsPrefix xs zs
+    prefix_then {xs = xs} one other = record { rest = one.rest ++ other.rest; whole = other.whole ∙ ap (λ ws. ws ++ other.rest) one.whole ∙ append_assoc xs one.rest other.rest }
 
-take-prefix : {X : Type 0} (m n : ℕ) (xs : List X) → m ≤ n → IsPrefix (take m xs) (take n xs)
-take-prefix m n xs le = prefix_of_same (prefix_take m n xs [] le) (ap (take n) (append-nil xs))
+-- the marks of a write's data are those of its request
+data-marks : (bus : ℕ) (item : ScriptItem) (n k : ℕ) → k + n ≡ item.txn.request.len → map mark_of_data (map (data_beat item bus) (range_with_len k (suc n))) ≡ burst_marks item.txn.number n
+data-marks bus item zero k sum =
+    ap (λ (b : Bool). record { number = item.txn.number; last = b } ∷ []) (eq-eqb k item.txn.request.len (omega arith))
+data-marks bus item (suc n) k sum =
+    ap (λ (b : Bool). record { number = item.txn.number; last = b } ∷ map mark_of_data (map (data_beat item bus) (range_with_len (k + 1) (suc n)))) (ne_eqb k item.txn.request.len (λ same. omega arith))
+    ∙ ap (λ (ms : List Mark). record { number = item.txn.number; last = false } ∷ ms) (data-marks bus item n (k + 1) (omega arith))
+
+marks-of_item : (bus : ℕ) (item : ScriptItem) → map mark_of_data (data_beats item bus) ≡ burst_marks item.txn.number item.txn.request.len
+marks-of_item bus item =
+    let beats : beats_of item.txn.request ≡ suc item.txn.request.len = omega arith
+    in ap (λ (n : ℕ). map mark_of_data (map (data_beat item bus) (range_with_len 0 n))) beats ∙ data-marks bus item item.txn.request.len 0 (omega arith)
+
+marks-of_items : (bus : ℕ) (ps : List (ℕ × ScriptItem)) → map mark_of_data (flat_map (λ (p : ℕ × ScriptItem). data_beats p.1 bus) ps) ≡ marks (map (asked_by (λ a. a.len)) ps)
+marks-of_items bus [] = refl
+marks-of_items bus (p ∷ ps) =
+    map-append mark_of_data (data_beats p.1 bus) (flat_map (λ (q : ℕ × ScriptItem). data_beats q.1 bus) ps)
+    ∙ ap (λ (ms : List Mark). ms ++ map mark_of_data (flat_map (λ (q : ℕ × ScriptItem). data_beats q.1 bus) ps)) (marks-of_item bus p.1)
+    ∙ ap (λ (ms : List Mark). burst_marks p.1.txn.number p.1.txn.request.len ++ ms) (marks-of_items bus ps)
 
 module _ (plan : Schedule) (now : Progress) (rounds : ℕ) (s : ManagerState) (trail : Beats) (keeps : ManagerKeeps plan rounds s trail)
     (known : (place : ℕ) (item : ScriptItem) → IsAt s place item → 0 < (note_at s place).issued → IsTrue (now.issued item.txn.number)) where
@@ -200,22 +131,28 @@ module _ (plan : Schedule) (now : Progress) (rounds : ℕ) (s : ManagerState) (t
         was_issued = issued-asked write;
       })
 
+  sent-asked : (t : ℕ) → IsPrefix (of_key number_of_data t trail.w) (flat_map (λ beats. beats) (plan.writes t).write_data)
+  sent-asked t =
+      let own : IsPrefix (of_key number_of_data t trail.w) (of_key number_of_data t (flat_map (λ (p : ℕ × ScriptItem). data_beats p.1 s.bus) (writes_of s.script))) =
+      prefix_of_key number_of_data t (prefix_same keeps.passed.w (sent-prefix s.bus s.sent_writes s.sent_beats (writes_of s.script)))
+      in let due = data-asked plan s.bus s.script keeps.planned t
+      in record { rest = own.rest ++ due.rest; whole = due.whole ∙ ap (λ (ws : List WBeat). ws ++ due.rest) own.whole ∙ append_assoc (of_key number_of_data t trail.w) own.rest due.rest }
+
   marks-agree : Agree (data_marks trail) (announced_marks trail)
   marks-agree =
-      let sent : data_marks trail ≡ map mark_of_item (take s.sent_writes (writes_of s.script)) = ap (map mark_of_data) keeps.passed.w ∙ marks-of_data (take s.sent_writes (writes_of s.script))
-      in let announced : announced_marks trail ≡ map mark_of_item (take s.issued_writes (writes_of s.script)) =
+      let sent : IsPrefix (data_marks trail) (marks (map (asked_by (λ a. a.len)) (writes_of s.script))) =
+      prefix_of_same (prefix_same (ap (map mark_of_data) keeps.passed.w) (prefix_map mark_of_data (sent-prefix s.bus s.sent_writes s.sent_beats (writes_of s.script)))) (marks-of_items s.bus (writes_of s.script))
+      in let announced : announced_marks trail ≡ marks (map (asked_by (λ a. a.len)) (take s.issued_writes (writes_of s.script))) =
       ap (λ (asked : List Asked). marks asked) (ap (map burst_asked) keeps.passed.aw ∙ map-map burst_asked (λ (p : ℕ × ScriptItem). request_of_item p.1) (take s.issued_writes (writes_of s.script)))
-      ∙ marks-single (take s.issued_writes (writes_of s.script)) (items-single true s.bus s.issued_writes s.script keeps.is_manager.words)
-      in prefix_agree (prefix_same sent (prefix_of_same (prefix_map mark_of_item (take-prefix s.sent_writes s.issued_writes (writes_of s.script) keeps.is_manager.writes_sent)) (sym announced)))
-    where
-      marks-of_data : (ps : List (ℕ × ScriptItem)) → map mark_of_data (map (λ (p : ℕ × ScriptItem). data_of p.1) ps) ≡ map mark_of_item ps
-      marks-of_data ps = map-map mark_of_data (λ (p : ℕ × ScriptItem). data_of p.1) ps
+      in let front : IsPrefix (take s.issued_writes (writes_of s.script)) (writes_of s.script) = record { rest = drop s.issued_writes (writes_of s.script); whole = sym (take-append-drop s.issued_writes (writes_of s.script)) }
+      in let shown : IsPrefix (announced_marks trail) (marks (map (asked_by (λ a. a.len)) (writes_of s.script))) = prefix_same announced (prefix_flat_map marks_of (prefix_map (asked_by (λ a. a.len)) front))
+      in Agree_fronts sent shown (prefix_agree (prefix_itself (marks (map (asked_by (λ a. a.len)) (writes_of s.script)))))
 
 -- a manager that keeps its invariant asks as it should
 pub manager-asks : ManagerAsks
 manager-asks plan now rounds s trail keeps known = record {
   writes = requests-asked plan now rounds s trail keeps known true (λ a. 0) trail.aw (write_replies trail) keeps.passed.aw;
   reads = requests-asked plan now rounds s trail keeps known false (λ a. a.len) trail.ar (read_replies trail) keeps.passed.ar;
-  data_is_the_schedules = λ t. prefix_same (ap (of_key number_of_data t) keeps.passed.w) (data-asked plan s.bus s.sent_writes s.script keeps.planned t);
+  data_is_the_schedules = λ t. sent-asked plan now rounds s trail keeps known t;
   data_follows_addresses = marks-agree plan now rounds s trail keeps known;
 }

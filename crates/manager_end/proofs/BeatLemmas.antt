@@ -1,26 +1,41 @@
 -- Lanes and strobes, byte by byte.
-use Rattle.std.proofs.Common.{◌≡◌, ℕ, ◌+◌, ◌-◌, ◌*◌, ◌^◌, ◌<◌, ◌≤◌, ◌%◌, suc, Bool, true, false, cond, List, [], ◌∷◌, ◌++◌, length, map, set, take, get_or, refl, sym, ◌∙◌, ap, subst, arith, length-append, length-take}
+use Rattle.std.proofs.Common.{◌≡◌, ℕ, ◌+◌, ◌-◌, ◌*◌, ◌^◌, ◌<◌, ◌≤◌, ◌%◌, zero, suc, Bool, true, false, cond, List, [], ◌∷◌, ◌++◌, length, map, set, take, get_or, refl, sym, ◌∙◌, ap, subst, arith, append_assoc, length-append, length-take}
 use Rattle.std.specs.Prelude.{replicate, bit_or}
-use Rattle.std.proofs.Math.Nat.{pow-suc, zero-mul}
+use Rattle.std.proofs.Math.Nat.{mod-eq_of_lt, mul-lt-mul_of_pos_right, pow-le-pow_right, pow-suc, zero-mul}
 use Rattle.std.proofs.lemmas.List.{length-map, map-append, take_more}
-use Rattle.std.proofs.lemmas.Nat.{one_shl, or_comm, or_shifted}
+use Rattle.std.proofs.lemmas.Nat.{one_shl, or_comm, or_shifted, pow-add, pow_pos}
 use mir.Val.{bool_byte}
-use Rattle.manager_end.specs.Beats.{lane_of, lanes_of, strobe_of}
+use Rattle.manager_end.specs.Beats.{lane_of, lanes_from, strobe_of}
 use Rattle.manager_end.specs.declared.script.WriteByte.{WriteByte}
 
-set-next : (ys : List ℕ) (m v : ℕ) → set (ys ++ replicate (suc m) 0) (length ys) v ≡ (ys ++ v ∷ []) ++ replicate m 0
+-- one more byte on the next lane
+set-next : (ys : List ℕ) (m v : ℕ) → set (ys ++ replicate (suc m) 0) (length ys) v ≡ ys ++ (v ∷ replicate m 0)
 set-next [] m v = refl
 set-next (y ∷ ys) m v = ap (λ (zs : List ℕ). y ∷ zs) (set-next ys m v)
 
--- one more byte on the next lane
-pub lanes-more : (bytes : List WriteByte) (byte : WriteByte) → length bytes < 128 → set (lanes_of bytes) (length bytes) (lane_of byte) ≡ lanes_of (bytes ++ byte ∷ [])
-lanes-more bytes byte few =
-    let m : ℕ = 128 - length (bytes ++ byte ∷ [])
-    in let left : 128 - length bytes ≡ suc m = omega (arith, length-append bytes (byte ∷ []))
-    in ap (λ (k : ℕ). set (map lane_of bytes ++ replicate k 0) (length bytes) (lane_of byte)) left
-    ∙ ap (λ (k : ℕ). set (map lane_of bytes ++ replicate (suc m) 0) k (lane_of byte)) (sym (length-map bytes lane_of))
-    ∙ set-next (map lane_of bytes) m (lane_of byte)
-    ∙ ap (λ (front : List ℕ). front ++ replicate m 0) (sym (map-append lane_of bytes (byte ∷ [])))
+set-after : (k n m v : ℕ) (ys : List ℕ) → n ≡ length ys → set (replicate k 0 ++ (ys ++ replicate (suc m) 0)) (k + n) v ≡ replicate k 0 ++ (ys ++ (v ∷ replicate m 0))
+set-after zero n m v ys long = ap (λ (k : ℕ). set (ys ++ replicate (suc m) 0) k v) (omega arith) ∙ set-next ys m v
+set-after (suc k) n m v ys long =
+    let next : suc k + n ≡ suc (k + n) = omega arith
+    in ap (λ (i : ℕ). set (0 ∷ (replicate k 0 ++ (ys ++ replicate (suc m) 0))) i v) next ∙ ap (λ (zs : List ℕ). 0 ∷ zs) (set-after k n m v ys long)
+
+pub lanes-more : (low : ℕ) (bytes : List WriteByte) (byte : WriteByte) → low + length bytes < 128 → set (lanes_from low bytes) (low + length bytes) (lane_of byte) ≡ lanes_from low (bytes ++ byte ∷ [])
+lanes-more low bytes byte few =
+    let m : ℕ = 128 - low - length (bytes ++ byte ∷ [])
+    in let left : 128 - low - length bytes ≡ suc m = omega (arith, length-append bytes (byte ∷ []))
+    in ap (λ (k : ℕ). set (replicate low 0 ++ (map lane_of bytes ++ replicate k 0)) (low + length bytes) (lane_of byte)) left
+    ∙ set-after low (length bytes) m (lane_of byte) (map lane_of bytes) (sym (length-map bytes lane_of))
+    ∙ ap (λ (back : List ℕ). replicate low 0 ++ back) (sym (append_assoc (map lane_of bytes) (lane_of byte ∷ []) (replicate m 0)) ∙ ap (λ (front : List ℕ). front ++ replicate m 0) (sym (map-append lane_of bytes (byte ∷ []))))
+
+-- no byte is there yet
+pub lanes-first : (low : ℕ) → low ≤ 128 → replicate 128 0 ≡ lanes_from low []
+lanes-first low le =
+    let sum : 128 ≡ low + (128 - low - 0) = omega arith
+    in ap (λ (n : ℕ). replicate {A = ℕ} n 0) sum ∙ zeros low (128 - low - 0)
+  where
+    zeros : (k m : ℕ) → replicate {A = ℕ} (k + m) 0 ≡ replicate k 0 ++ replicate m 0
+    zeros zero m = let same : zero + m ≡ m = omega arith in ap (λ (n : ℕ). replicate {A = ℕ} n 0) same
+    zeros (suc k) m = let next : suc k + m ≡ suc (k + m) = omega arith in ap (λ (n : ℕ). replicate {A = ℕ} n 0) next ∙ ap (λ (zs : List ℕ). 0 ∷ zs) (zeros k m)
 
 abbrev bit : Bool → ℕ
 bit b = cond b 1 0
@@ -52,17 +67,17 @@ strobe-small (x ∷ xs) =
     in elim [ true ↦ omega arith | false ↦ omega arith ]
     in go x.strobed
 
-module _ (bytes : List WriteByte) (n : ℕ) (byte : WriteByte) (more : n < length bytes) (few : length bytes ≤ 128) where
+module _ (low : ℕ) (bytes : List WriteByte) (n : ℕ) (byte : WriteByte) (more : n < length bytes) (few : low + length bytes ≤ 128) where
   length-front : length (take n bytes) ≡ n
   length-front = omega (arith, length-take n bytes)
 
   -- the next byte on its lane
-  pub lanes-step : (lanes : List ℕ) → lanes ≡ lanes_of (take n bytes) → set lanes n (lane_of (get_or bytes n byte)) ≡ lanes_of (take (n + 1) bytes)
+  pub lanes-step : (lanes : List ℕ) → lanes ≡ lanes_from low (take n bytes) → set lanes (low + n) (lane_of (get_or bytes n byte)) ≡ lanes_from low (take (n + 1) bytes)
   lanes-step lanes is =
-      ap (λ (ls : List ℕ). set ls n (lane_of (get_or bytes n byte))) is
-      ∙ ap (λ (k : ℕ). set (lanes_of (take n bytes)) k (lane_of (get_or bytes n byte))) (sym length-front)
-      ∙ lanes-more (take n bytes) (get_or bytes n byte) (omega (arith, length-front))
-      ∙ ap lanes_of (sym (take_more bytes n byte more))
+      ap (λ (ls : List ℕ). set ls (low + n) (lane_of (get_or bytes n byte))) is
+      ∙ ap (λ (k : ℕ). set (lanes_from low (take n bytes)) (low + k) (lane_of (get_or bytes n byte))) (sym length-front)
+      ∙ lanes-more low (take n bytes) (get_or bytes n byte) (omega (arith, length-front))
+      ∙ ap (lanes_from low) (sym (take_more bytes n byte more))
 
   -- the next byte's strobe
   pub strobe-step : (strobe : ℕ) → strobe ≡ strobe_of (take n bytes) → bit_or strobe (bool_byte (get_or bytes n byte).strobed * 2 ^ n % 2 ^ 128) ≡ strobe_of (take (n + 1) bytes)
@@ -78,3 +93,12 @@ module _ (bytes : List WriteByte) (n : ℕ) (byte : WriteByte) (more : n < lengt
       ∙ ap (λ (k : ℕ). strobe_of (take n bytes) + bit (get_or bytes n byte).strobed * 2 ^ k) (sym length-front)
       ∙ sym (strobe-more (take n bytes) (get_or bytes n byte))
       ∙ ap strobe_of (sym (take_more bytes n byte more))
+
+-- the strobes from a lane upwards
+pub strobe-shifted : (low : ℕ) (bytes : List WriteByte) (strobe : ℕ) → low + length bytes ≤ 128 → strobe ≡ strobe_of bytes → strobe * 2 ^ low % 2 ^ 128 ≡ strobe_of bytes * 2 ^ low
+strobe-shifted low bytes strobe few is =
+    let small = strobe-small bytes
+    in let shifted : strobe_of bytes * 2 ^ low < 2 ^ length bytes * 2 ^ low = mul-lt-mul_of_pos_right {k = 2 ^ low} small (pow_pos low)
+    in let power : 2 ^ (length bytes + low) ≡ 2 ^ length bytes * 2 ^ low = pow-add 2 (length bytes) low
+    in let most = pow-le-pow_right {n = 2} (omega arith) {i = length bytes + low} {j = 128} (omega arith)
+    in ap (λ (s : ℕ). s * 2 ^ low % 2 ^ 128) is ∙ mod-eq_of_lt {n = strobe_of bytes * 2 ^ low} {m = 2 ^ 128} (omega (arith, shifted, power, most))

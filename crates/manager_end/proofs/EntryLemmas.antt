@@ -10,16 +10,18 @@ use Rattle.axi_beats.specs.declared.beat.BBeat.{BBeat}
 use Rattle.axi_beats.specs.declared.beat.RBeat.{RBeat}
 use Rattle.axi_link.specs.LinkView.{LinkView}
 use Rattle.flight.specs.Entries.{without_oldest}
-use Rattle.manager_end.specs.Answer.{AnswerView}
+use Rattle.manager_end.specs.Answer.{AnswerView, is_last}
 use Rattle.manager_end.specs.ManagerOrder.{note_at}
 use Rattle.manager_end.specs.ManagerState.{ManagerState, IsManager, entries_of, entry_of, is_answered, issued_of, of_direction}
-use Rattle.manager_end.specs.ManagerTable.{left_waiting, manager_aw, manager_ar, manager_b, manager_r, manager_next, more, with_issued}
+use Rattle.manager_end.specs.ManagerTable.{left_waiting, manager_aw, manager_ar, manager_b, manager_r, manager_r_last, manager_next, more, with_issued}
 use Rattle.manager_end.specs.Script.{ScriptItem}
 use Rattle.manager_end.specs.declared.entry.Entry.{Entry}
+use Rattle.manager_end.proofs.DueLemmas.{last-answers, read-is}
 use Rattle.manager_end.proofs.IssueLemmas.{issued-next, next-noted, one-place}
 use Rattle.manager_end.proofs.ListLemmas.{Rise, filter-all, filter-both, filter-same, find-first, find-has, map-from, map-has, rise-filter, rise-tail, rise-take, take-from, take-has, take-one}
-use Rattle.manager_end.proofs.NoteLemmas.{Kept, Wrote, Read, Issued, change-of, b-noted, r-noted, b-taken, r-taken, mapped, next_of, next-found, next-waits, taken_of, taken-found}
+use Rattle.manager_end.proofs.NoteLemmas.{Kept, Wrote, Read, Issued, change-of, b-noted, r-noted, b-taken, r-taken, mapped, next_of, next-found, next-waits, taken_of, taken-found, taken-waits}
 use Rattle.manager_end.proofs.PlaceLemmas.{direction-rises, filter-from, filter-has}
+use Rattle.manager_end.proofs.TurnLemmas.{Same, Came, Went, leaving-taken, leaving_of, turn-of}
 
 -- the transaction isn't answered
 abbrev pub is_open : ManagerState → ℕ × ScriptItem → Bool
@@ -42,9 +44,9 @@ left-same None entries = refl
 left-same (Some x) entries = refl
 
 -- the entries of a direction after a round
-pub entries-next : (links : List LinkView) (s : ManagerState) (round : ℕ) (write : Bool) → entries_of write (manager_next round links s) ≡ with_issued (next_of links s write) (left_entries (taken_of links s write) (entries_of write s))
+pub entries-next : (links : List LinkView) (s : ManagerState) (round : ℕ) (write : Bool) → entries_of write (manager_next round links s) ≡ with_issued (next_of links s write) (left_entries (leaving_of links s write) (entries_of write s))
 entries-next links s round true = ap (with_issued (manager_aw links s)) (left-same (manager_b links s) s.write_entries)
-entries-next links s round false = ap (with_issued (manager_ar links s)) (left-same (manager_r links s) s.read_entries)
+entries-next links s round false = ap (with_issued (manager_ar links s)) (left-same (manager_r_last links s) s.read_entries)
 
 pub answered-some : (a : AnswerView) → 0 < a.answered → is_answered a ≡ true
 answered-some a some = lt-ltb 0 a.answered some
@@ -119,14 +121,22 @@ module _ (links : List LinkView) (s : ManagerState) (is : IsManager s) (waits : 
       below a b le ne = elim (cases_order a b) [ inl e ↦ absurd (ne e) | inr o ↦ elim o [ inl lt ↦ lt | inr gt ↦ absurd (omega arith) ] ]
 
   module _ (round : ℕ) (counts : 0 < round) where
-    -- an entry whose answer is taken is answered in the round
-    pub came-noted : (write : Bool) (e : Entry) → taken_of links s write ≡ Some e → (note_at (manager_next round links s) e.place).answered ≡ round
-    came-noted true e taken =
-        let x : (x : Entry × BBeat) × (manager_b links s ≡ Some x) × (x.0 ≡ e) = mapped links s (manager_b links s) e taken
-        in subst (λ (entry : Entry). (note_at (manager_next round links s) entry.place).answered ≡ round) x.2 (ap (λ (a : AnswerView). a.answered) (b-noted links s is round x.0 x.1))
-    came-noted false e taken =
-        let x : (x : Entry × RBeat) × (manager_r links s ≡ Some x) × (x.0 ≡ e) = mapped links s (manager_r links s) e taken
-        in subst (λ (entry : Entry). (note_at (manager_next round links s) entry.place).answered ≡ round) x.2 (ap (λ (a : AnswerView). a.answered) (r-noted links s is round x.0 x.1))
+    -- an entry that leaves is answered in the round
+    pub came-noted : (write : Bool) (e : Entry) → leaving_of links s write ≡ Some e → (note_at (manager_next round links s) e.place).answered ≡ round
+    came-noted write e leaves =
+        let both = leaving-taken links s is write e leaves
+        in let going : (w : Bool) → taken_of links s w ≡ Some e → (note_at (manager_next round links s) e.place).answered ≡ round =
+        elim [
+          | true ↦ λ taken.
+              let x : (x : Entry × BBeat) × (manager_b links s ≡ Some x) × (x.0 ≡ e) = mapped links s (manager_b links s) e taken
+              in subst (λ (entry : Entry). is_last (note_at s entry.place) ≡ true → (note_at (manager_next round links s) entry.place).answered ≡ round) x.2 (λ last. ap (λ (a : AnswerView). a.answered) (b-noted links s is round x.0 x.1) ∙ last-answers round x.0.1.resp [] (note_at s x.0.0.place) last) both.1
+          | false ↦ λ taken.
+              let x : (x : Entry × RBeat) × (manager_r links s ≡ Some x) × (x.0 ≡ e) = mapped links s (manager_r links s) e taken
+              in let due = taken-waits links s is false x.0.0 (r-taken links s is x.0 x.1)
+              in subst (λ (entry : Entry). is_last (note_at s entry.place) ≡ true → (note_at (manager_next round links s) entry.place).answered ≡ round) x.2
+              (λ last. ap (λ (a : AnswerView). a.answered) (r-noted links s is round x.0 x.1 ∙ read-is s.script x.0.0.place round s.bus x.0.1 (note_at s x.0.0.place) due.item due.at) ∙ last-answers round x.0.1.resp [] (note_at s x.0.0.place) last) both.1
+        ]
+        in going write both.0
 
     -- of a transaction whose answer isn't taken nothing new comes
     pub stays-same : (write : Bool) (j : ℕ) (p : ℕ × ScriptItem) → slice_get (of_direction write s.script) j ≡ Some p → ((e : Entry) → taken_of links s write ≡ Some e → p.0 ≢ e.place) →
@@ -139,25 +149,33 @@ module _ (links : List LinkView) (s : ManagerState) (is : IsManager s) (waits : 
         in elim (change-of links s round p.0 is) [
           | Kept e ↦ (ap (λ (a : AnswerView). a.resps) e, ap (λ (a : AnswerView). a.bytes) e, ap (λ (a : AnswerView). a.answered) e)
           | Wrote x taken here e ↦ absurd (not_taken true x.0 (b-taken links s is x taken) here)
-          | Read x taken here e ↦ absurd (not_taken false x.0 (r-taken links s is x taken) here)
+          | Read x taken here item item_at e ↦ absurd (not_taken false x.0 (r-taken links s is x taken) here)
           | Issued other q next here e ↦ (ap (λ (a : AnswerView). a.resps) e, ap (λ (a : AnswerView). a.bytes) e, ap (λ (a : AnswerView). a.answered) e)
         ]
 
-    pub stays-open : (write : Bool) (j : ℕ) (p : ℕ × ScriptItem) → slice_get (of_direction write s.script) j ≡ Some p → ((e : Entry) → taken_of links s write ≡ Some e → p.0 ≢ e.place) → is_answered (note_at (manager_next round links s) p.0) ≡ is_answered (note_at s p.0)
-    stays-open write j p at apart = ap (λ (n : ℕ). nat_lt 0 n) (stays-same write j p at apart).2
+    -- one that doesn't leave is answered only where it was
+    pub stays-open : (write : Bool) (j : ℕ) (p : ℕ × ScriptItem) → slice_get (of_direction write s.script) j ≡ Some p → ((e : Entry) → leaving_of links s write ≡ Some e → p.0 ≢ e.place) → is_answered (note_at (manager_next round links s) p.0) ≡ is_answered (note_at s p.0)
+    stays-open write j p at apart = elim (turn-of links s round p.0 is) [
+      | Same answered issued ↦ ap (λ (n : ℕ). nat_lt 0 n) answered
+      | Came other e leaves here answered issued ↦
+          let of_entry = taken-is other e (leaving-taken links s is other e leaves).0
+          in let ways = one-place links s write other j of_entry.0 p of_entry.1 at of_entry.2 (here ∙ ap (λ (entry : Entry). entry.place) (sym of_entry.4))
+          in absurd (apart e (ap (leaving_of links s) ways.0 ∙ leaves) here)
+      | Went other q next here issued answered ↦ ap (λ (n : ℕ). nat_lt 0 n) answered
+    ]
 
     -- the entries that are left are those of the issued ones that are still open
-    left-open : (write : Bool) (o : Option Entry) → taken_of links s write ≡ o → left_entries o (entries_of write s) ≡ map entry_of (filter (is_open (manager_next round links s)) (issued_ones write s))
+    left-open : (write : Bool) (o : Option Entry) → leaving_of links s write ≡ o → left_entries o (entries_of write s) ≡ map entry_of (filter (is_open (manager_next round links s)) (issued_ones write s))
     left-open write None taken =
         waits write
         ∙ ap (map entry_of) (filter-same (is_open s) (is_open (manager_next round links s)) (issued_ones write s) (λ k p at.
         ap not (sym (stays-open write k p (take-from (issued_of write s) (of_direction write s.script) k p at).1 (λ e some. absurd (let no : None ≡ Some e = sym taken ∙ some in cc))))))
     left-open write (Some e) taken =
         ap (without_oldest (λ (entry : Entry). entry.id) e.id) (waits write)
-        ∙ left-places e (filter (is_open s) (issued_ones write s)) (rise-filter (is_open s) (issued_ones write s) (ones-rise write s)) (ap (find (λ (entry : Entry). entry.id == e.id)) (sym (waits write)) ∙ taken-found links s write e taken)
+        ∙ left-places e (filter (is_open s) (issued_ones write s)) (rise-filter (is_open s) (issued_ones write s) (ones-rise write s)) (ap (find (λ (entry : Entry). entry.id == e.id)) (sym (waits write)) ∙ taken-found links s write e (leaving-taken links s is write e taken).0)
         ∙ ap (map entry_of) (filter-both (is_open s) (λ p. not (p.0 == e.place)) (is_open (manager_next round links s)) (issued_ones write s) (λ k p at. open-still write e taken k p at))
       where
-        open-still : (write : Bool) (e : Entry) → taken_of links s write ≡ Some e → (k : ℕ) (p : ℕ × ScriptItem) → slice_get (issued_ones write s) k ≡ Some p → is_open (manager_next round links s) p ≡ (is_open s p && not (p.0 == e.place))
+        open-still : (write : Bool) (e : Entry) → leaving_of links s write ≡ Some e → (k : ℕ) (p : ℕ × ScriptItem) → slice_get (issued_ones write s) k ≡ Some p → is_open (manager_next round links s) p ≡ (is_open s p && not (p.0 == e.place))
         open-still write e taken k p at = elim (cases_eq p.0 e.place) [
           | inl here ↦
               let now : is_answered (note_at (manager_next round links s) p.0) ≡ true =
@@ -188,5 +206,5 @@ module _ (links : List LinkView) (s : ManagerState) (is : IsManager s) (waits : 
     pub entries-stay : (write : Bool) → entries_of write (manager_next round links s) ≡ map entry_of (filter (is_open (manager_next round links s)) (issued_ones write (manager_next round links s)))
     entries-stay write =
         entries-next links s round write
-        ∙ ap (with_issued (next_of links s write)) (left-open write (taken_of links s write) refl)
+        ∙ ap (with_issued (next_of links s write)) (left-open write (leaving_of links s write) refl)
         ∙ issue-open write (next_of links s write) refl

@@ -4,19 +4,19 @@ use Rattle.std.specs.Prelude.{is_some, slice_get}
 use Rattle.std.proofs.lemmas.Bool.{cases_lt}
 use Rattle.std.proofs.lemmas.Option.{same_Some}
 use Rattle.axi_link.specs.LinkView.{LinkView}
-use Rattle.manager_end.specs.Answer.{AnswerView, unanswered, issued_in}
+use Rattle.manager_end.specs.Answer.{AnswerView, awaited_of, unanswered, issued_in}
 use Rattle.manager_end.specs.ManagerOrder.{note_at}
-use Rattle.manager_end.specs.ManagerState.{ManagerState, IsManager, NotesIssues, due_bytes, issued_of, new_manager, of_direction}
+use Rattle.manager_end.specs.ManagerState.{ManagerState, IsManager, NotesIssues, due_bytes, due_resps, issued_of, new_manager, of_direction}
 use Rattle.manager_end.specs.ManagerTable.{manager_next, more}
 use Rattle.manager_end.specs.Script.{ScriptItem}
 use Rattle.manager_end.proofs.NoteLemmas.{Kept, Wrote, Read, Issued, change-of, aw-noted, ar-noted, next_of, next-found}
 use Rattle.manager_end.proofs.PlaceLemmas.{direction-at, direction-once}
 
 -- what is noted of each transaction of a new manager
-pub new-note : (P : AnswerView → Type 0) (bus : ℕ) (script : List ScriptItem) (place : ℕ) → ((bytes : ℕ) → P (unanswered bytes)) → P (get_or (map (λ (item : ScriptItem). unanswered (due_bytes bus item.txn)) script) place (unanswered 0))
-new-note P bus [] place all = all 0
-new-note P bus (item ∷ items) zero all = all (due_bytes bus item.txn)
-new-note P bus (item ∷ items) (suc place) all = new-note P bus items place all
+pub new-note : (P : AnswerView → Type 0) (script : List ScriptItem) (place : ℕ) → ((resps bytes : ℕ) → P (awaited_of resps bytes)) → P (get_or (map (λ (item : ScriptItem). awaited_of (due_resps item.txn) (due_bytes item.txn)) script) place (unanswered 0))
+new-note P [] place all = all 1 0
+new-note P (item ∷ items) zero all = all (due_resps item.txn) (due_bytes item.txn)
+new-note P (item ∷ items) (suc place) all = new-note P items place all
 
 none-issued : (write : Bool) (script : List ScriptItem) (lower bus : ℕ) → issued_of write (new_manager script lower bus) ≡ 0
 none-issued true script lower bus = refl
@@ -24,7 +24,7 @@ none-issued false script lower bus = refl
 
 pub issues-begin : (script : List ScriptItem) (lower bus : ℕ) → NotesIssues (new_manager script lower bus)
 issues-begin script lower bus write n p at =
-    let none : (note_at (new_manager script lower bus) p.0).issued ≡ 0 = new-note (λ a. a.issued ≡ 0) bus script p.0 (λ bytes. refl)
+    let none : (note_at (new_manager script lower bus) p.0).issued ≡ 0 = new-note (λ a. a.issued ≡ 0) script p.0 (λ resps bytes. refl)
     in let zero_issued = none-issued write script lower bus
     in (λ some. absurd (omega arith), λ less. absurd (omega arith))
 
@@ -53,7 +53,7 @@ module _ (links : List LinkView) (s : ManagerState) where
     issue-stays q some = elim (change-of links s round q is) [
       | Kept e ↦ subst (λ (a : AnswerView). 0 < a.issued) (sym e) some
       | Wrote x at here e ↦ subst (λ (a : AnswerView). 0 < a.issued) (sym e) some
-      | Read x at here e ↦ subst (λ (a : AnswerView). 0 < a.issued) (sym e) some
+      | Read x at here item at_item e ↦ subst (λ (a : AnswerView). 0 < a.issued) (sym e) some
       | Issued write p next here e ↦ subst (λ (a : AnswerView). 0 < a.issued) (sym e) counts
     ]
 
@@ -66,7 +66,7 @@ module _ (links : List LinkView) (s : ManagerState) where
         in elim (change-of links s round p.0 is) [
           | Kept e ↦ before (subst (λ (a : AnswerView). 0 < a.issued) e some)
           | Wrote x taken here e ↦ before (subst (λ (a : AnswerView). 0 < a.issued) e some)
-          | Read x taken here e ↦ before (subst (λ (a : AnswerView). 0 < a.issued) e some)
+          | Read x taken here item at_item e ↦ before (subst (λ (a : AnswerView). 0 < a.issued) e some)
           | Issued other q next here e ↦
               let ways = one-place write other n (issued_of other s) p q at (next-found links s other q next) here
               in let nexts : next_of links s write ≡ Some q = ap (next_of links s) ways.0 ∙ next

@@ -1,7 +1,11 @@
 pub mod AfterLemmas
+pub mod AnswerLemmas
 pub mod AskLaws
+pub mod AskedLemmas
 pub mod BeatLemmas
+pub mod BurstLemmas
 pub mod DirectionLemmas
+pub mod DueLemmas
 pub mod EntryLemmas
 pub mod HeldLemmas
 pub mod IssueLemmas
@@ -14,7 +18,11 @@ pub mod PassedLemmas
 pub mod PlaceLemmas
 pub mod RowLemmas
 pub mod ScriptLemmas
+pub mod SendingLemmas
+pub mod SentLemmas
 pub mod StepLemmas
 pub mod TrailLaws
 pub mod TrailLemmas
+pub mod TurnLemmas
 pub mod WaitingLemmas
+pub mod WordLemmas

@@ -1,22 +1,25 @@
 -- The rounds that a manager notes are in order.
-use Rattle.std.proofs.Common.{◌≡◌, ◌+◌, ◌<◌, ◌≤◌, ℕ, suc, Bool, true, false, cond, List, Some, length, take, drop, get_or, refl, sym, ◌∙◌, ap, subst, inl, inr, arith, length-take, length-drop, get_or-drop, get_or-take}
+use Rattle.std.proofs.Common.{◌≡◌, ◌⊎◌, ◌+◌, ◌<◌, ◌≤◌, ℕ, suc, Bool, true, false, cond, List, [], Some, length, take, drop, get_or, refl, sym, ◌∙◌, ap, subst, inl, inr, arith, length-take, length-drop, get_or-drop, get_or-take}
 use Rattle.std.specs.Prelude.{count_by, slice_get}
 use Rattle.std.proofs.lemmas.Bool.{cases_lt}
 use Rattle.std.proofs.lemmas.List.Sums.{count_by-le-length, sum_by-take-drop}
 use Rattle.std.proofs.lemmas.Option.{get_or_from_slice_get, same_Some, slice_get-get_or, slice_get_within}
+use Rattle.axi_beats.specs.declared.response.Resp.{Resp}
 use Rattle.axi_link.specs.LinkView.{LinkView}
-use Rattle.manager_end.specs.Answer.{AnswerView, unanswered}
+use Rattle.manager_end.specs.Answer.{AnswerView, answered_in, is_last, unanswered}
 use Rattle.manager_end.specs.ManagerOrder.{AreInOrder, AreOfDirection, AreOfId, IsAt, Notes, NotesStay, note_at}
 use Rattle.manager_end.specs.ManagerState.{ManagerState, IsManager, is_answered, issued_of, new_manager}
 use Rattle.manager_end.specs.ManagerTable.{manager_next}
 use Rattle.manager_end.specs.Script.{ScriptItem}
 use Rattle.manager_end.specs.declared.entry.Entry.{Entry}
 use Rattle.manager_end.proofs.AfterLemmas.{after-holds}
+use Rattle.manager_end.proofs.DueLemmas.{last-answers, more-answers}
 use Rattle.manager_end.proofs.EntryLemmas.{answered-none, entries-stay, some-answered, taken-is, taken-first}
 use Rattle.manager_end.proofs.IssueLemmas.{new-note}
 use Rattle.manager_end.proofs.ListLemmas.{all-counted, item-there, some-counted}
 use Rattle.manager_end.proofs.NoteLemmas.{Kept, Wrote, Read, Issued, change-of, b-taken, r-taken, next_of, next-after, next-found, next-waits, taken_of, taken-waits}
 use Rattle.manager_end.proofs.PlaceLemmas.{direction-at, direction-before, direction-of}
+use Rattle.manager_end.proofs.TurnLemmas.{Same, Came, Went, leaving-taken, leaving_of, turn-of}
 
 -- the next transaction isn't noted as issued
 pub next-unissued : (links : List LinkView) (s : ManagerState) → IsManager s → (write : Bool) (p : ℕ × ScriptItem) → next_of links s write ≡ Some p → (note_at s p.0).issued ≡ 0
@@ -25,39 +28,37 @@ next-unissued links s is write p next =
     in elim (cases_lt 0 (note_at s p.0).issued) [ inl some ↦ let less = noted some in absurd (omega arith) | inr none ↦ omega arith ]
 
 pub notes-stay : NotesStay
-notes-stay round links s counts is place = elim (change-of links s round place is) [
-  | Kept e ↦ record { issued = inl (ap (λ a. a.issued) e); answered = inl (ap (λ a. a.answered) e); stays = λ some. e }
-  | Wrote x at here e ↦
-      let none : (note_at s place).answered ≡ 0 = ap (λ (q : ℕ). (note_at s q).answered) here ∙ (taken-waits links s is true x.0 (b-taken links s is x at)).answered
-      in record { issued = inl (ap (λ a. a.issued) e); answered = inr (none, ap (λ a. a.answered) e); stays = λ some. absurd (omega arith) }
-  | Read x at here e ↦
-      let none : (note_at s place).answered ≡ 0 = ap (λ (q : ℕ). (note_at s q).answered) here ∙ (taken-waits links s is false x.0 (r-taken links s is x at)).answered
-      in record { issued = inl (ap (λ a. a.issued) e); answered = inr (none, ap (λ a. a.answered) e); stays = λ some. absurd (omega arith) }
-  | Issued write p next here e ↦
-      let unissued : (note_at s place).issued ≡ 0 = ap (λ (q : ℕ). (note_at s q).issued) here ∙ next-unissued links s is write p next
-      in let none : (note_at s place).answered ≡ 0 = ap (λ (q : ℕ). (note_at s q).answered) here ∙ (next-waits links s is write p next).answered
-      in record { issued = inr (unissued, ap (λ a. a.issued) e); answered = inl (ap (λ a. a.answered) e); stays = λ some. absurd (omega arith) }
-]
-
--- What a round does to the rounds that are noted of a transaction.
-data Turn (links : List LinkView) (s : ManagerState) (round q : ℕ) : Type 0 where
-  Same : note_at (manager_next round links s) q ≡ note_at s q → Turn links s round q
-  Came : (write : Bool) (e : Entry) → taken_of links s write ≡ Some e → q ≡ e.place → (note_at (manager_next round links s) q).answered ≡ round → (note_at (manager_next round links s) q).issued ≡ (note_at s q).issued → Turn links s round q
-  Went : (write : Bool) (p : ℕ × ScriptItem) → next_of links s write ≡ Some p → q ≡ p.0 → (note_at (manager_next round links s) q).issued ≡ round → (note_at (manager_next round links s) q).answered ≡ (note_at s q).answered → Turn links s round q
-
-turn-of : (links : List LinkView) (s : ManagerState) (round q : ℕ) → IsManager s → Turn links s round q
-turn-of links s round q is = elim (change-of links s round q is) [
-  | Kept e ↦ Same e
-  | Wrote x at here e ↦ Came true x.0 (b-taken links s is x at) here (ap (λ a. a.answered) e) (ap (λ a. a.issued) e)
-  | Read x at here e ↦ Came false x.0 (r-taken links s is x at) here (ap (λ a. a.answered) e) (ap (λ a. a.issued) e)
-  | Issued write p next here e ↦ Went write p next here (ap (λ a. a.issued) e) (ap (λ a. a.answered) e)
-]
+notes-stay round links s counts is place =
+    let open_still : (write : Bool) (e : Entry) → taken_of links s write ≡ Some e → place ≡ e.place → (note_at s place).answered ≡ 0 = λ write e taken here. ap (λ (q : ℕ). (note_at s q).answered) here ∙ (taken-waits links s is write e taken).answered
+    in elim (change-of links s round place is) [
+      | Kept e ↦ record { issued = inl (ap (λ a. a.issued) e); answered = inl (ap (λ a. a.answered) e); stays = λ some. e }
+      | Wrote x at here e ↦
+          let none = open_still true x.0 (b-taken links s is x at) here
+          in record { issued = inl (ap (λ a. a.issued) e); answered = noted-answer round x.1.resp [] (note_at s place) (note_at (manager_next round links s) place) none e; stays = λ some. absurd (omega arith) }
+      | Read x at here item item_at e ↦
+          let none = open_still false x.0 (r-taken links s is x at) here
+          in record { issued = inl (ap (λ a. a.issued) e); answered = noted-answer round x.1.resp _ (note_at s place) (note_at (manager_next round links s) place) none e; stays = λ some. absurd (omega arith) }
+      | Issued write p next here e ↦
+          let unissued : (note_at s place).issued ≡ 0 = ap (λ (q : ℕ). (note_at s q).issued) here ∙ next-unissued links s is write p next
+          in let none : (note_at s place).answered ≡ 0 = ap (λ (q : ℕ). (note_at s q).answered) here ∙ (next-waits links s is write p next).answered
+          in record { issued = inr (unissued, ap (λ a. a.issued) e); answered = inl (ap (λ a. a.answered) e); stays = λ some. absurd (omega arith) }
+    ]
+  where
+    -- an answer is the last one, or not
+    noted-answer : (round : ℕ) (resp : Resp) (bytes : List ℕ) (before after : AnswerView) → before.answered ≡ 0 → after ≡ answered_in round resp bytes before → (after.answered ≡ before.answered) ⊎ ((before.answered ≡ 0) × (after.answered ≡ round))
+    noted-answer round resp bytes before after none e =
+        let go : (b : Bool) → is_last before ≡ b → (after.answered ≡ before.answered) ⊎ ((before.answered ≡ 0) × (after.answered ≡ round)) =
+        elim [
+          | true ↦ λ last. inr (none, ap (λ (a : AnswerView). a.answered) e ∙ last-answers round resp bytes before last)
+          | false ↦ λ some. inl (ap (λ (a : AnswerView). a.answered) e ∙ more-answers round resp bytes before some)
+        ]
+        in go (is_last before) refl
 
 -- a manager that has issued nothing
 pub order-begins : (script : List ScriptItem) (lower bus : ℕ) → AreInOrder 0 (new_manager script lower bus)
 order-begins script lower bus =
-    let unissued : (place : ℕ) → (note_at (new_manager script lower bus) place).issued ≡ 0 = λ place. new-note (λ a. a.issued ≡ 0) bus script place (λ bytes. refl)
-    in let none : (place : ℕ) → (note_at (new_manager script lower bus) place).answered ≡ 0 = λ place. new-note (λ a. a.answered ≡ 0) bus script place (λ bytes. refl)
+    let unissued : (place : ℕ) → (note_at (new_manager script lower bus) place).issued ≡ 0 = λ place. new-note (λ a. a.issued ≡ 0) script place (λ resps bytes. refl)
+    in let none : (place : ℕ) → (note_at (new_manager script lower bus) place).answered ≡ 0 = λ place. new-note (λ a. a.answered ≡ 0) script place (λ resps bytes. refl)
     in record {
       issues_past = λ place. omega (arith, unissued place);
       answers_past = λ place. omega (arith, none place);
@@ -113,14 +114,14 @@ module _ (rounds : ℕ) (links : List LinkView) (s : ManagerState) (is : IsManag
   past-answer q = elim (notes q).answered [ inl same ↦ omega (arith, order.answers_past q) | inr new ↦ omega (arith, new.1) ]
 
   -- an entry whose answer is taken was issued
-  taken-issued : (write : Bool) (e : Entry) → taken_of links s write ≡ Some e → 0 < (note_at s e.place).issued
+  taken-issued : (write : Bool) (e : Entry) → leaving_of links s write ≡ Some e → 0 < (note_at s e.place).issued
   taken-issued write e taken =
-      let from = taken-is links s is order.waiting write e taken
+      let from = taken-is links s is order.waiting write e (leaving-taken links s is write e taken).0
       in subst (λ (entry : Entry). 0 < (note_at s entry.place).issued) from.4 ((is.issues write from.0 from.1 from.2).1 from.3)
 
   first-issued : (q : ℕ) → 0 < (note_at (manager_next (suc rounds) links s) q).answered → (0 < (note_at (manager_next (suc rounds) links s) q).issued) × ((note_at (manager_next (suc rounds) links s) q).issued < (note_at (manager_next (suc rounds) links s) q).answered)
   first-issued q some = elim (turn-of links s (suc rounds) q is) [
-    | Same e ↦ let before = order.issue_first q (subst (λ a. 0 < a.answered) e some) in (subst (λ a. 0 < a.issued) (sym e) before.0, subst (λ a. a.issued < a.answered) (sym e) before.1)
+    | Same answered issued ↦ let before = order.issue_first q (omega arith) in (omega (arith, before.0), omega (arith, before.1))
     | Came write e taken here answered issued ↦
         let was : 0 < (note_at s q).issued = subst (λ (place : ℕ). 0 < (note_at s place).issued) (sym here) (taken-issued write e taken)
         in let past = order.issues_past q
@@ -141,7 +142,7 @@ module _ (rounds : ℕ) (links : List LinkView) (s : ManagerState) (is : IsManag
       let kept : (note_at (manager_next (suc rounds) links s) later).issued ≡ (note_at s later).issued → (0 < (note_at (manager_next (suc rounds) links s) earlier).issued) × ((note_at (manager_next (suc rounds) links s) earlier).issued < (note_at (manager_next (suc rounds) links s) later).issued) =
       λ same. let before = order.issues earlier later pair (omega arith) in issue-before earlier later before.0 (omega (arith, before.1))
       in elim (turn-of links s (suc rounds) later is) [
-        | Same e ↦ kept (ap (λ a. a.issued) e)
+        | Same answered issued ↦ kept issued
         | Came write e taken here answered issued ↦ kept issued
         | Went write p next here issued answered ↦
             let at_p = direction-at write s.script (issued_of write s) p (next-found links s write p next)
@@ -163,7 +164,7 @@ module _ (rounds : ℕ) (links : List LinkView) (s : ManagerState) (is : IsManag
       let kept : (note_at (manager_next (suc rounds) links s) later).answered ≡ (note_at s later).answered → (0 < (note_at (manager_next (suc rounds) links s) earlier).answered) × ((note_at (manager_next (suc rounds) links s) earlier).answered < (note_at (manager_next (suc rounds) links s) later).answered) =
       λ same. let before = order.answers earlier later pair (omega arith) in answer-before earlier later before.0 (omega (arith, before.1))
       in elim (turn-of links s (suc rounds) later is) [
-        | Same e ↦ kept (ap (λ a. a.answered) e)
+        | Same answered issued ↦ kept answered
         | Went write p next here issued answered ↦ kept answered
         | Came write e taken here answered issued ↦
             elim (cases_lt 0 (note_at s earlier).answered) [
@@ -173,9 +174,9 @@ module _ (rounds : ℕ) (links : List LinkView) (s : ManagerState) (is : IsManag
       ]
     where
       -- an earlier one of the ID that isn't answered would have been taken
-      overtaken : (earlier later : ℕ) → (pair : AreOfId s earlier later) → (write : Bool) (e : Entry) → taken_of links s write ≡ Some e → later ≡ e.place → (note_at s earlier).answered ≡ 0 → ⊥
+      overtaken : (earlier later : ℕ) → (pair : AreOfId s earlier later) → (write : Bool) (e : Entry) → leaving_of links s write ≡ Some e → later ≡ e.place → (note_at s earlier).answered ≡ 0 → ⊥
       overtaken earlier later pair write e taken here none =
-          let from = taken-is links s is order.waiting write e taken
+          let from = taken-is links s is order.waiting write e (leaving-taken links s is write e taken).0
           in let at_p = direction-at write s.script from.0 from.1 from.2
           in let place : from.1.0 ≡ e.place = ap (λ (entry : Entry). entry.place) from.4
           in let one : pair.of_direction.second ≡ from.1.1 = same_Some pair.of_direction.second from.1.1 (sym pair.of_direction.at_later ∙ ap (slice_get s.script) (here ∙ sym place) ∙ at_p.0)
@@ -185,7 +186,7 @@ module _ (rounds : ℕ) (links : List LinkView) (s : ManagerState) (is : IsManag
           in let issued = (order.issues earlier later pair.of_direction was).0
           in let first = direction-of write s.script earlier pair.of_direction.first pair.of_direction.at_earlier way
           in let less = (is.issues write first.0 (earlier, pair.of_direction.first) first.1).0 issued
-          in let least = taken-first links s is order.waiting write e taken first.0 (earlier, pair.of_direction.first) first.1 less (answered-none (note_at s earlier) none) id
+          in let least = taken-first links s is order.waiting write e (leaving-taken links s is write e taken).0 first.0 (earlier, pair.of_direction.first) first.1 less (answered-none (note_at s earlier) none) id
           in let before = pair.of_direction.order
           in omega arith
 
@@ -197,7 +198,7 @@ module _ (rounds : ℕ) (links : List LinkView) (s : ManagerState) (is : IsManag
       in let old : (note_at (manager_next (suc rounds) links s) place).issued ≡ (note_at s place).issued → (0 < (note_at (manager_next (suc rounds) links s) before).answered) × ((note_at (manager_next (suc rounds) links s) before).answered < (note_at (manager_next (suc rounds) links s) place).issued) =
       λ same. let was = order.waits before place item at less (omega arith) in since was.0 (omega (arith, was.1))
       in elim (turn-of links s (suc rounds) place is) [
-        | Same e ↦ old (ap (λ a. a.issued) e)
+        | Same answered issued ↦ old issued
         | Came write e taken here answered issued ↦ old issued
         | Went write p next here issued answered ↦
             let at_p = direction-at write s.script (issued_of write s) p (next-found links s write p next)

@@ -7,19 +7,18 @@ use Rattle.std.proofs.lemmas.Simd.{map-map}
 use Rattle.axi_beats.specs.declared.beat.Addr.{Addr}
 use Rattle.axi_link.specs.LinkView.{LinkView}
 use Rattle.axi_link.specs.Moves.{appended, takes_from}
-use Rattle.axi_link.specs.Table.{head_of, put_of, take_of}
+use Rattle.axi_link.specs.Table.{head_of, passing, put_of, take_of}
 use Rattle.flight.specs.Entries.{of_key, count_of, without_oldest}
 use Rattle.axi_trail.specs.Streams.{beat_taken}
 use Rattle.axi_trail.specs.Trail.{moved_above}
-use Rattle.axi_trail.specs.Waiting.{beats_by}
+use Rattle.axi_trail.specs.Waiting.{Waiting, beats_by}
 use Rattle.axi_trail.specs.Words.{Reply, InOrderOfId, id_of_reply}
-use Rattle.manager_end.specs.Beats.{data_of, request_of as request_of_item}
+use Rattle.manager_end.specs.Beats.{data_beat, request_of as request_of_item}
 use Rattle.manager_end.specs.ManagerState.{ManagerState, entry_of}
 use Rattle.manager_end.specs.ManagerTable.{answering, below, left_waiting, manager_aw, manager_w, manager_ar, manager_b, manager_r, manager_out, more, with_issued}
-use Rattle.manager_end.specs.ManagerTrail.{held_items}
 use Rattle.manager_end.specs.Script.{ScriptItem}
 use Rattle.manager_end.specs.declared.entry.Entry.{Entry}
-use Rattle.manager_end.proofs.HeldLemmas.{answers-few, asked_by, entries-left, held_items-answer, held_items-request, id_of_item, len_of_item, single_len, taken-next}
+use Rattle.manager_end.proofs.HeldLemmas.{answers-few, asked_by, entries_held, find-held, held-entries, held-more, holding, id_held, id_of_item, single_len, taken-next}
 use Rattle.manager_end.proofs.ListLemmas.{take-one}
 use Rattle.manager_end.proofs.WaitingLemmas.{oldest-id}
 
@@ -46,8 +45,8 @@ module _ (links : List LinkView) (s : ManagerState) where
   pub aw-moved : (moved_above (manager_out links s) links s.lower).aw ≡ option_to_list (option_map (λ next. request_of_item next.1) (manager_aw links s))
   aw-moved = put-moved s.lower (option_map (λ next. request_of_item next.1) (manager_aw links s))
 
-  pub w-moved : (moved_above (manager_out links s) links s.lower).w ≡ option_to_list (option_map (λ next. data_of next.1) (manager_w links s))
-  w-moved = put-moved s.lower (option_map (λ next. data_of next.1) (manager_w links s))
+  pub w-moved : (moved_above (manager_out links s) links s.lower).w ≡ option_to_list (option_map (λ next. data_beat next.1 s.bus s.sent_beats) (manager_w links s))
+  w-moved = put-moved s.lower (option_map (λ next. data_beat next.1 s.bus s.sent_beats) (manager_w links s))
 
   pub ar-moved : (moved_above (manager_out links s) links s.lower).ar ≡ option_to_list (option_map (λ next. request_of_item next.1) (manager_ar links s))
   ar-moved = put-moved s.lower (option_map (λ next. request_of_item next.1) (manager_ar links s))
@@ -95,53 +94,61 @@ module _ {X : Type 0} (number_of id_of : X → ℕ) (last_of : X → Bool) (len_
   abbrev pub beat_of : Option (Entry × X) → List X
   beat_of o = option_to_list (option_map (λ answer. answer.1) o)
 
-  module _ (items : List (ℕ × ScriptItem)) (next : Option (ℕ × ScriptItem)) (entries : List Entry) (beats : List X) (single : All (λ p. len_of_item p ≡ 0) items) (one : All (λ p. single_len len_of p ≡ 0) items)
-      (same : entries ≡ map entry_of (held_items items (map id_of beats))) (order : InOrderOfId (map (asked_by len_of) items) (map reply_by beats)) where
+  module _ (items : List (ℕ × ScriptItem)) (next : Option (ℕ × ScriptItem)) (entries : List Entry) (beats : List X)
+      (same : entries ≡ entries_held (holding len_of items (map id_of beats))) (order : InOrderOfId (map (asked_by len_of) items) (map reply_by beats)) where
     ids-same : map id_of_reply (map reply_by beats) ≡ map id_of beats
     ids-same = map-map id_of_reply reply_by beats
 
-    -- an answer that is taken is that of its entry's transaction
-    pub taken-own : (x : Entry × X) → find (λ (entry : Entry). entry.id == id_of x.1) entries ≡ Some x.0 → InOrderOfId (map (asked_by len_of) (items ++ option_to_list next)) (map reply_by (beats ++ x.1 ∷ [])) →
-        (p : ℕ × ScriptItem) × (k : ℕ) × (slice_get (held_items items (map id_of beats)) k ≡ Some p) × (entry_of p ≡ x.0) × (number_of x.1 ≡ p.1.txn.number) × InOrderOfId (map (asked_by len_of) items) (map reply_by (beats ++ x.1 ∷ []))
-    taken-own x found after =
-        let pushed : map reply_by (beats ++ x.1 ∷ []) ≡ map reply_by beats ++ reply_by x.1 ∷ [] = map-append reply_by beats (x.1 ∷ [])
-        in let here : find (λ (entry : Entry). entry.id == id_of x.1) (map entry_of (held_items items (map id_of_reply (map reply_by beats)))) ≡ Some x.0 =
-        ap (λ (ids : List ℕ). find (λ (entry : Entry). entry.id == id_of x.1) (map entry_of (held_items items ids))) ids-same ∙ ap (find (λ (entry : Entry). entry.id == id_of x.1)) (sym same) ∙ found
-        in let taken = taken-next len_of items (map reply_by beats) single one (option_to_list next) (reply_by x.1) x.0 order (subst (InOrderOfId (map (asked_by len_of) (items ++ option_to_list next))) pushed after) here
-        in (taken.0, taken.1, ap (λ (ids : List ℕ). slice_get (held_items items ids) taken.1) (sym ids-same) ∙ taken.2, taken.3, taken.4, subst (InOrderOfId (map (asked_by len_of) items)) (sym pushed) taken.5)
+    -- the first held one of an answer's ID
+    pub first-held : (x : Entry × X) → find (λ (entry : Entry). entry.id == id_of x.1) entries ≡ Some x.0 → (w : Waiting (ℕ × ScriptItem)) × (others : List (Waiting (ℕ × ScriptItem))) × (of_key id_held (id_of x.1) (holding len_of items (map id_of beats)) ≡ w ∷ others) × (entry_of w.request ≡ x.0)
+    first-held x found = find-held (id_of x.1) (holding len_of items (map id_of beats)) x.0 (ap (find (λ (entry : Entry). entry.id == id_of x.1)) (sym same) ∙ found)
 
-    few-of : (later : List X) → InOrderOfId (map (asked_by len_of) items) (map reply_by later) → (id : ℕ) → count_of id (map id_of later) ≤ beats_by len_of_item (of_key id_of_item id items)
-    few-of later in_order id = subst (λ (ids : List ℕ). count_of id ids ≤ beats_by len_of_item (of_key id_of_item id items)) (map-map id_of_reply reply_by later) (answers-few len_of items (map reply_by later) single one in_order id)
+    -- an answer that is taken is that of its entry's transaction
+    pub taken-own : (x : Entry × X) (w : Waiting (ℕ × ScriptItem)) (others : List (Waiting (ℕ × ScriptItem))) → of_key id_held (id_of x.1) (holding len_of items (map id_of beats)) ≡ w ∷ others → InOrderOfId (map (asked_by len_of) (items ++ option_to_list next)) (map reply_by (beats ++ x.1 ∷ [])) →
+        (number_of x.1 ≡ w.request.1.txn.number) × InOrderOfId (map (asked_by len_of) items) (map reply_by (beats ++ x.1 ∷ []))
+    taken-own x w others first after =
+        let pushed : map reply_by (beats ++ x.1 ∷ []) ≡ map reply_by beats ++ reply_by x.1 ∷ [] = map-append reply_by beats (x.1 ∷ [])
+        in let taken = taken-next len_of items (map reply_by beats) (option_to_list next) (reply_by x.1) w others order (subst (InOrderOfId (map (asked_by len_of) (items ++ option_to_list next))) pushed after) (ap (λ (ids : List ℕ). of_key id_held (id_of x.1) (holding len_of items ids)) ids-same ∙ first)
+        in (taken.0, subst (InOrderOfId (map (asked_by len_of) items)) (sym pushed) taken.1)
+
+    few-of : (later : List X) → InOrderOfId (map (asked_by len_of) items) (map reply_by later) → (id : ℕ) → count_of id (map id_of later) ≤ beats_by (single_len len_of) (of_key id_of_item id items)
+    few-of later in_order id = subst (λ (ids : List ℕ). count_of id ids ≤ beats_by (single_len len_of) (of_key id_of_item id items)) (map-map id_of_reply reply_by later) (answers-few len_of items (map reply_by later) in_order id)
 
     -- what waits after the answer of a round
-    answered-waits : (o : Option (Entry × X)) → ((x : Entry × X) → o ≡ Some x → find (λ (entry : Entry). entry.id == id_of x.1) entries ≡ Some x.0) → InOrderOfId (map (asked_by len_of) (items ++ option_to_list next)) (map reply_by (beats ++ beat_of o)) →
-        (left_waiting o entries ≡ map entry_of (held_items items (map id_of (beats ++ beat_of o)))) × ((id : ℕ) → count_of id (map id_of (beats ++ beat_of o)) ≤ beats_by len_of_item (of_key id_of_item id items))
-    answered-waits None found after =
+    answered-waits : (o leaves : Option (Entry × X)) → ((x : Entry × X) → o ≡ Some x → find (λ (entry : Entry). entry.id == id_of x.1) entries ≡ Some x.0) → (o ≡ None → leaves ≡ None) →
+        ((x : Entry × X) (w : Waiting (ℕ × ScriptItem)) (others : List (Waiting (ℕ × ScriptItem))) → o ≡ Some x → of_key id_held (id_of x.1) (holding len_of items (map id_of beats)) ≡ w ∷ others → entry_of w.request ≡ x.0 → leaves ≡ passing (w.done == single_len len_of w.request) (Some x)) →
+        InOrderOfId (map (asked_by len_of) (items ++ option_to_list next)) (map reply_by (beats ++ beat_of o)) →
+        (left_waiting leaves entries ≡ entries_held (holding len_of items (map id_of (beats ++ beat_of o)))) × ((id : ℕ) → count_of id (map id_of (beats ++ beat_of o)) ≤ beats_by (single_len len_of) (of_key id_of_item id items))
+    answered-waits None leaves found none_leaves leaving after =
         let none : beats ++ [] ≡ beats = append-nil beats
-        in (same ∙ ap (λ (bs : List X). map entry_of (held_items items (map id_of bs))) (sym none), few-of (beats ++ []) (subst (λ (bs : List X). InOrderOfId (map (asked_by len_of) items) (map reply_by bs)) (sym none) order))
-    answered-waits (Some x) found after =
+        in (ap (λ (l : Option (Entry × X)). left_waiting l entries) (none_leaves refl) ∙ same ∙ ap (λ (bs : List X). entries_held (holding len_of items (map id_of bs))) (sym none), few-of (beats ++ []) (subst (λ (bs : List X). InOrderOfId (map (asked_by len_of) items) (map reply_by bs)) (sym none) order))
+    answered-waits (Some x) leaves found none_leaves leaving after =
         let here = found x refl
-        in let taken = taken-own x here after
+        in let first : (w : Waiting (ℕ × ScriptItem)) × (others : List (Waiting (ℕ × ScriptItem))) × (of_key id_held (id_of x.1) (holding len_of items (map id_of beats)) ≡ w ∷ others) × (entry_of w.request ≡ x.0) = first-held x here
+        in let taken = taken-own x first.0 first.1 first.2 after
+        in let go : (b : Bool) → left_waiting (passing b (Some x)) entries ≡ cond b (without_oldest (λ (entry : Entry). entry.id) (id_of x.1) entries) entries =
+        elim [ true ↦ ap (λ (id : ℕ). without_oldest (λ (entry : Entry). entry.id) id entries) (oldest-id (id_of x.1) entries x.0 here) | false ↦ refl ]
         in (
-          ap (without_oldest (λ (entry : Entry). entry.id) x.0.id) same
-              ∙ ap (λ (id : ℕ). without_oldest (λ (entry : Entry). entry.id) id (map entry_of (held_items items (map id_of beats)))) (oldest-id (id_of x.1) entries x.0 here)
-              ∙ sym (entries-left (id_of x.1) (held_items items (map id_of beats)))
-              ∙ ap (map entry_of) (sym (held_items-answer items single (map id_of beats) (id_of x.1)))
-              ∙ ap (λ (ids : List ℕ). map entry_of (held_items items ids)) (sym (map-append id_of beats (x.1 ∷ []))),
-          few-of (beats ++ x.1 ∷ []) taken.5,
+          ap (λ (l : Option (Entry × X)). left_waiting l entries) (leaving x first.0 first.1 refl first.2 first.3)
+              ∙ go (first.0.done == single_len len_of first.0.request)
+              ∙ ap (λ (es : List Entry). cond (first.0.done == single_len len_of first.0.request) (without_oldest (λ (entry : Entry). entry.id) (id_of x.1) es) es) same
+              ∙ sym (held-entries len_of items (map id_of beats) (id_of x.1) first.0 first.1 first.2)
+              ∙ ap (λ (ids : List ℕ). entries_held (holding len_of items ids)) (sym (map-append id_of beats (x.1 ∷ []))),
+          few-of (beats ++ x.1 ∷ []) taken.1,
         )
 
     -- what waits after a round
-    pub waits-next : (o : Option (Entry × X)) → ((x : Entry × X) → o ≡ Some x → find (λ (entry : Entry). entry.id == id_of x.1) entries ≡ Some x.0) → InOrderOfId (map (asked_by len_of) (items ++ option_to_list next)) (map reply_by (beats ++ beat_of o)) →
-        with_issued next (left_waiting o entries) ≡ map entry_of (held_items (items ++ option_to_list next) (map id_of (beats ++ beat_of o)))
-    waits-next o found after =
-        let answered = answered-waits o found after
-        in let go : (n : Option (ℕ × ScriptItem)) → with_issued n (left_waiting o entries) ≡ map entry_of (held_items (items ++ option_to_list n) (map id_of (beats ++ beat_of o))) =
+    pub waits-next : (o leaves : Option (Entry × X)) → ((x : Entry × X) → o ≡ Some x → find (λ (entry : Entry). entry.id == id_of x.1) entries ≡ Some x.0) → (o ≡ None → leaves ≡ None) →
+        ((x : Entry × X) (w : Waiting (ℕ × ScriptItem)) (others : List (Waiting (ℕ × ScriptItem))) → o ≡ Some x → of_key id_held (id_of x.1) (holding len_of items (map id_of beats)) ≡ w ∷ others → entry_of w.request ≡ x.0 → leaves ≡ passing (w.done == single_len len_of w.request) (Some x)) →
+        InOrderOfId (map (asked_by len_of) (items ++ option_to_list next)) (map reply_by (beats ++ beat_of o)) →
+        with_issued next (left_waiting leaves entries) ≡ entries_held (holding len_of (items ++ option_to_list next) (map id_of (beats ++ beat_of o)))
+    waits-next o leaves found none_leaves leaving after =
+        let answered = answered-waits o leaves found none_leaves leaving after
+        in let go : (n : Option (ℕ × ScriptItem)) → with_issued n (left_waiting leaves entries) ≡ entries_held (holding len_of (items ++ option_to_list n) (map id_of (beats ++ beat_of o))) =
         elim [
-          | None ↦ answered.0 ∙ ap (λ (ps : List (ℕ × ScriptItem)). map entry_of (held_items ps (map id_of (beats ++ beat_of o)))) (sym (append-nil items))
+          | None ↦ answered.0 ∙ ap (λ (ps : List (ℕ × ScriptItem)). entries_held (holding len_of ps (map id_of (beats ++ beat_of o)))) (sym (append-nil items))
           | Some p ↦
               ap (λ (es : List Entry). es ++ entry_of p ∷ []) answered.0
-              ∙ sym (map-append entry_of (held_items items (map id_of (beats ++ beat_of o))) (p ∷ []))
-              ∙ ap (map entry_of) (sym (held_items-request items (map id_of (beats ++ beat_of o)) p (answered.1 (id_of_item p))))
+              ∙ sym (held-more len_of items (map id_of (beats ++ beat_of o)) p (answered.1 (id_of_item p)))
         ]
         in go next

@@ -1,11 +1,10 @@
 -- Facts on scripts as lists.
 use Rattle.std.proofs.Common.{◌≡◌, ℕ, ◌-◌, ◌^◌, ◌<◌, ◌≤◌, zero, suc, List, [], ◌∷◌, ◌++◌, Option, Some, length, take, refl, sym, subst, arith, length-take, get_or, ap, ◌∙◌, Bool, true, false, cond, map}
-use Rattle.std.proofs.Math.Nat.{pow-le-pow_right}
 use Rattle.std.specs.Option.{option_map}
 use Rattle.std.specs.Prelude.{IfSome, slice_get}
 use Rattle.manager_end.specs.declared.script.Txn.{Txn}
 use Rattle.manager_end.specs.declared.script.WriteByte.{WriteByte}
-use Rattle.manager_end.specs.Script.{ScriptItem, CanPush, IsScript}
+use Rattle.manager_end.specs.Script.{ScriptItem, CanPush, IsScript, sent_bytes}
 use Rattle.manager_end.specs.declared.script.Item.{Item}
 use Rattle.manager_end.specs.ScriptInside.{item_view}
 use Rattle.std.proofs.lemmas.List.{map-append}
@@ -39,15 +38,18 @@ IsScript-push before after item false is all can = subst (λ (items : List Item)
 pub script-item : (script : List ScriptItem) (n : ℕ) (item : ScriptItem) → IsScript script → slice_get script n ≡ Some item → CanPush (take n script) item.txn item.bytes
 script-item script n item is at = IfSome-at (λ (i : ScriptItem). CanPush (take n script) i.txn i.bytes) (slice_get script n) item at (is n)
 
--- a transaction sends at most the bytes of the widest bus
-pub bytes-most : (script : List ScriptItem) (txn : Txn) (bytes : List WriteByte) → CanPush script txn bytes → length bytes ≤ 128
-bytes-most script txn bytes can =
-    let power = pow-le-pow_right {n = 2} (omega arith) {i = txn.request.size} {j = 7} can.size
-    in let go : (b : Bool) → length bytes ≡ cond b (2 ^ txn.request.size) 0 → length bytes ≤ 128 = elim [ true ↦ λ e. omega arith | false ↦ λ e. omega arith ]
-    in go txn.write can.bytes_sent
-
-pub item-bytes : (items : List Item) (n : ℕ) (x : Item) → IsScript (map item_view items) → n < length items → x ≡ get_or items n x → length x.bytes.items ≤ 128
-item-bytes items n x is within at =
+-- a transaction that was pushed could follow those before it
+pub item-can : (items : List Item) (n : ℕ) (x : Item) → IsScript (map item_view items) → n < length items → x ≡ get_or items n x → CanPush (take n (map item_view items)) x.txn x.bytes.items
+item-can items n x is within at =
     let here : slice_get items n ≡ Some x = slice_get_read items (length items) n x refl within at
     in let seen : slice_get (map item_view items) n ≡ Some (item_view x) = slice_get-map item_view items n ∙ ap (option_map item_view) here
-    in bytes-most (take n (map item_view items)) x.txn x.bytes.items (script-item (map item_view items) n (item_view x) is seen)
+    in script-item (map item_view items) n (item_view x) is seen
+
+-- and has as many bytes as it sends
+pub item-count : (items : List Item) (n : ℕ) (x : Item) (bytes : List WriteByte) → IsScript (map item_view items) → n < length items → x ≡ get_or items n x → bytes ≡ x.bytes.items →
+    option_map (λ (item : ScriptItem). sent_bytes item.txn) (slice_get (map item_view items) n) ≡ Some (length bytes)
+item-count items n x bytes is within at same =
+    let here : slice_get items n ≡ Some x = slice_get_read items (length items) n x refl within at
+    in let seen : slice_get (map item_view items) n ≡ Some (item_view x) = slice_get-map item_view items n ∙ ap (option_map item_view) here
+    in let can = item-can items n x is within at
+    in ap (option_map (λ (item : ScriptItem). sent_bytes item.txn)) seen ∙ ap (λ (k : ℕ). Some k) (sym can.bytes_sent ∙ ap length (sym same))

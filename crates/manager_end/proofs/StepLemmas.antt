@@ -1,9 +1,11 @@
 -- A round's steps in terms of the manager's table.
-use Rattle.std.proofs.Common.{◌≡◌, ℕ, ◌+◌, ◌^◌, ◌<◌, ◌&&◌, Bool, true, false, List, [], ◌∷◌, Option, Some, None, length, map, get_or, refl, sym, ◌∙◌, ap, subst, arith}
+use Rattle.std.proofs.Common.{◌≡◌, ◌≢◌, ℕ, ◌+◌, ◌^◌, ◌<◌, ◌≤◌, ◌==◌, ◌&&◌, suc, inl, inr, cond, Bool, true, false, List, [], ◌∷◌, Option, Some, None, length, map, get_or, refl, sym, ◌∙◌, ap, subst, arith}
 use Rattle.std.specs.List.{enumerate_from}
 use Rattle.std.specs.Option.{option_map}
-use Rattle.std.specs.Prelude.{All, IfSome, is_some, nat_lt, slice_get}
+use Rattle.std.specs.Prelude.{All, IfSome, filter, is_some, nat_lt, slice_get, unwrap_or}
+use Rattle.std.proofs.lemmas.Bool.{cases_order, eqb-false}
 use Rattle.std.proofs.lemmas.List.Elements.{All-filter, All-map}
+use Rattle.std.proofs.lemmas.List.FromFn.{length-enumerate_from}
 use Rattle.std.proofs.lemmas.List.Sums.{count_by-le-length}
 use Rattle.std.proofs.lemmas.Option.{slice_get-get_or, slice_get-map, slice_get_within, get_or_from_slice_get}
 use mir.Val.{bool_byte}
@@ -15,13 +17,20 @@ use Rattle.axi_link.specs.Acted.{Acted}
 use Rattle.axi_link.specs.declared.out.Out.{Out}
 use Rattle.axi_link.specs.LinkView.{LinkView}
 use Rattle.axi_link.specs.Table.{has_room, passing}
-use Rattle.manager_end.specs.Answer.{AnswerView, unanswered}
-use Rattle.manager_end.specs.ManagerState.{ManagerState, IsManager, IsUnanswered, is_answered, is_directed, of_direction, writes_of, reads_of}
-use Rattle.manager_end.specs.ManagerTable.{answering, below, fits, ready, more, left_waiting, note_write, note_read, manager_aw, manager_w, manager_ar, manager_b, manager_r}
+use Rattle.burst_address.specs.Bytes.{beat_bytes, bytes_before}
+use Rattle.manager_end.specs.Answer.{AnswerView, is_last, unanswered}
+use Rattle.manager_end.specs.ManagerInside.{IsWithin, sent_after}
+use Rattle.manager_end.specs.ManagerState.{ManagerState, IsDue, IsManager, is_answered, is_directed, of_direction, writes_of, reads_of}
+use Rattle.manager_end.specs.ManagerTable.{answering, beats_after, below, ending, ends_data, fits, ready, more, left_waiting, note_write, note_read, manager_aw, manager_w, manager_ar, manager_b, manager_r, manager_r_last}
 use Rattle.manager_end.specs.Placed.{placed}
 use Rattle.manager_end.specs.Script.{ScriptItem}
 use Rattle.manager_end.specs.declared.entry.Entry.{Entry}
+use Rattle.manager_end.specs.declared.sending.Sending.{Sending}
+use Rattle.manager_end.proofs.BurstLemmas.{bytes-next}
 use Rattle.manager_end.proofs.ManagerLaws.{after-b, after-r, numbered-at, waiting-most}
+use Rattle.manager_end.proofs.NoteLemmas.{ending-same}
+use Rattle.manager_end.proofs.PlaceLemmas.{direction-at}
+use Rattle.manager_end.proofs.RowLemmas.{w-next}
 use Rattle.manager_end.proofs.ScriptLemmas.{script-short}
 use Rattle.manager_end.proofs.WaitingLemmas.{All-entries}
 
@@ -45,6 +54,40 @@ module _ (write : Bool) (script : List ScriptItem) (places : List ℕ) (same : p
             in ap (option_map (λ (item : ScriptItem). (p.0, item))) (slice_get-get_or script p.0 p.1 here.0 ∙ ap (λ (item : ScriptItem). Some item) (here.1 p.1))
       ]
       in ap (placed script) (ap (λ (ps : List ℕ). slice_get ps k) same ∙ slice_get-map (λ (p : ℕ × ScriptItem). p.0) (of_direction write script) k) ∙ go (slice_get (of_direction write script) k) refl
+
+-- the data place at the start of the next write
+pub sending-first : (script : List ScriptItem) (k n : ℕ) → IfSome (slice_get (writes_of script) k) (λ (next : ℕ × ScriptItem). IsWithin (record { writes = n; beats = 0; bytes = 0 }) next.1)
+sending-first script k n =
+    let go : (o : Option (ℕ × ScriptItem)) → slice_get (writes_of script) k ≡ o → IfSome o (λ (next : ℕ × ScriptItem). IsWithin (record { writes = n; beats = 0; bytes = 0 }) next.1) =
+    elim [
+      | None ↦ λ at. tt
+      | Some p ↦ λ at. record { write = (direction-at true script k p at).1; beats = omega arith; bytes = refl }
+    ]
+    in go (slice_get (writes_of script) k) refl
+
+-- and after a data beat
+pub sending-next : (script : List ScriptItem) (sending : Sending) (o : Option (ℕ × ScriptItem)) → ((next : ℕ × ScriptItem) → o ≡ Some next → slice_get (writes_of script) sending.writes ≡ Some next) →
+    IfSome (slice_get (writes_of script) sending.writes) (λ (next : ℕ × ScriptItem). IsWithin sending next.1) → IfSome (slice_get (writes_of script) (sent_after o sending).writes) (λ (next : ℕ × ScriptItem). IsWithin (sent_after o sending) next.1)
+sending-next script sending None next within = within
+sending-next script sending (Some x) next within =
+    let at = next x refl
+    in let own : IsWithin sending x.1 = subst (λ (o : Option (ℕ × ScriptItem)). IfSome o (λ (next : ℕ × ScriptItem). IsWithin sending next.1)) at within
+    in let after : Bool → Sending = λ b. cond b (record { writes = sending.writes + 1; beats = 0; bytes = 0 }) (record { writes = sending.writes; beats = sending.beats + 1; bytes = sending.bytes + length (beat_bytes x.1.txn.request sending.beats) })
+    in let go : (b : Bool) → (sending.beats == x.1.txn.request.len) ≡ b → IfSome (slice_get (writes_of script) (after b).writes) (λ (next : ℕ × ScriptItem). IsWithin (after b) next.1) =
+    elim [
+      | true ↦ λ last. sending-first script (sending.writes + 1) (sending.writes + 1)
+      | false ↦ λ some. subst (λ (o : Option (ℕ × ScriptItem)). IfSome o (λ (next : ℕ × ScriptItem). IsWithin (after false) next.1)) (sym at) (record {
+        write = own.write;
+        beats = below sending.beats x.1.txn.request.len own.beats (eqb-false sending.beats x.1.txn.request.len some);
+        bytes =
+            let one : suc sending.beats ≡ sending.beats + 1 = omega arith
+            in ap (λ (k : ℕ). k + length (beat_bytes x.1.txn.request sending.beats)) own.bytes ∙ sym (bytes-next x.1.txn.request sending.beats) ∙ ap (λ (k : ℕ). length (bytes_before x.1.txn.request k)) one;
+      })
+    ]
+    in go (sending.beats == x.1.txn.request.len) refl
+  where
+    below : (k len : ℕ) → k ≤ len → k ≢ len → k + 1 ≤ len
+    below k len le apart = elim (cases_order k len) [ inl same ↦ absurd (apart same) | inr other ↦ elim other [ inl less ↦ omega arith | inr above ↦ absurd (omega arith) ] ]
 
 pub passing-within : (P : ℕ → Type 0) (b : Bool) (places : List ℕ) (k : ℕ) → All P places → IfSome (passing b (slice_get places k)) P
 passing-within P false places k all = tt
@@ -96,25 +139,25 @@ module _ (links : List LinkView) (s : ManagerState) where
     pub writes-within : All (λ (entry : Entry). entry.place < length s.answers) s.write_entries
     writes-within = All-entries (λ place. place < length s.answers) s.write_entries _ is.writes_waiting.within
 
-    pub writes-due : All (λ (entry : Entry). IsUnanswered 0 (get_or s.answers entry.place (unanswered 0))) s.write_entries
-    writes-due = All-entries (λ place. IsUnanswered 0 (get_or s.answers place (unanswered 0))) s.write_entries _ is.writes_waiting.nothing_came
+    pub writes-due : All (λ (entry : Entry). IsDue s.script true entry.place (get_or s.answers entry.place (unanswered 0))) s.write_entries
+    writes-due = All-entries (λ place. IsDue s.script true place (get_or s.answers place (unanswered 0))) s.write_entries _ is.writes_waiting.due
 
     pub reads-within : (answers : List AnswerView) → answers ≡ note_write round (manager_b links s) s.answers → All (λ (entry : Entry). entry.place < length answers) s.read_entries
     reads-within answers same = subst (λ (answers_then : List AnswerView). All (λ (entry : Entry). entry.place < length answers_then) s.read_entries) (sym same) (All-entries (λ place. place < length (note_write round (manager_b links s) s.answers)) s.read_entries _ (after-b links s round counts is).other_waiting.within)
 
-    pub reads-due : (answers : List AnswerView) → answers ≡ note_write round (manager_b links s) s.answers → All (λ (entry : Entry). IsUnanswered s.bus (get_or answers entry.place (unanswered 0))) s.read_entries
-    reads-due answers same = subst (λ (answers_then : List AnswerView). All (λ (entry : Entry). IsUnanswered s.bus (get_or answers_then entry.place (unanswered 0))) s.read_entries) (sym same) (All-entries (λ place. IsUnanswered s.bus (get_or (note_write round (manager_b links s) s.answers) place (unanswered 0))) s.read_entries _ (after-b links s round counts is).other_waiting.nothing_came)
+    pub reads-due : (answers : List AnswerView) → answers ≡ note_write round (manager_b links s) s.answers → All (λ (entry : Entry). IsDue s.script false entry.place (get_or answers entry.place (unanswered 0))) s.read_entries
+    reads-due answers same = subst (λ (answers_then : List AnswerView). All (λ (entry : Entry). IsDue s.script false entry.place (get_or answers_then entry.place (unanswered 0))) s.read_entries) (sym same) (All-entries (λ place. IsDue s.script false place (get_or (note_write round (manager_b links s) s.answers) place (unanswered 0))) s.read_entries _ (after-b links s round counts is).other_waiting.due)
 
     -- the count of answers fits 32 bits
-    pub answered-small : s.answered + more (is_some (manager_b links s)) + more (is_some (manager_r links s)) < 2 ^ 32
+    pub answered-small : s.answered + more (is_some (manager_b links s)) + more (is_some (manager_r_last links s)) < 2 ^ 32
     answered-small =
         let kept = after-r links s round counts is
         in let short = script-short s.script is.is_script
-        in let most = count_by-le-length is_answered (note_read round s.bus (manager_r links s) (note_write round (manager_b links s) s.answers))
+        in let most = count_by-le-length is_answered (note_read round s.bus s.script (manager_r links s) (note_write round (manager_b links s) s.answers))
         in omega (arith, short, most, kept.counted, kept.one_each)
 
     -- the answers after B and R are as many as the transactions
-    pub answers-all : (answers : List AnswerView) → answers ≡ note_read round s.bus (manager_r links s) (note_write round (manager_b links s) s.answers) → length answers ≡ length s.script
+    pub answers-all : (answers : List AnswerView) → answers ≡ note_read round s.bus s.script (manager_r links s) (note_write round (manager_b links s) s.answers) → length answers ≡ length s.script
     answers-all answers same = ap (length {A = AnswerView}) same ∙ (after-r links s round counts is).one_each
 
 module _ {X : Type 0} where
@@ -123,8 +166,8 @@ module _ {X : Type 0} where
   room-left entries o few = omega (arith, waiting-most entries o)
 
 -- two states with equal parts
-pub state-same : (script : List ScriptItem) (lower bus iw iw' ir ir' sw sw' : ℕ) (we we' re re' : List Entry) (k k' : ℕ) (noted noted' : List AnswerView) → iw ≡ iw' → ir ≡ ir' → sw ≡ sw' → we ≡ we' → re ≡ re' → k ≡ k' → noted ≡ noted' → ◌≡◌ {A = ManagerState} (record { script = script; lower = lower; bus = bus; issued_writes = iw; issued_reads = ir; sent_writes = sw; write_entries = we; read_entries = re; answered = k; answers = noted }) (record { script = script; lower = lower; bus = bus; issued_writes = iw'; issued_reads = ir'; sent_writes = sw'; write_entries = we'; read_entries = re'; answered = k'; answers = noted' })
-state-same script lower bus iw iw' ir ir' sw sw' we we' re re' k k' noted noted' a b c d e f g = cc
+pub state-same : (script : List ScriptItem) (lower bus iw iw' ir ir' sw sw' sb sb' : ℕ) (we we' re re' : List Entry) (k k' : ℕ) (noted noted' : List AnswerView) → iw ≡ iw' → ir ≡ ir' → sw ≡ sw' → sb ≡ sb' → we ≡ we' → re ≡ re' → k ≡ k' → noted ≡ noted' → ◌≡◌ {A = ManagerState} (record { script = script; lower = lower; bus = bus; issued_writes = iw; issued_reads = ir; sent_writes = sw; sent_beats = sb; write_entries = we; read_entries = re; answered = k; answers = noted }) (record { script = script; lower = lower; bus = bus; issued_writes = iw'; issued_reads = ir'; sent_writes = sw'; sent_beats = sb'; write_entries = we'; read_entries = re'; answered = k'; answers = noted' })
+state-same script lower bus iw iw' ir ir' sw sw' sb sb' we we' re re' k k' noted noted' a b c d e f g h = cc
 
 -- the moves of a manager, channel by channel
 pub out-same : (aw aw' ar ar' : Option (ℕ × Addr)) (w w' : Option (ℕ × WBeat)) (b b' r r' awt wt art : Option ℕ) (bp : Option (ℕ × BBeat)) (rp : Option (ℕ × RBeat)) → awt ≡ None → aw ≡ aw' → wt ≡ None → w ≡ w' → b ≡ b' → bp ≡ None → art ≡ None → ar ≡ ar' → r ≡ r' → rp ≡ None → ◌≡◌ {A = Out} (record { aw_take = awt; aw_put = aw; w_take = wt; w_put = w; b_take = b; b_put = bp; ar_take = art; ar_put = ar; r_take = r; r_put = rp }) (record { aw_take = None; aw_put = aw'; w_take = None; w_put = w'; b_take = b'; b_put = None; ar_take = None; ar_put = ar'; r_take = r'; r_put = None })
@@ -139,3 +182,63 @@ sum-same a b c x y e f = omega arith
 -- two managers with equal states and moves
 pub acted-same : (s s' : ManagerState) (out out' : Out) → s ≡ s' → out ≡ out' → ◌≡◌ {A = Acted ManagerState} (record { state = s; out = out }) (record { state = s'; out = out' })
 acted-same s s' out out' a b = cc
+
+-- the data place of a new manager
+pub sending-begins : (script : List ScriptItem) → IfSome (slice_get (writes_of script) 0) (λ (next : ℕ × ScriptItem). IsWithin (record { writes = 0; beats = 0; bytes = 0 }) next.1)
+sending-begins script = sending-first script 0 0
+
+-- the writes whose data is sent are few
+pub sent-small : (s : ManagerState) → IsManager s → s.sent_writes < 2 ^ 32
+sent-small s is =
+    let few = filter-few (λ (p : ℕ × ScriptItem). is_directed true p.1.txn) (enumerate_from 0 s.script)
+    in let long = length-enumerate_from 0 s.script
+    in let short = script-short s.script is.is_script
+    in omega (arith, few, long, short, is.writes_sent, is.writes_issued)
+  where
+    filter-few : {X : Type 0} (test : X → Bool) (xs : List X) → length (filter test xs) ≤ length xs
+    filter-few test [] = omega arith
+    filter-few test (x ∷ xs) =
+        let go : (b : Bool) → length (cond b (x ∷ filter test xs) (filter test xs)) ≤ suc (length xs) = elim [ true ↦ omega (arith, filter-few test xs) | false ↦ omega (arith, filter-few test xs) ]
+        in go (test x)
+
+-- the data place within the next write
+pub next-within : (links : List LinkView) (s : ManagerState) (sending : Sending) (o : Option (ℕ × ScriptItem)) → o ≡ manager_w links s → sending.writes ≡ s.sent_writes →
+    IfSome (slice_get (writes_of s.script) sending.writes) (λ (next : ℕ × ScriptItem). IsWithin sending next.1) → IfSome o (λ (next : ℕ × ScriptItem). IsWithin sending next.1)
+next-within links s sending None is same within = tt
+next-within links s sending (Some x) is same within =
+    let at = w-next links s x (sym is)
+    in subst (λ (o : Option (ℕ × ScriptItem)). IfSome o (λ (next : ℕ × ScriptItem). IsWithin sending next.1)) (ap (slice_get (writes_of s.script)) same ∙ at) within
+
+-- the data place after a round, as the table has it
+pub sent-writes : (sending : Sending) (o : Option (ℕ × ScriptItem)) → (sent_after o sending).writes ≡ sending.writes + more (ends_data sending.beats o)
+sent-writes sending None = omega arith
+sent-writes sending (Some x) =
+    let after : Bool → Sending = λ b. cond b (record { writes = sending.writes + 1; beats = 0; bytes = 0 }) (record { writes = sending.writes; beats = sending.beats + 1; bytes = sending.bytes + length (beat_bytes x.1.txn.request sending.beats) })
+    in let go : (b : Bool) → (after b).writes ≡ sending.writes + more b = elim [ true ↦ refl | false ↦ omega arith ]
+    in go (sending.beats == x.1.txn.request.len)
+
+pub sent-beats : (sending : Sending) (o : Option (ℕ × ScriptItem)) → (sent_after o sending).beats ≡ beats_after sending.beats o
+sent-beats sending None = refl
+sent-beats sending (Some x) =
+    let after : Bool → Sending = λ b. cond b (record { writes = sending.writes + 1; beats = 0; bytes = 0 }) (record { writes = sending.writes; beats = sending.beats + 1; bytes = sending.bytes + length (beat_bytes x.1.txn.request sending.beats) })
+    in let go : (b : Bool) → (after b).beats ≡ cond b 0 (sending.beats + 1) = elim [ true ↦ refl | false ↦ refl ]
+    in go (sending.beats == x.1.txn.request.len)
+
+-- a read is answered where its last beat was taken
+pub last-more : (answers : List AnswerView) (o : Option (Entry × RBeat)) (got : Option Bool) (b : Bool) → got ≡ option_map (λ (answer : Entry × RBeat). is_last (get_or answers answer.0.place (unanswered 0))) o → b ≡ unwrap_or got false → more b ≡ more (is_some (ending answers o))
+last-more answers None got b is test = ap more (test ∙ ap (λ (o : Option Bool). unwrap_or o false) is)
+last-more answers (Some x) got b is test =
+    let go : (c : Bool) → more c ≡ more (is_some {T = Entry × RBeat} (passing c (Some x))) = elim [ true ↦ refl | false ↦ refl ]
+    in ap more (test ∙ ap (λ (o : Option Bool). unwrap_or o false) is) ∙ go (is_last (get_or answers x.0.place (unanswered 0)))
+
+-- the last answer after B is the table's
+pub last-is : (links : List LinkView) (s : ManagerState) (round : ℕ) → IsManager s → (answers : List AnswerView) (o : Option (Entry × RBeat)) → answers ≡ note_write round (manager_b links s) s.answers → o ≡ manager_r links s → ending answers o ≡ manager_r_last links s
+last-is links s round is answers o noted same = ap (λ (a : List AnswerView). ending a o) noted ∙ ap (ending (note_write round (manager_b links s) s.answers)) same ∙ ending-same links s is round
+
+pub got-last : (links : List LinkView) (s : ManagerState) (round : ℕ) → IsManager s → (answers : List AnswerView) (o : Option (Entry × RBeat)) (got : Option Bool) (b : Bool) → answers ≡ note_write round (manager_b links s) s.answers → o ≡ manager_r links s →
+    got ≡ option_map (λ (answer : Entry × RBeat). is_last (get_or answers answer.0.place (unanswered 0))) o → b ≡ unwrap_or got false → more b ≡ more (is_some (manager_r_last links s))
+got-last links s round is answers o got b noted same taken test = last-more answers o got b taken test ∙ ap (λ (p : Option (Entry × RBeat)). more (is_some p)) (last-is links s round is answers o noted same)
+
+pub got-some : {X : Type 0} (f : X → Bool) (o : Option X) (got : Option Bool) → got ≡ option_map f o → is_some got ≡ is_some o
+got-some f None got is = ap is_some is
+got-some f (Some x) got is = ap is_some is

@@ -1,25 +1,31 @@
 -- What holds of a manager over its rounds and its trail.
-use Rattle.std.proofs.Common.{◌≡◌, ◌≢◌, ◌↔◌, ℕ, ◌+◌, ◌-◌, ◌<◌, zero, suc, true, false, List, [], ◌∷◌, ◌++◌, Some, Contains, length, map, take, drop, refl, sym, ◌∙◌, ap, subst, inl, inr, arith, append-nil}
-use Rattle.std.specs.Prelude.{slice_get}
-use Rattle.std.proofs.lemmas.Option.{same_Some}
-use Rattle.axi_beats.specs.Word.{IsWholeWord}
+use Rattle.std.proofs.Common.{◌≡◌, ◌≢◌, ◌↔◌, ℕ, ◌+◌, ◌<◌, suc, Bool, true, false, cond, List, [], ◌∷◌, ◌++◌, Option, Some, None, Contains, length, map, take, refl, sym, ◌∙◌, ap, subst, inl, inr, arith, append_assoc, append-nil, length-append}
+use Rattle.std.specs.Prelude.{slice_get, slice_range}
+use Rattle.std.proofs.lemmas.Bool.{eqb-false, eqb-true}
+use Rattle.std.proofs.lemmas.List.{length-map, map-append}
+use Rattle.std.proofs.lemmas.List.FromFn.{get_or-map-range_with_len, length-map-range_with_len}
+use Rattle.std.proofs.lemmas.Option.{same_Some, slice_get-get_or}
+use Rattle.axi_beats.specs.declared.beat.Addr.{Addr}
 use Rattle.axi_beats.specs.declared.beat.BBeat.{BBeat}
 use Rattle.axi_beats.specs.declared.beat.RBeat.{RBeat}
 use Rattle.axi_beats.specs.declared.response.Resp.{Resp}
 use Rattle.axi_link.specs.LinkView.{LinkView}
+use Rattle.burst_address.specs.Formulas.{beats_of}
 use Rattle.flight.specs.Entries.{of_key}
 use Rattle.axi_trail.proofs.StreamFacts.{prefix_nil}
 use Rattle.axi_trail.specs.LinkContracts.{Answers}
 use Rattle.axi_trail.specs.Schedule.{Schedule, Span, Progress, bytes_on}
 use Rattle.axi_trail.specs.Trail.{Beats}
 use Rattle.axi_trail.specs.Words.{number_of_response, number_of_read_data}
-use Rattle.manager_end.specs.Answer.{AnswerView, answered_in}
+use Rattle.manager_end.specs.Answer.{AnswerView, answered_in, is_last}
+use Rattle.manager_end.specs.Beats.{high_lane, low_lane, valid_lanes}
 use Rattle.manager_end.specs.ManagerOrder.{IsAt, note_at}
-use Rattle.manager_end.specs.ManagerState.{ManagerState, IsManager, new_manager, of_direction}
-use Rattle.manager_end.specs.ManagerTable.{manager_b, manager_r, manager_next}
-use Rattle.manager_end.specs.ManagerTrail.{HasItem, HasPassed, IsReadNote, IsWriteNote, ManagerKeeps, ManagerOpens, ManagerSteps, manager_trail}
+use Rattle.manager_end.specs.ManagerState.{ManagerState, IsDue, IsManager, due_resps, new_manager, of_direction, writes_of}
+use Rattle.manager_end.specs.ManagerTable.{manager_b, manager_r, manager_next, read_in}
+use Rattle.manager_end.specs.ManagerTrail.{HasItem, HasPassed, IsReadNote, IsWriteNote, ManagerKeeps, ManagerOpens, ManagerSteps, first_data, manager_trail, spans_of}
 use Rattle.manager_end.specs.Script.{ScriptItem}
 use Rattle.manager_end.specs.declared.entry.Entry.{Entry}
+use Rattle.manager_end.proofs.DueLemmas.{last-answers, more-answers, read-is, write-last}
 use Rattle.manager_end.proofs.EntryLemmas.{stays-same}
 use Rattle.manager_end.proofs.IssueLemmas.{new-note}
 use Rattle.manager_end.proofs.ManagerLaws.{manager-begins, manager-stays}
@@ -27,18 +33,26 @@ use Rattle.manager_end.proofs.NoteLemmas.{b-noted, b-taken, r-noted, r-taken, hi
 use Rattle.manager_end.proofs.NumberLemmas.{at-all, issued-shown, number-once}
 use Rattle.manager_end.proofs.OrderLaws.{order-begins, order-stays}
 use Rattle.manager_end.proofs.PlaceLemmas.{direction-of}
-use Rattle.manager_end.proofs.RowLemmas.{bus-some}
-use Rattle.manager_end.proofs.TrailLemmas.{ar-after, aw-after, b-after, b-number, map-nil, own-here, own-other, r-after, r-number, read-entries-after, w-after, write-entries-after}
+use Rattle.manager_end.proofs.TrailLemmas.{ar-after, aw-after, b-after, b-number, own-here, own-other, r-after, r-number, read-entries-after, w-after, write-entries-after}
 
--- the bytes of one whole word of the bus
-bytes-of_word : (bus : ℕ) (r : RBeat) (lanes : List Span) → bus ≢ 0 → lanes ≡ record { low = 0; high = bus - 1 } ∷ [] → bytes_on (r ∷ []) lanes ≡ take bus r.lanes
-bytes-of_word bus r lanes wide is =
-    let size : bus - 1 + 1 - 0 ≡ bus = omega (arith, one_more bus wide)
-    in ap (bytes_on (r ∷ [])) is ∙ append-nil (take (bus - 1 + 1 - 0) (drop 0 r.lanes)) ∙ ap (λ (n : ℕ). take n r.lanes) size
-  where
-    one_more : (n : ℕ) → n ≢ 0 → 0 < n
-    one_more zero ne = absurd (ne refl)
-    one_more (suc n) ne = omega arith
+-- the bytes of one more beat
+bytes-push : (rs : List RBeat) (spans : List Span) (r : RBeat) (span : Span) → slice_get spans (length rs) ≡ Some span → bytes_on (rs ++ r ∷ []) spans ≡ bytes_on rs spans ++ slice_range r.lanes span.low (span.high + 1)
+bytes-push rs [] r span at = absurd (cc)
+bytes-push [] (first ∷ spans) r span at =
+    let same : first ≡ span = same_Some first span at
+    in append-nil (slice_range r.lanes first.low (first.high + 1)) ∙ ap (λ (s : Span). slice_range r.lanes s.low (s.high + 1)) same
+bytes-push (q ∷ rs) (first ∷ spans) r span at =
+    ap (λ (bs : List ℕ). slice_range q.lanes first.low (first.high + 1) ++ bs) (bytes-push rs spans r span at)
+    ∙ sym (append_assoc (slice_range q.lanes first.low (first.high + 1)) (bytes_on rs spans) (slice_range r.lanes span.low (span.high + 1)))
+
+-- the valid lanes of a beat
+span-at : (bus : ℕ) (request : Addr) (k : ℕ) → k < beats_of request → slice_get (spans_of bus request) k ≡ Some (record { low = low_lane bus request k; high = high_lane bus request k })
+span-at bus request k less =
+    let span : ℕ → Span = λ n. record { low = low_lane bus request n; high = high_lane bus request n }
+    in let long : length (spans_of bus request) ≡ beats_of request = length-map-range_with_len span 0 (beats_of request)
+    in let none : Span = record { low = 0; high = 0 }
+    in slice_get-get_or (spans_of bus request) k none (subst (λ (n : ℕ). k < n) (sym long) less)
+    ∙ ap (λ (s : Span). Some s) (get_or-map-range_with_len span 0 (beats_of request) k k none less (omega arith))
 
 module _ (plan : Schedule) (now : Progress) (rounds : ℕ) (links : List LinkView) (s : ManagerState) (trail : Beats) (keeps : ManagerKeeps plan rounds s trail) (answers : Answers plan now (manager_trail links s trail)) where
   stays : IsManager (manager_next (suc rounds) links s)
@@ -55,21 +69,22 @@ module _ (plan : Schedule) (now : Progress) (rounds : ℕ) (links : List LinkVie
   write-came place item at directed x taken here =
       let noted : note_at (manager_next (suc rounds) links s) place ≡ answered_in (suc rounds) x.1.resp [] (note_at s place) =
       subst (λ (q : ℕ). note_at (manager_next (suc rounds) links s) q ≡ answered_in (suc rounds) x.1.resp [] (note_at s q)) (sym here) (b-noted links s keeps.is_manager (suc rounds) x taken)
-      in let waits = taken-waits links s keeps.is_manager true x.0 (b-taken links s keeps.is_manager x taken)
-      in let no_resps : (note_at s place).resps ≡ [] = ap (λ (q : ℕ). (note_at s q).resps) here ∙ waits.resps
-      in let no_bytes : (note_at s place).bytes ≡ [] = ap (λ (q : ℕ). (note_at s q).bytes) here ∙ waits.no_bytes
+      in let due : IsDue s.script true place (note_at s place) = subst (λ (q : ℕ). IsDue s.script true q (note_at s q)) (sym here) (taken-waits links s keeps.is_manager true x.0 (b-taken links s keeps.is_manager x taken))
+      in let last = last-answers (suc rounds) x.1.resp [] (note_at s place) (write-last s.script place (note_at s place) due)
       in let note = keeps.passed.write_notes place item at directed
-      in let before : of_key number_of_response item.txn.number trail.b ≡ [] = map-nil (λ (b : BBeat). b.resp) (of_key number_of_response item.txn.number trail.b) (sym no_resps ∙ note.responses)
       in let number = b-number plan now rounds links s trail keeps answers x taken
       in let one : number.0 ≡ item = same_Some number.0 item (sym number.1 ∙ ap (slice_get s.script) (sym here) ∙ at)
       in let own : x.1.tag.txn ≡ item.txn.number = number.2 ∙ ap (λ (i : ScriptItem). i.txn.number) one
-      in let after : of_key number_of_response item.txn.number (manager_trail links s trail).b ≡ x.1 ∷ [] =
-      ap (of_key number_of_response item.txn.number) (b-after plan now rounds links s trail keeps answers) ∙ own-here number_of_response item.txn.number trail.b (manager_b links s) x taken own before
+      in let after : of_key number_of_response item.txn.number (manager_trail links s trail).b ≡ of_key number_of_response item.txn.number trail.b ++ x.1 ∷ [] =
+      ap (of_key number_of_response item.txn.number) (b-after plan now rounds links s trail keeps answers) ∙ own-here number_of_response item.txn.number trail.b (manager_b links s) x taken own
+      in let none : length (note_at s place).resps ≡ 0 = let single : (note_at s place).due_resps ≡ 1 = due.due_resps ∙ ap (λ (b : Bool). cond b 1 (due.item.txn.request.len + 1)) due.direction in omega (arith, due.more)
+      in let before : length (of_key number_of_response item.txn.number trail.b) ≡ 0 = sym (length-map (of_key number_of_response item.txn.number trail.b) (λ (b : BBeat). b.resp)) ∙ ap length (sym note.responses) ∙ none
+      in let single : length (of_key number_of_response item.txn.number (manager_trail links s trail).b) ≡ 1 = ap length after ∙ length-append (of_key number_of_response item.txn.number trail.b) (x.1 ∷ []) ∙ ap (λ (n : ℕ). n + 1) before
       in record {
         issued = write-shown place item at directed;
-        responses = ap (λ (a : AnswerView). a.resps) noted ∙ ap (λ (rs : List Resp). rs ++ x.1.resp ∷ []) no_resps ∙ sym (ap (map (λ (b : BBeat). b.resp)) after);
-        bytes = ap (λ (a : AnswerView). a.bytes) noted ∙ ap (λ (bs : List ℕ). bs ++ []) no_bytes;
-        answered = (λ some. ap length after, λ whole. subst (λ (n : ℕ). 0 < n) (sym (ap (λ (a : AnswerView). a.answered) noted)) (omega arith));
+        responses = ap (λ (a : AnswerView). a.resps) noted ∙ ap (λ (rs : List Resp). rs ++ x.1.resp ∷ []) note.responses ∙ sym (map-append (λ (b : BBeat). b.resp) (of_key number_of_response item.txn.number trail.b) (x.1 ∷ [])) ∙ sym (ap (map (λ (b : BBeat). b.resp)) after);
+        bytes = ap (λ (a : AnswerView). a.bytes) noted ∙ ap (λ (bs : List ℕ). bs ++ []) note.bytes;
+        answered = (λ some. single, λ whole. subst (λ (n : ℕ). 0 < n) (sym (ap (λ (a : AnswerView). a.answered) noted ∙ last)) (omega arith));
       }
 
   -- a write whose response isn't taken
@@ -99,30 +114,44 @@ module _ (plan : Schedule) (now : Progress) (rounds : ℕ) (links : List LinkVie
     | inr apart ↦ write-waits place item at directed apart
   ]
 
-  -- a read whose data is taken
+  -- a read of which a beat is taken
   read-came : (place : ℕ) (item : ScriptItem) → IsAt s place item → item.txn.write ≡ false → (x : Entry × RBeat) → manager_r links s ≡ Some x → place ≡ x.0.place → IsReadNote plan (manager_next (suc rounds) links s) (manager_trail links s trail) place item
   read-came place item at directed x taken here =
-      let noted : note_at (manager_next (suc rounds) links s) place ≡ answered_in (suc rounds) x.1.resp (take s.bus x.1.lanes) (note_at s place) =
-      subst (λ (q : ℕ). note_at (manager_next (suc rounds) links s) q ≡ answered_in (suc rounds) x.1.resp (take s.bus x.1.lanes) (note_at s q)) (sym here) (r-noted links s keeps.is_manager (suc rounds) x taken)
-      in let waits = taken-waits links s keeps.is_manager false x.0 (r-taken links s keeps.is_manager x taken)
-      in let no_resps : (note_at s place).resps ≡ [] = ap (λ (q : ℕ). (note_at s q).resps) here ∙ waits.resps
-      in let no_bytes : (note_at s place).bytes ≡ [] = ap (λ (q : ℕ). (note_at s q).bytes) here ∙ waits.no_bytes
+      let noted : note_at (manager_next (suc rounds) links s) place ≡ answered_in (suc rounds) x.1.resp (valid_lanes s.bus item.txn.request (length (note_at s place).resps) x.1.lanes) (note_at s place) =
+      subst (λ (q : ℕ). note_at (manager_next (suc rounds) links s) q ≡ read_in (suc rounds) s.bus (slice_get s.script q) x.1 (note_at s q)) (sym here) (r-noted links s keeps.is_manager (suc rounds) x taken)
+      ∙ read-is s.script place (suc rounds) s.bus x.1 (note_at s place) item at
+      in let due : IsDue s.script false place (note_at s place) = subst (λ (q : ℕ). IsDue s.script false q (note_at s q)) (sym here) (taken-waits links s keeps.is_manager false x.0 (r-taken links s keeps.is_manager x taken))
+      in let own_item : due.item ≡ item = same_Some due.item item (sym due.at ∙ at)
+      in let whole : (note_at s place).due_resps ≡ item.txn.request.len + 1 = due.due_resps ∙ ap (λ (i : ScriptItem). due_resps i.txn) own_item ∙ ap (λ (b : Bool). cond b 1 (item.txn.request.len + 1)) directed
       in let note = keeps.passed.read_notes place item at directed
-      in let before : of_key number_of_read_data item.txn.number trail.r ≡ [] = map-nil (λ (r : RBeat). r.resp) (of_key number_of_read_data item.txn.number trail.r) (sym no_resps ∙ note.responses)
       in let number = r-number plan now rounds links s trail keeps answers x taken
       in let one : number.0 ≡ item = same_Some number.0 item (sym number.1 ∙ ap (slice_get s.script) (sym here) ∙ at)
       in let own : x.1.tag.txn ≡ item.txn.number = number.2 ∙ ap (λ (i : ScriptItem). i.txn.number) one
-      in let after : of_key number_of_read_data item.txn.number (manager_trail links s trail).r ≡ x.1 ∷ [] =
-      ap (of_key number_of_read_data item.txn.number) (r-after plan now rounds links s trail keeps answers) ∙ own-here number_of_read_data item.txn.number trail.r (manager_r links s) x taken own before
+      in let after : of_key number_of_read_data item.txn.number (manager_trail links s trail).r ≡ of_key number_of_read_data item.txn.number trail.r ++ x.1 ∷ [] =
+      ap (of_key number_of_read_data item.txn.number) (r-after plan now rounds links s trail keeps answers) ∙ own-here number_of_read_data item.txn.number trail.r (manager_r links s) x taken own
+      in let before : length (of_key number_of_read_data item.txn.number trail.r) ≡ length (note_at s place).resps = sym (length-map (of_key number_of_read_data item.txn.number trail.r) (λ (r : RBeat). r.resp)) ∙ ap length (sym note.responses)
+      in let more : length (of_key number_of_read_data item.txn.number (manager_trail links s trail).r) ≡ length (note_at s place).resps + 1 = ap length after ∙ length-append (of_key number_of_read_data item.txn.number trail.r) (x.1 ∷ []) ∙ ap (λ (n : ℕ). n + 1) before
       in let lanes = (at-all (HasItem plan s.bus) s.script place item keeps.planned.items at).lanes directed
-      in let one_beat : item.txn.request.len ≡ 0 = (at-all (λ (i : ScriptItem). IsWholeWord s.bus i.txn.request) s.script place item keeps.is_manager.words at).one_beat
+      in let span = span-at s.bus item.txn.request (length (of_key number_of_read_data item.txn.number trail.r)) (omega (arith, due.more))
+      in let pushed : bytes_on (of_key number_of_read_data item.txn.number (manager_trail links s trail).r) (plan.reads item.txn.number).lanes ≡ bytes_on (of_key number_of_read_data item.txn.number trail.r) (plan.reads item.txn.number).lanes ++ valid_lanes s.bus item.txn.request (length (note_at s place).resps) x.1.lanes =
+      ap (λ (rs : List RBeat). bytes_on rs (plan.reads item.txn.number).lanes) after
+      ∙ bytes-push (of_key number_of_read_data item.txn.number trail.r) (plan.reads item.txn.number).lanes x.1 _ (ap (λ (spans : List Span). slice_get spans (length (of_key number_of_read_data item.txn.number trail.r))) lanes ∙ span)
+      ∙ ap (λ (k : ℕ). bytes_on (of_key number_of_read_data item.txn.number trail.r) (plan.reads item.txn.number).lanes ++ valid_lanes s.bus item.txn.request k x.1.lanes) before
+      in let ends : (b : Bool) → is_last (note_at s place) ≡ b → (0 < (note_at (manager_next (suc rounds) links s) place).answered) ↔ (length (of_key number_of_read_data item.txn.number (manager_trail links s trail).r) ≡ suc item.txn.request.len) =
+      elim [
+        | true ↦ λ last.
+            let full : length (note_at s place).resps + 1 ≡ (note_at s place).due_resps = eqb-true (length (note_at s place).resps + 1) (note_at s place).due_resps last
+            in (λ some. omega arith, λ all. subst (λ (n : ℕ). 0 < n) (sym (ap (λ (a : AnswerView). a.answered) noted ∙ last-answers (suc rounds) x.1.resp [] (note_at s place) last)) (omega arith))
+        | false ↦ λ some.
+            let open_still : (note_at (manager_next (suc rounds) links s) place).answered ≡ 0 = ap (λ (a : AnswerView). a.answered) noted ∙ more-answers (suc rounds) x.1.resp [] (note_at s place) some ∙ due.answered
+            in let apart : (length (note_at s place).resps + 1) ≢ (note_at s place).due_resps = eqb-false (length (note_at s place).resps + 1) (note_at s place).due_resps some
+            in (λ came. absurd (omega arith), λ all. absurd (apart (omega arith)))
+      ]
       in record {
         issued = read-shown place item at directed;
-        responses = ap (λ (a : AnswerView). a.resps) noted ∙ ap (λ (rs : List Resp). rs ++ x.1.resp ∷ []) no_resps ∙ sym (ap (map (λ (r : RBeat). r.resp)) after);
-        bytes =
-            ap (λ (a : AnswerView). a.bytes) noted ∙ ap (λ (bs : List ℕ). bs ++ take s.bus x.1.lanes) no_bytes
-            ∙ sym (ap (λ (rs : List RBeat). bytes_on rs (plan.reads item.txn.number).lanes) after ∙ bytes-of_word s.bus x.1 (plan.reads item.txn.number).lanes (bus-some s.bus keeps.is_manager.bus_width) lanes);
-        answered = (λ some. ap length after ∙ ap suc (sym one_beat), λ whole. subst (λ (n : ℕ). 0 < n) (sym (ap (λ (a : AnswerView). a.answered) noted)) (omega arith));
+        responses = ap (λ (a : AnswerView). a.resps) noted ∙ ap (λ (rs : List Resp). rs ++ x.1.resp ∷ []) note.responses ∙ sym (map-append (λ (r : RBeat). r.resp) (of_key number_of_read_data item.txn.number trail.r) (x.1 ∷ [])) ∙ sym (ap (map (λ (r : RBeat). r.resp)) after);
+        bytes = ap (λ (a : AnswerView). a.bytes) noted ∙ ap (λ (bs : List ℕ). bs ++ valid_lanes s.bus item.txn.request (length (note_at s place).resps) x.1.lanes) note.bytes ∙ sym pushed;
+        answered = ends (is_last (note_at s place)) refl;
       }
 
   -- a read whose data isn't taken
@@ -180,17 +209,17 @@ none-contained x has = absurd (omega (arith, has.1))
 -- it holds of a manager that has issued nothing
 pub manager-opens : ManagerOpens
 manager-opens plan script lower bus is wide words planned =
-    let unissued : (place : ℕ) → (note_at (new_manager script lower bus) place).issued ≡ 0 = λ place. new-note (λ a. a.issued ≡ 0) bus script place (λ bytes. refl)
-    in let none : (place : ℕ) → (note_at (new_manager script lower bus) place).answered ≡ 0 = λ place. new-note (λ a. a.answered ≡ 0) bus script place (λ bytes. refl)
-    in let no_resps : (place : ℕ) → (note_at (new_manager script lower bus) place).resps ≡ [] = λ place. new-note (λ a. a.resps ≡ []) bus script place (λ bytes. refl)
-    in let no_bytes : (place : ℕ) → (note_at (new_manager script lower bus) place).bytes ≡ [] = λ place. new-note (λ a. a.bytes ≡ []) bus script place (λ bytes. refl)
+    let unissued : (place : ℕ) → (note_at (new_manager script lower bus) place).issued ≡ 0 = λ place. new-note (λ a. a.issued ≡ 0) script place (λ resps bytes. refl)
+    in let none : (place : ℕ) → (note_at (new_manager script lower bus) place).answered ≡ 0 = λ place. new-note (λ a. a.answered ≡ 0) script place (λ resps bytes. refl)
+    in let no_resps : (place : ℕ) → (note_at (new_manager script lower bus) place).resps ≡ [] = λ place. new-note (λ a. a.resps ≡ []) script place (λ resps bytes. refl)
+    in let no_bytes : (place : ℕ) → (note_at (new_manager script lower bus) place).bytes ≡ [] = λ place. new-note (λ a. a.bytes ≡ []) script place (λ resps bytes. refl)
     in record {
       is_manager = manager-begins script lower bus is wide words;
       planned = planned;
       in_order = order-begins script lower bus;
       passed = record {
         aw = refl;
-        w = refl;
+        w = sym (none-sent (slice_get (writes_of script) 0));
         ar = refl;
         write_entries = refl;
         read_entries = refl;
@@ -210,3 +239,7 @@ manager-opens plan script lower bus is wide words planned =
         };
       };
     }
+  where
+    none-sent : (o : Option (ℕ × ScriptItem)) → first_data bus 0 o ≡ []
+    none-sent None = refl
+    none-sent (Some p) = refl

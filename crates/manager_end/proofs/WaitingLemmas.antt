@@ -1,20 +1,22 @@
 -- Facts on the transactions that wait, and on the answers that are noted.
-use Rattle.std.proofs.Common.{◌≡◌, ◌≢◌, ℕ, ◌+◌, ◌<◌, ◌==◌, suc, Bool, true, false, cond, List, [], ◌∷◌, ◌++◌, Option, Some, None, length, map, drop, get_or, refl, sym, ◌∙◌, ap, subst, arith, add-one, append_assoc, drop-cons, rules}
+use Rattle.std.proofs.Common.{◌≡◌, ◌≢◌, ℕ, ◌+◌, ◌<◌, ◌==◌, suc, Bool, true, false, cond, List, [], ◌∷◌, ◌++◌, Option, Some, None, length, map, drop, get_or, refl, sym, ◌∙◌, ap, subst, inl, inr, arith, add-one, append_assoc, drop-cons}
 use Rattle.std.specs.Option.{option_map}
 use Rattle.std.specs.Prelude.{All, find, count_by, nat_lt, slice_get}
-use Rattle.std.proofs.lemmas.Bool.{eqb-true, eqb-false}
+use Rattle.std.proofs.lemmas.Bool.{cases_eq, eqb-true, eqb-false}
 use Rattle.std.proofs.lemmas.List.{get_or-set_same, get_or-set_other, map-append, length-set}
 use Rattle.std.proofs.lemmas.List.Elements.{All-cons, All-head, All-tail}
 use Rattle.std.proofs.lemmas.List.Sums.{sum_by-set}
 use Rattle.std.proofs.lemmas.Option.{slice_get_within, get_or_from_slice_get}
-use Rattle.axi_beats.specs.declared.response.Resp.{Resp}
+use Rattle.axi_beats.specs.declared.beat.RBeat.{RBeat}
+use Rattle.axi_link.specs.Table.{passing}
 use Rattle.flight.specs.Entries.{place_of, without_oldest}
-use Rattle.manager_end.specs.Answer.{AnswerView, unanswered, issued_in, answered_in, noted}
-use Rattle.manager_end.specs.ManagerState.{IsUnanswered, AreWaiting, AreDistinct, waiting, is_answered}
-use Rattle.manager_end.specs.ManagerTable.{answering, left_waiting, with_issued}
+use Rattle.manager_end.specs.Answer.{AnswerView, is_last, unanswered, issued_in, noted}
+use Rattle.manager_end.specs.ManagerState.{IsDue, AreWaiting, AreDistinct, waiting, is_answered}
+use Rattle.manager_end.specs.ManagerTable.{answering, ending, left_waiting, with_issued}
 use Rattle.manager_end.specs.Script.{ScriptItem}
 use Rattle.manager_end.specs.declared.direction.Direction.{Direction}
 use Rattle.manager_end.specs.declared.entry.Entry.{Entry}
+use Rattle.manager_end.proofs.DueLemmas.{due-apart}
 
 inner : {X : Type 0} (x y : X) → Some x ≡ Some y → x ≡ y
 inner x y e = cc
@@ -128,71 +130,103 @@ module _ (place : ℕ) (change : AnswerView → AnswerView) (answers : List Answ
       in let was_none : one (is_answered (get_or answers place (unanswered 0))) ≡ 0 = ap one before
       in omega (arith, counts, was_one, was_none)
 
--- the answers and the places of those that wait, of one direction with n bytes due of each and of the other one with
--- m bytes
-pub record AreKept (n m size : ℕ) (answers : List AnswerView) (answered : ℕ) (own other : List ℕ) : Type 0 where
-  pub own_waiting : AreWaiting n answers own
-  pub other_waiting : AreWaiting m answers other
+-- the answers and the places of those that wait, of one direction and of the other one
+pub record AreKept (script : List ScriptItem) (n m : Bool) (size : ℕ) (answers : List AnswerView) (answered : ℕ) (own other : List ℕ) : Type 0 where
+  pub own_waiting : AreWaiting script n answers own
+  pub other_waiting : AreWaiting script m answers other
   pub counted : answered ≡ count_by is_answered answers
   pub one_each : length answers ≡ size
 
-pub kept-turned : (n m size : ℕ) (answers : List AnswerView) (answered : ℕ) (own other : List ℕ) → AreKept n m size answers answered own other → AreKept m n size answers answered other own
-kept-turned n m size answers answered own other kept = record { own_waiting = kept.other_waiting; other_waiting = kept.own_waiting; counted = kept.counted; one_each = kept.one_each }
+pub kept-turned : (script : List ScriptItem) (n m : Bool) (size : ℕ) (answers : List AnswerView) (answered : ℕ) (own other : List ℕ) → AreKept script n m size answers answered own other → AreKept script m n size answers answered other own
+kept-turned script n m size answers answered own other kept = record { own_waiting = kept.other_waiting; other_waiting = kept.own_waiting; counted = kept.counted; one_each = kept.one_each }
 
 within-noted : (place : ℕ) (change : AnswerView → AnswerView) (answers : List AnswerView) (places : List ℕ) → All (λ p. p < length answers) places → All (λ p. p < length (noted place change answers)) places
 within-noted place change answers places all = subst (λ (size : ℕ). All (λ p. p < size) places) (sym (length-set answers place (change (get_or answers place (unanswered 0))))) all
 
 -- an issue is noted
-pub waiting-noted : (n place : ℕ) (round : ℕ) (answers : List AnswerView) (places : List ℕ) → AreWaiting n answers places → AreWaiting n (noted place (issued_in round) answers) places
-waiting-noted n place round answers places wait = record {
+due-issued : (script : List ScriptItem) (n : Bool) (place round : ℕ) (a : AnswerView) → IsDue script n place a → IsDue script n place (issued_in round a)
+due-issued script n place round a due = record { item = due.item; at = due.at; direction = due.direction; answered = due.answered; more = due.more; bytes = due.bytes; due_resps = due.due_resps; due_bytes = due.due_bytes }
+
+pub waiting-noted : (script : List ScriptItem) (n : Bool) (place round : ℕ) (answers : List AnswerView) (places : List ℕ) → AreWaiting script n answers places → AreWaiting script n (noted place (issued_in round) answers) places
+waiting-noted script n place round answers places wait = record {
   within = within-noted place (issued_in round) answers places wait.within;
-  nothing_came = λ k d lt. noted-keeps place (issued_in round) answers (IsUnanswered n) (λ a is. record { answered = is.answered; resps = is.resps; no_bytes = is.no_bytes; due_resps = is.due_resps; due_bytes = is.due_bytes }) (get_or places k d) (wait.within k d lt) (wait.nothing_came k d lt);
+  due = λ k d lt. noted-keeps place (issued_in round) answers (IsDue script n (get_or places k d)) (due-issued script n (get_or places k d) round) (get_or places k d) (wait.within k d lt) (wait.due k d lt);
   distinct = wait.distinct;
 }
 
 -- an answer is noted of another transaction
-pub waiting-answered_other : (n place : ℕ) (change : AnswerView → AnswerView) (answers : List AnswerView) (places : List ℕ) → All (λ p. p ≢ place) places → AreWaiting n answers places → AreWaiting n (noted place change answers) places
-waiting-answered_other n place change answers places others wait = record {
+pub waiting-answered_other : (script : List ScriptItem) (n : Bool) (place : ℕ) (change : AnswerView → AnswerView) (answers : List AnswerView) (places : List ℕ) → All (λ p. p ≢ place) places → AreWaiting script n answers places → AreWaiting script n (noted place change answers) places
+waiting-answered_other script n place change answers places others wait = record {
   within = within-noted place change answers places wait.within;
-  nothing_came = λ k d lt. noted-other place change answers (IsUnanswered n) (get_or places k d) (others k d lt) (wait.nothing_came k d lt);
+  due = λ k d lt. noted-other place change answers (IsDue script n (get_or places k d)) (get_or places k d) (others k d lt) (wait.due k d lt);
   distinct = wait.distinct;
 }
 
--- an answer is noted of the oldest transaction of an ID, which leaves
-pub waiting-answered : (n : ℕ) (change : AnswerView → AnswerView) (answers : List AnswerView) (entries : List Entry) (more : List ℕ) (e : Entry) → find (λ (entry : Entry). entry.id == e.id) entries ≡ Some e → AreWaiting n answers (map (λ (entry : Entry). entry.place) entries ++ more) → AreWaiting n (noted e.place change answers) (map (λ (entry : Entry). entry.place) (without_oldest (λ (entry : Entry). entry.id) e.id entries) ++ more)
-waiting-answered n change answers entries more e found wait = record {
+-- the last answer is noted of the oldest transaction of an ID, which leaves
+pub waiting-answered : (script : List ScriptItem) (n : Bool) (change : AnswerView → AnswerView) (answers : List AnswerView) (entries : List Entry) (more : List ℕ) (e : Entry) → find (λ (entry : Entry). entry.id == e.id) entries ≡ Some e → AreWaiting script n answers (map (λ (entry : Entry). entry.place) entries ++ more) → AreWaiting script n (noted e.place change answers) (map (λ (entry : Entry). entry.place) (without_oldest (λ (entry : Entry). entry.id) e.id entries) ++ more)
+waiting-answered script n change answers entries more e found wait = record {
   within = within-noted e.place change answers _ (All-left (λ p. p < length answers) e.id entries more wait.within);
-  nothing_came =
+  due =
       let others = others-left e.id entries more e found wait.distinct
-      in let left = All-left (λ p. IsUnanswered n (get_or answers p (unanswered 0))) e.id entries more wait.nothing_came
-      in λ k d lt. noted-other e.place change answers (IsUnanswered n) _ (others k d lt) (left k d lt);
+      in let left = All-left (λ p. IsDue script n p (get_or answers p (unanswered 0))) e.id entries more wait.due
+      in λ k d lt. noted-other e.place change answers (IsDue script n _) _ (others k d lt) (left k d lt);
   distinct = AreDistinct-left e.id entries more wait.distinct;
 }
 
--- a transaction of another number of bytes stands elsewhere
-others-apart : (n m place : ℕ) (answers : List AnswerView) (places : List ℕ) → n ≢ m → IsUnanswered n (get_or answers place (unanswered 0)) → AreWaiting m answers places → All (λ p. p ≢ place) places
-others-apart n m place answers places apart here wait =
-    λ k d lt same. apart (sym here.due_bytes ∙ ap (λ (p : ℕ). (get_or answers p (unanswered 0)).due_bytes) (sym same) ∙ (wait.nothing_came k d lt).due_bytes)
+-- an answer is noted of a transaction of which more are due
+pub waiting-came : (script : List ScriptItem) (n : Bool) (place : ℕ) (change : AnswerView → AnswerView) (answers : List AnswerView) (places : List ℕ) → place < length answers → IsDue script n place (change (get_or answers place (unanswered 0))) →
+    AreWaiting script n answers places → AreWaiting script n (noted place change answers) places
+waiting-came script n place change answers places within due wait = record {
+  within = within-noted place change answers places wait.within;
+  due = λ k d lt. elim (cases_eq (get_or places k d) place) [
+    | inl same ↦
+        subst (λ (p : ℕ). IsDue script n p (get_or (noted place change answers) p (unanswered 0))) (sym same)
+        (subst (IsDue script n place) (sym (get_or-set_same answers place (change (get_or answers place (unanswered 0))) (unanswered 0) within)) due)
+    | inr other ↦ noted-other place change answers (IsDue script n (get_or places k d)) (get_or places k d) other (wait.due k d lt)
+  ];
+  distinct = wait.distinct;
+}
 
--- an answer in a round
-pub kept-answered : (n m size round : ℕ) (resp : Resp) (bytes : List ℕ) (answers : List AnswerView) (answered : ℕ) (entries : List Entry) (more other : List ℕ) (e : Entry) → 0 < round → n ≢ m → find (λ (entry : Entry). entry.id == e.id) entries ≡ Some e → AreKept n m size answers answered (map (λ (entry : Entry). entry.place) entries ++ more) other → AreKept n m size (noted e.place (answered_in round resp bytes) answers) (answered + 1) (map (λ (entry : Entry). entry.place) (without_oldest (λ (entry : Entry). entry.id) e.id entries) ++ more) other
-kept-answered n m size round resp bytes answers answered entries more other e counts apart found kept =
-    let here = All-oldest (λ p. IsUnanswered n (get_or answers p (unanswered 0))) e.id entries more e found kept.own_waiting.nothing_came
+-- a transaction of the other direction stands elsewhere
+others-apart : (script : List ScriptItem) (n m : Bool) (place : ℕ) (answers : List AnswerView) (places : List ℕ) → n ≢ m → IsDue script n place (get_or answers place (unanswered 0)) → AreWaiting script m answers places → All (λ p. p ≢ place) places
+others-apart script n m place answers places apart here wait =
+    λ k d lt same. due-apart script n m place (get_or places k d) _ _ apart here (wait.due k d lt) (sym same)
+
+-- an answer in a round, with which a transaction leaves
+pub kept-answered : (script : List ScriptItem) (n m : Bool) (size : ℕ) (change : AnswerView → AnswerView) (answers : List AnswerView) (answered : ℕ) (entries : List Entry) (more other : List ℕ) (e : Entry) → n ≢ m → is_answered (change (get_or answers e.place (unanswered 0))) ≡ true →
+    find (λ (entry : Entry). entry.id == e.id) entries ≡ Some e → AreKept script n m size answers answered (map (λ (entry : Entry). entry.place) entries ++ more) other →
+    AreKept script n m size (noted e.place change answers) (answered + 1) (map (λ (entry : Entry). entry.place) (without_oldest (λ (entry : Entry). entry.id) e.id entries) ++ more) other
+kept-answered script n m size change answers answered entries more other e apart now found kept =
+    let here = All-oldest (λ p. IsDue script n p (get_or answers p (unanswered 0))) e.id entries more e found kept.own_waiting.due
     in let within = All-oldest (λ p. p < length answers) e.id entries more e found kept.own_waiting.within
-    in let now : nat_lt 0 round ≡ true = search rules
     in let before : is_answered (get_or answers e.place (unanswered 0)) ≡ false = ap (λ (k : ℕ). nat_lt 0 k) here.answered
     in record {
-      own_waiting = waiting-answered n (answered_in round resp bytes) answers entries more e found kept.own_waiting;
-      other_waiting = waiting-answered_other m e.place (answered_in round resp bytes) answers other (others-apart n m e.place answers other apart here kept.other_waiting) kept.other_waiting;
-      counted = ap (λ (k : ℕ). k + 1) kept.counted ∙ sym (answered-more e.place (answered_in round resp bytes) answers within now before);
-      one_each = length-set answers e.place (answered_in round resp bytes (get_or answers e.place (unanswered 0))) ∙ kept.one_each;
+      own_waiting = waiting-answered script n change answers entries more e found kept.own_waiting;
+      other_waiting = waiting-answered_other script m e.place change answers other (others-apart script n m e.place answers other apart here kept.other_waiting) kept.other_waiting;
+      counted = ap (λ (k : ℕ). k + 1) kept.counted ∙ sym (answered-more e.place change answers within now before);
+      one_each = length-set answers e.place (change (get_or answers e.place (unanswered 0))) ∙ kept.one_each;
+    }
+
+-- an answer in a round, after which more are due
+pub kept-came : (script : List ScriptItem) (n m : Bool) (size : ℕ) (change : AnswerView → AnswerView) (answers : List AnswerView) (answered : ℕ) (entries : List Entry) (more other : List ℕ) (e : Entry) → n ≢ m → IsDue script n e.place (change (get_or answers e.place (unanswered 0))) →
+    find (λ (entry : Entry). entry.id == e.id) entries ≡ Some e → AreKept script n m size answers answered (map (λ (entry : Entry). entry.place) entries ++ more) other →
+    AreKept script n m size (noted e.place change answers) answered (map (λ (entry : Entry). entry.place) entries ++ more) other
+kept-came script n m size change answers answered entries more other e apart due found kept =
+    let here = All-oldest (λ p. IsDue script n p (get_or answers p (unanswered 0))) e.id entries more e found kept.own_waiting.due
+    in let within = All-oldest (λ p. p < length answers) e.id entries more e found kept.own_waiting.within
+    in let same : is_answered (change (get_or answers e.place (unanswered 0))) ≡ is_answered (get_or answers e.place (unanswered 0)) = ap (λ (k : ℕ). nat_lt 0 k) (due.answered ∙ sym here.answered)
+    in record {
+      own_waiting = waiting-came script n e.place change answers (map (λ (entry : Entry). entry.place) entries ++ more) within due kept.own_waiting;
+      other_waiting = waiting-answered_other script m e.place change answers other (others-apart script n m e.place answers other apart here kept.other_waiting) kept.other_waiting;
+      counted = kept.counted ∙ sym (answered-kept e.place change answers within same);
+      one_each = length-set answers e.place (change (get_or answers e.place (unanswered 0))) ∙ kept.one_each;
     }
 
 -- an issue in a round
-pub kept-issued : (n m size round place : ℕ) (answers : List AnswerView) (answered : ℕ) (own other : List ℕ) → place < length answers → AreKept n m size answers answered own other → AreKept n m size (noted place (issued_in round) answers) answered own other
-kept-issued n m size round place answers answered own other within kept = record {
-  own_waiting = waiting-noted n place round answers own kept.own_waiting;
-  other_waiting = waiting-noted m place round answers other kept.other_waiting;
+pub kept-issued : (script : List ScriptItem) (n m : Bool) (size round place : ℕ) (answers : List AnswerView) (answered : ℕ) (own other : List ℕ) → place < length answers → AreKept script n m size answers answered own other → AreKept script n m size (noted place (issued_in round) answers) answered own other
+kept-issued script n m size round place answers answered own other within kept = record {
+  own_waiting = waiting-noted script n place round answers own kept.own_waiting;
+  other_waiting = waiting-noted script m place round answers other kept.other_waiting;
   counted = kept.counted ∙ sym (answered-kept place (issued_in round) answers within refl);
   one_each = length-set answers place (issued_in round (get_or answers place (unanswered 0))) ∙ kept.one_each;
 }
@@ -262,6 +296,22 @@ module _ {X : Type 0} where
         | Some e ↦ λ some. ap (λ (id : ℕ). without_oldest (λ (entry : Entry). entry.id) id entries) (oldest-id (id_of head) entries e some)
       ]
       in go (find (λ (entry : Entry). entry.id == id_of head) entries) refl
+
+-- those that are left where the last answer comes to the one that was looked for
+pub left-ending : (answers : List AnswerView) (entries : List Entry) (head : RBeat) (place : ℕ) → option_map (λ (entry : Entry). entry.place) (find (λ (entry : Entry). entry.id == head.id) entries) ≡ Some place → is_last (get_or answers place (unanswered 0)) ≡ true →
+    left_waiting (ending answers (answering (λ (beat : RBeat). beat.id) entries (Some head))) entries ≡ without_oldest (λ (entry : Entry). entry.id) head.id entries
+left-ending answers entries head place at last =
+    let go : (o : Option Entry) → find (λ (entry : Entry). entry.id == head.id) entries ≡ o → option_map (λ (entry : Entry). entry.place) o ≡ Some place →
+    left_waiting (ending answers (option_map (λ (entry : Entry). (entry, head)) o)) entries ≡ without_oldest (λ (entry : Entry). entry.id) head.id entries =
+    elim [
+      | None ↦ λ none there. absurd (cc)
+      | Some e ↦ λ some there.
+          let same : e.place ≡ place = inner e.place place there
+          in let ends : is_last (get_or answers e.place (unanswered 0)) ≡ true = subst (λ (q : ℕ). is_last (get_or answers q (unanswered 0)) ≡ true) (sym same) last
+          in let passed : Bool → List Entry = λ b. left_waiting {X = RBeat} (passing b (Some (e, head))) entries
+          in ap passed ends ∙ ap (λ (id : ℕ). without_oldest (λ (entry : Entry). entry.id) id entries) (oldest-id head.id entries e some)
+    ]
+    in go (find (λ (entry : Entry). entry.id == head.id) entries) refl at
 
 pub direction-same : (new old : Direction) (entries : List Entry) → new.places ≡ old.places → new.issued ≡ old.issued → new.entries ≡ entries → new ≡ record old { entries = entries }
 direction-same new old entries places issued waits =

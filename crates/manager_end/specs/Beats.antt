@@ -1,8 +1,11 @@
--- The beats that a manager puts (Arm IHI 0022, write strobes and byte lanes).
-use Rattle.std.specs.Prelude.{◌+◌, ◌*◌, ◌-◌, ◌++◌, ◌∷◌, [], ℕ, List, true, length, map, replicate, if◌then◌else◌}
+-- The beats that a manager puts, and the bytes that it reads (Arm IHI 0022, write strobes and byte lanes).
+use Rattle.std.specs.Prelude.{◌+◌, ◌*◌, ◌-◌, ◌^◌, ◌==◌, ◌++◌, ◌∷◌, [], ℕ, List, true, drop, length, map, replicate, slice_range, take, if◌then◌else◌}
+use Rattle.std.specs.List.{range_with_len}
 use Rattle.axi_beats.specs.declared.beat.Addr.{Addr}
 use Rattle.axi_beats.specs.declared.beat.Tag.{Tag}
 use Rattle.axi_beats.specs.declared.beat.WBeat.{WBeat}
+use Rattle.burst_address.specs.Bytes.{beat_bytes, bytes_before}
+use Rattle.burst_address.specs.Formulas.{beat_at, beats_of, lower_lane, size_of, upper_lane}
 use Rattle.manager_end.specs.Script.{ScriptItem}
 use Rattle.manager_end.specs.declared.script.WriteByte.{WriteByte}
 
@@ -22,6 +25,38 @@ lane_of byte = if byte.strobed then byte.value else 0
 abbrev pub strobe_of : List WriteByte → ℕ
 strobe_of [] = 0
 strobe_of (byte ∷ bytes) = (if byte.strobed then 1 else 0) + 2 * strobe_of bytes
+
+-- the 128 lanes: the bytes from a lane upwards, and 0 on all others
+abbrev pub lanes_from : ℕ → List WriteByte → List ℕ
+lanes_from low bytes = replicate low 0 ++ (map lane_of bytes ++ replicate (128 - low - length bytes) 0)
+
+-- the lowest and the highest valid lane of a beat on a bus
+abbrev pub low_lane : ℕ → Addr → ℕ → ℕ
+low_lane bus request n = lower_lane bus (beat_at request n)
+
+abbrev pub high_lane : ℕ → Addr → ℕ → ℕ
+high_lane bus request n = upper_lane (size_of request) bus (beat_at request n)
+
+-- the bytes that a write sends with beat n: as many as the beat has valid ones, after those of the beats before it
+abbrev pub beat_data : ScriptItem → ℕ → List WriteByte
+beat_data item n = take (length (beat_bytes item.txn.request n)) (drop (length (bytes_before item.txn.request n)) item.bytes)
+
+-- beat n of a write's data on a bus: its bytes on the valid lanes, with their strobes, and `last` on the last beat
+abbrev pub data_beat : ScriptItem → ℕ → ℕ → WBeat
+data_beat item bus n = record {
+  lanes = lanes_from (low_lane bus item.txn.request n) (beat_data item n);
+  strobe = strobe_of (beat_data item n) * 2 ^ low_lane bus item.txn.request n;
+  last = n == item.txn.request.len;
+  tag = tag_of item;
+}
+
+-- all data beats of a write on a bus
+abbrev pub data_beats : ScriptItem → ℕ → List WBeat
+data_beats item bus = map (data_beat item bus) (range_with_len 0 (beats_of item.txn.request))
+
+-- what is on the valid lanes of beat n of a read
+abbrev pub valid_lanes : ℕ → Addr → ℕ → List ℕ → List ℕ
+valid_lanes bus request n lanes = slice_range lanes (low_lane bus request n) (high_lane bus request n + 1)
 
 -- the 128 lanes: the bytes from lane 0 upwards, and 0 on all others
 abbrev pub lanes_of : List WriteByte → List ℕ

@@ -1,9 +1,12 @@
 -- How a manager is kept.
-use Rattle.std.specs.Prelude.{◌≡◌, None, map}
+use Rattle.std.specs.Prelude.{◌≡◌, ◌≤◌, ◌+◌, ◌==◌, ℕ, Bool, true, Option, Some, None, IfSome, length, map, slice_get, if◌then◌else◌}
 use Rattle.axi_link.specs.Acted.{Acted}
 use Rattle.axi_link.specs.declared.out.Out.{Out}
+use Rattle.burst_address.specs.Bytes.{beat_bytes, bytes_before}
 use Rattle.manager_end.specs.ManagerState.{ManagerState, IsManager, writes_of, reads_of}
+use Rattle.manager_end.specs.Script.{ScriptItem}
 use Rattle.manager_end.specs.declared.manager.Manager.TheInside.{Inside}
+use Rattle.manager_end.specs.declared.sending.Sending.{Sending}
 
 abbrev pub manager_state : Inside → ManagerState
 manager_state m = record {
@@ -12,7 +15,8 @@ manager_state m = record {
   bus = m.bus;
   issued_writes = m.writes.issued;
   issued_reads = m.reads.issued;
-  sent_writes = m.sent;
+  sent_writes = m.sending.writes;
+  sent_beats = m.sending.beats;
   write_entries = m.writes.entries;
   read_entries = m.reads.entries;
   answered = m.answered;
@@ -21,6 +25,20 @@ manager_state m = record {
 
 abbrev pub manager_view : Inside → Acted ManagerState
 manager_view m = record { state = manager_state m; out = m.out }
+
+-- the data place stands within this write, after the bytes of the beats that were sent
+pub record IsWithin (sending : Sending) (item : ScriptItem) : Type 0 where
+  pub write : item.txn.write ≡ true
+  pub beats : sending.beats ≤ item.txn.request.len
+  pub bytes : sending.bytes ≡ length (bytes_before item.txn.request sending.beats)
+
+-- the data place after a data beat of a write
+abbrev pub sent_after : Option (ℕ × ScriptItem) → Sending → Sending
+sent_after None sending = sending
+sent_after (Some next) sending =
+    if sending.beats == next.1.txn.request.len
+    then record { writes = sending.writes + 1; beats = 0; bytes = 0 }
+    else record { writes = sending.writes; beats = sending.beats + 1; bytes = sending.bytes + length (beat_bytes next.1.txn.request sending.beats) }
 
 -- the channels on which a manager does nothing
 pub record IsAbove (out : Out) : Type 0 where
@@ -34,4 +52,5 @@ pub record IsManagerInside (m : Inside) : Type 0 where
   pub state : IsManager (manager_state m)
   pub write_places : m.writes.places.items ≡ map (λ p. p.0) (writes_of m.script)
   pub read_places : m.reads.places.items ≡ map (λ p. p.0) (reads_of m.script)
+  pub sending : IfSome (slice_get (writes_of m.script) m.sending.writes) (λ next. IsWithin m.sending next.1)
   pub above : IsAbove m.out

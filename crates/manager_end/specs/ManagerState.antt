@@ -1,15 +1,17 @@
 -- What a manager keeps.
-use Rattle.std.specs.Prelude.{◌≡◌, ◌≢◌, ◌↔◌, ◌==◌, ◌<◌, ◌≤◌, ◌++◌, ◌∷◌, [], ℕ, List, Bool, true, false, Option, Some, None, All, length, map, drop, filter, count_by, not, nat_lt, slice_get, slice_index_or, if◌then◌else◌}
+use Rattle.std.specs.Prelude.{◌≡◌, ◌≢◌, ◌↔◌, ◌==◌, ◌<◌, ◌≤◌, ◌+◌, ◌++◌, ◌∷◌, [], ℕ, List, Bool, true, false, Option, Some, None, All, IfSome, length, map, drop, filter, count_by, not, nat_lt, slice_get, slice_index_or, if◌then◌else◌}
 use Rattle.std.specs.List.{enumerate_from}
-use Rattle.axi_beats.specs.Word.{IsWholeWord, IsBusWidth}
+use Rattle.axi_beats.specs.Word.{IsBusWidth}
 use Rattle.axi_link.specs.LinkView.{LinkView}
-use Rattle.manager_end.specs.Answer.{AnswerView, unanswered}
+use Rattle.burst_address.specs.Bytes.{burst_bytes, bytes_before}
+use Rattle.burst_address.specs.Legal.{IsLegal}
+use Rattle.manager_end.specs.Answer.{AnswerView, awaited_of, unanswered}
 use Rattle.manager_end.specs.Script.{ScriptItem, IsScript}
 use Rattle.manager_end.specs.declared.entry.Entry.{Entry}
 use Rattle.manager_end.specs.declared.script.Txn.{Txn}
 
--- The script, the link below and the width of the bus; how many of the script's writes and reads are issued, and
--- of how many writes the data is sent; the transactions that wait for their answers; how many are answered, and
+-- The script, the link below and the width of the bus; how many of the script's writes and reads are issued, of how
+-- many writes the data is wholly sent, and how many data beats of the next one; the transactions that wait for their answers; how many are answered, and
 -- what is noted of each.
 pub record ManagerState : Type 0 where
   pub script : List ScriptItem
@@ -18,6 +20,7 @@ pub record ManagerState : Type 0 where
   pub issued_writes : ℕ
   pub issued_reads : ℕ
   pub sent_writes : ℕ
+  pub sent_beats : ℕ
   pub write_entries : List Entry
   pub read_entries : List Entry
   pub answered : ℕ
@@ -38,9 +41,17 @@ writes_of script = of_direction true script
 abbrev pub reads_of : List ScriptItem → List (ℕ × ScriptItem)
 reads_of script = of_direction false script
 
--- the bytes that a transaction reads
-abbrev pub due_bytes : ℕ → Txn → ℕ
-due_bytes bus txn = if txn.write then 0 else bus
+-- how many responses answer a transaction: one a write, and one for each beat a read
+abbrev pub due_resps : Txn → ℕ
+due_resps txn = if txn.write then 1 else txn.request.len + 1
+
+-- how many bytes a transaction reads: those of all its beats
+abbrev pub due_bytes : Txn → ℕ
+due_bytes txn = if txn.write then 0 else length (burst_bytes txn.request)
+
+-- and how many with its first beats
+abbrev pub bytes_by : Txn → ℕ → ℕ
+bytes_by txn beats = if txn.write then 0 else length (bytes_before txn.request beats)
 
 -- nothing is issued
 abbrev pub new_manager : List ScriptItem → ℕ → ℕ → ManagerState
@@ -51,10 +62,11 @@ new_manager script lower bus = record {
   issued_writes = 0;
   issued_reads = 0;
   sent_writes = 0;
+  sent_beats = 0;
   write_entries = [];
   read_entries = [];
   answered = 0;
-  answers = map (λ item. unanswered (due_bytes bus item.txn)) script;
+  answers = map (λ item. awaited_of (due_resps item.txn) (due_bytes item.txn)) script;
 }
 
 -- the answer has come
@@ -92,13 +104,17 @@ entries_of false s = s.read_entries
 abbrev pub entry_of : ℕ × ScriptItem → Entry
 entry_of p = record { place = p.0; id = p.1.txn.request.id }
 
--- nothing came yet for a transaction: there is room for one response and for so many bytes
-pub record IsUnanswered (bytes : ℕ) (a : AnswerView) : Type 0 where
+-- A transaction of a direction stands at this place of the script, and isn't answered: there is room for all its
+-- responses and bytes, and some are still to come.
+pub record IsDue (script : List ScriptItem) (write : Bool) (place : ℕ) (a : AnswerView) : Type 0 where
+  pub item : ScriptItem
+  pub at : slice_get script place ≡ Some item
+  pub direction : item.txn.write ≡ write
   pub answered : a.answered ≡ 0
-  pub resps : a.resps ≡ []
-  pub no_bytes : a.bytes ≡ []
-  pub due_resps : a.due_resps ≡ 1
-  pub due_bytes : a.due_bytes ≡ bytes
+  pub more : length a.resps < a.due_resps
+  pub bytes : length a.bytes ≤ bytes_by item.txn (length a.resps)
+  pub due_resps : a.due_resps ≡ due_resps item.txn
+  pub due_bytes : a.due_bytes ≡ due_bytes item.txn
 
 -- the places of the transactions of one direction that wait for their answers, and then of those that wait for
 -- their issue
@@ -110,10 +126,10 @@ abbrev pub AreDistinct : List ℕ → Type 0
 AreDistinct [] = Unit {0}
 AreDistinct (place ∷ places) = All (λ other. other ≢ place) places × AreDistinct places
 
--- the transactions at these places wait, and so many bytes are due of each
-pub record AreWaiting (bytes : ℕ) (answers : List AnswerView) (places : List ℕ) : Type 0 where
+-- the transactions at these places are of this direction, and wait
+pub record AreWaiting (script : List ScriptItem) (write : Bool) (answers : List AnswerView) (places : List ℕ) : Type 0 where
   pub within : All (λ place. place < length answers) places
-  pub nothing_came : All (λ place. IsUnanswered bytes (slice_index_or answers place (unanswered 0))) places
+  pub due : All (λ place. IsDue script write place (slice_index_or answers place (unanswered 0))) places
   pub distinct : AreDistinct places
 
 -- of each direction the first transactions are noted as issued, as many as are issued, and the others aren't
@@ -122,20 +138,21 @@ NotesIssues s =
     (write : Bool) (n : ℕ) (next : ℕ × ScriptItem) → slice_get (of_direction write s.script) n ≡ Some next →
     (0 < (slice_index_or s.answers next.0 (unanswered 0)).issued) ↔ (n < issued_of write s)
 
--- What holds of a manager in every round: it has a script of whole words of its bus; it issued no more than that,
--- and sent no more data than it issued writes; at most 16 of a direction wait for their answers; nothing came for
--- those that wait; it counted the answers; and it noted its issues.
+-- What holds of a manager in every round: it has a script of bursts that are legal on its bus; it issued no more than
+-- that, and sent no more data than it issued writes; at most 16 of a direction wait for their answers, of each of which
+-- some is still to come; it counted the answers; and it noted its issues.
 pub record IsManager (s : ManagerState) : Type 0 where
   pub is_script : IsScript s.script
   pub bus_width : IsBusWidth s.bus
-  pub words : All (λ (item : ScriptItem). IsWholeWord s.bus item.txn.request) s.script
+  pub legal : All (λ (item : ScriptItem). IsLegal item.txn.request s.bus) s.script
   pub writes_issued : s.issued_writes ≤ length (writes_of s.script)
   pub reads_issued : s.issued_reads ≤ length (reads_of s.script)
   pub writes_sent : s.sent_writes ≤ s.issued_writes
+  pub beats_sent : IfSome (slice_get (writes_of s.script) s.sent_writes) (λ next. s.sent_beats ≤ next.1.txn.request.len)
   pub writes_fit : length s.write_entries ≤ 16
   pub reads_fit : length s.read_entries ≤ 16
   pub one_each : length s.answers ≡ length s.script
-  pub writes_waiting : AreWaiting 0 s.answers (waiting s.write_entries s.issued_writes (writes_of s.script))
-  pub reads_waiting : AreWaiting s.bus s.answers (waiting s.read_entries s.issued_reads (reads_of s.script))
+  pub writes_waiting : AreWaiting s.script true s.answers (waiting s.write_entries s.issued_writes (writes_of s.script))
+  pub reads_waiting : AreWaiting s.script false s.answers (waiting s.read_entries s.issued_reads (reads_of s.script))
   pub counted : s.answered ≡ count_by is_answered s.answers
   pub issues : NotesIssues s

@@ -1,6 +1,6 @@
 -- The manager's decision table. All rows read the links and the state as they stand at the round's start.
 -- (Arm IHI 0022, dependencies between channel handshake signals; transaction ordering.)
-use Rattle.std.specs.Prelude.{◌==◌, ◌+◌, ◌&&◌, ◌++◌, ◌∷◌, [], ℕ, List, Bool, true, false, Option, Some, None, length, take, find, is_some, nat_lt, nat_le, slice_get}
+use Rattle.std.specs.Prelude.{◌==◌, ◌+◌, ◌&&◌, ◌++◌, ◌∷◌, [], ℕ, List, Bool, true, false, Option, Some, None, length, find, is_some, nat_lt, nat_le, slice_get, slice_index_or, if◌then◌else◌}
 use Rattle.std.specs.Option.{option_map}
 use Rattle.axi_beats.specs.declared.beat.BBeat.{BBeat}
 use Rattle.axi_beats.specs.declared.beat.RBeat.{RBeat}
@@ -9,8 +9,8 @@ use Rattle.axi_link.specs.LinkView.{LinkView}
 use Rattle.axi_link.specs.Table.{link_of, head_of, has_room, passing, put_of, take_of}
 use Rattle.axi_link.specs.declared.out.Out.{Out}
 use Rattle.flight.specs.Entries.{without_oldest}
-use Rattle.manager_end.specs.Answer.{AnswerView, issued_in, answered_in, noted}
-use Rattle.manager_end.specs.Beats.{request_of, data_of}
+use Rattle.manager_end.specs.Answer.{AnswerView, issued_in, is_last, answered_in, noted, unanswered}
+use Rattle.manager_end.specs.Beats.{request_of, data_beat, valid_lanes}
 use Rattle.manager_end.specs.ManagerState.{ManagerState, writes_of, reads_of}
 use Rattle.manager_end.specs.Script.{ScriptItem}
 use Rattle.manager_end.specs.declared.entry.Entry.{Entry}
@@ -39,7 +39,7 @@ abbrev pub manager_aw : List LinkView → ManagerState → Option (ℕ × Script
 manager_aw links s =
     passing (fits s.write_entries && has_room (below links s).depth (below links s).aw) (ready s.answered (slice_get (writes_of s.script) s.issued_writes))
 
--- W: the data of the oldest write that is issued and whose data isn't sent goes where there is room below
+-- W: the next data beat of the oldest write that is issued and whose data isn't all sent goes where there is room below
 abbrev pub manager_w : List LinkView → ManagerState → Option (ℕ × ScriptItem)
 manager_w links s =
     passing (nat_lt s.sent_writes s.issued_writes && has_room (below links s).depth (below links s).w) (slice_get (writes_of s.script) s.sent_writes)
@@ -53,9 +53,29 @@ manager_ar links s =
 abbrev pub manager_b : List LinkView → ManagerState → Option (Entry × BBeat)
 manager_b links s = answering (λ beat. beat.id) s.write_entries (head_of (below links s).b)
 
--- R: a data beat is taken that answers a read, the oldest one of its ID
+-- R: a data beat is taken that answers a read, the oldest one of its ID: it is the next beat of that read
 abbrev pub manager_r : List LinkView → ManagerState → Option (Entry × RBeat)
 manager_r links s = answering (λ beat. beat.id) s.read_entries (head_of (below links s).r)
+
+-- an answer, where it is the last one that is due of its entry
+module _ {X : Type 0} where
+  abbrev pub ending : List AnswerView → Option (Entry × X) → Option (Entry × X)
+  ending answers None = None
+  ending answers (Some answer) = passing (is_last (slice_index_or answers answer.0.place (unanswered 0))) (Some answer)
+
+-- R: the data beat that is taken, where it is the last one of its read
+abbrev pub manager_r_last : List LinkView → ManagerState → Option (Entry × RBeat)
+manager_r_last links s = ending s.answers (manager_r links s)
+
+-- a data beat that goes is the last one of its write, of which so many went before
+abbrev pub ends_data : ℕ → Option (ℕ × ScriptItem) → Bool
+ends_data beats None = false
+ends_data beats (Some next) = beats == next.1.txn.request.len
+
+-- how many data beats of the next write have gone then
+abbrev pub beats_after : ℕ → Option (ℕ × ScriptItem) → ℕ
+beats_after beats None = beats
+beats_after beats (Some next) = if beats == next.1.txn.request.len then 0 else beats + 1
 
 -- one more where something moves
 abbrev pub more : Bool → ℕ
@@ -78,10 +98,15 @@ abbrev pub note_write : ℕ → Option (Entry × BBeat) → List AnswerView → 
 note_write round None answers = answers
 note_write round (Some answer) answers = noted answer.0.place (answered_in round answer.1.resp []) answers
 
--- the round, the response and the bytes of a read are noted: those of the lanes of the bus
-abbrev pub note_read : ℕ → ℕ → Option (Entry × RBeat) → List AnswerView → List AnswerView
-note_read round bus None answers = answers
-note_read round bus (Some answer) answers = noted answer.0.place (answered_in round answer.1.resp (take bus answer.1.lanes)) answers
+-- the next beat of a read: its response, and the bytes of its valid lanes
+abbrev pub read_in : ℕ → ℕ → Option ScriptItem → RBeat → AnswerView → AnswerView
+read_in round bus None beat a = a
+read_in round bus (Some item) beat a = answered_in round beat.resp (valid_lanes bus item.txn.request (length a.resps) beat.lanes) a
+
+-- the next beat of a read is noted, and with the last one the round
+abbrev pub note_read : ℕ → ℕ → List ScriptItem → Option (Entry × RBeat) → List AnswerView → List AnswerView
+note_read round bus script None answers = answers
+note_read round bus script (Some answer) answers = noted answer.0.place (read_in round bus (slice_get script answer.0.place) answer.1) answers
 
 -- the round of an issue is noted
 abbrev pub note_issue : ℕ → Option (ℕ × ScriptItem) → List AnswerView → List AnswerView
@@ -96,12 +121,13 @@ manager_next round links s = record {
   bus = s.bus;
   issued_writes = s.issued_writes + more (is_some (manager_aw links s));
   issued_reads = s.issued_reads + more (is_some (manager_ar links s));
-  sent_writes = s.sent_writes + more (is_some (manager_w links s));
+  sent_writes = s.sent_writes + more (ends_data s.sent_beats (manager_w links s));
+  sent_beats = beats_after s.sent_beats (manager_w links s);
   write_entries = with_issued (manager_aw links s) (left_waiting (manager_b links s) s.write_entries);
-  read_entries = with_issued (manager_ar links s) (left_waiting (manager_r links s) s.read_entries);
-  answered = s.answered + more (is_some (manager_b links s)) + more (is_some (manager_r links s));
+  read_entries = with_issued (manager_ar links s) (left_waiting (manager_r_last links s) s.read_entries);
+  answered = s.answered + more (is_some (manager_b links s)) + more (is_some (manager_r_last links s));
   answers =
-      note_issue round (manager_ar links s) (note_issue round (manager_aw links s) (note_read round s.bus (manager_r links s) (note_write round (manager_b links s) s.answers)));
+      note_issue round (manager_ar links s) (note_issue round (manager_aw links s) (note_read round s.bus s.script (manager_r links s) (note_write round (manager_b links s) s.answers)));
 }
 
 -- the takes and puts of the round, all on the link below
@@ -110,7 +136,7 @@ manager_out links s = record {
   aw_take = None;
   aw_put = put_of s.lower (option_map (λ next. request_of next.1) (manager_aw links s));
   w_take = None;
-  w_put = put_of s.lower (option_map (λ next. data_of next.1) (manager_w links s));
+  w_put = put_of s.lower (option_map (λ next. data_beat next.1 s.bus s.sent_beats) (manager_w links s));
   b_take = take_of s.lower (is_some (manager_b links s));
   b_put = None;
   ar_take = None;

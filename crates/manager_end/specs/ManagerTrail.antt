@@ -1,14 +1,19 @@
 -- What a manager has passed on its link, and what its state has to do with it (Arm IHI 0022, ordering model).
-use Rattle.std.specs.Prelude.{◌≡◌, ◌↔◌, ◌<◌, ◌-◌, ◌^◌, ◌∷◌, [], ℕ, suc, List, Bool, true, false, IsTrue, All, AllPairs, Contains, length, map, take, if◌then◌else◌}
-use Rattle.axi_beats.specs.Word.{IsBusWidth, IsWholeWord}
+use Rattle.std.specs.Prelude.{◌≡◌, ◌↔◌, ◌<◌, ◌^◌, ◌++◌, ◌∷◌, [], ℕ, suc, List, Bool, true, false, Option, Some, None, IsTrue, All, AllPairs, Contains, flat_map, length, map, slice_get, take, if◌then◌else◌}
+use Rattle.axi_beats.specs.Word.{IsBusWidth}
+use Rattle.axi_beats.specs.declared.beat.WBeat.{WBeat}
+use Rattle.std.specs.List.{range_with_len}
+use Rattle.axi_beats.specs.declared.beat.Addr.{Addr}
 use Rattle.axi_link.specs.LinkView.{LinkView}
 use Rattle.axi_trail.specs.LinkContracts.{Asks, Answers, without_id}
-use Rattle.axi_trail.specs.Schedule.{Schedule, Share, Progress, SameChain, bytes_on}
+use Rattle.axi_trail.specs.Schedule.{Schedule, Share, Span, Progress, SameChain, bytes_on}
 use Rattle.axi_trail.specs.Trail.{Beats, no_beats, joined, moved_above}
 use Rattle.axi_trail.specs.Waiting.{held, request_of}
 use Rattle.axi_trail.specs.Words.{InOrderOfId, number_of_address, number_of_response, number_of_read_data, reads_asked, read_replies, writes_asked, write_replies}
+use Rattle.burst_address.specs.Formulas.{beats_of}
+use Rattle.burst_address.specs.Legal.{IsLegal}
 use Rattle.flight.specs.Entries.{of_key}
-use Rattle.manager_end.specs.Beats.{data_of, request_of as request_of_item}
+use Rattle.manager_end.specs.Beats.{data_beats, high_lane, low_lane, request_of as request_of_item}
 use Rattle.manager_end.specs.ManagerOrder.{AreInOrder, IsAt, note_at}
 use Rattle.manager_end.specs.ManagerState.{ManagerState, IsManager, entry_of, new_manager, writes_of, reads_of}
 use Rattle.manager_end.specs.ManagerTable.{manager_next, manager_out}
@@ -18,12 +23,16 @@ use Rattle.manager_end.specs.Script.{ScriptItem, IsScript}
 abbrev pub shares_of : Schedule → Bool → ℕ → Share
 shares_of plan write = if write then plan.writes else plan.reads
 
--- The schedule of the link below a manager has this transaction as it is: as one request, with its own data, one
--- response for each beat that is answered, and all lanes of the bus wanted.
+-- the valid lanes of each beat of a burst on a bus
+abbrev pub spans_of : ℕ → Addr → List Span
+spans_of bus request = map (λ n. record { low = low_lane bus request n; high = high_lane bus request n }) (range_with_len 0 (beats_of request))
+
+-- The schedule of the link below a manager has this transaction as it is: as one request, with its own data, and the
+-- valid lanes of its beats wanted.
 pub record HasItem (plan : Schedule) (bus : ℕ) (item : ScriptItem) : Type 0 where
   pub parts : (shares_of plan item.txn.write item.txn.number).parts ≡ without_id (request_of_item item) ∷ []
-  pub write_data : item.txn.write ≡ true → (plan.writes item.txn.number).write_data ≡ (data_of item ∷ []) ∷ []
-  pub lanes : item.txn.write ≡ false → (plan.reads item.txn.number).lanes ≡ record { low = 0; high = bus - 1 } ∷ []
+  pub write_data : item.txn.write ≡ true → (plan.writes item.txn.number).write_data ≡ data_beats item bus ∷ []
+  pub lanes : item.txn.write ≡ false → (plan.reads item.txn.number).lanes ≡ spans_of bus item.txn.request
   pub id_fits : item.txn.request.id < 2 ^ plan.id_width
 
 -- a transaction of this script, direction and ID
@@ -43,9 +52,24 @@ pub record IsPlanOf (plan : Schedule) (bus : ℕ) (script : List ScriptItem) : T
       All (λ (item : ScriptItem). (number : ℕ) → SameChain (shares_of plan item.txn.write) number item.txn.number →
       IsItsOwn script item.txn.write item.txn.request.id number) script
 
--- the requests that are held, where these transactions were issued and answers with these IDs have come
-abbrev pub held_items : List (ℕ × ScriptItem) → List ℕ → List (ℕ × ScriptItem)
-held_items issued ids = map request_of (held (λ (p : ℕ × ScriptItem). p.1.txn.request.len) (λ (p : ℕ × ScriptItem). p.1.txn.request.id) issued ids)
+-- how many answer beats come after the first one: none for a write, and as many as data beats for a read
+abbrev pub later_answers : Bool → ℕ × ScriptItem → ℕ
+later_answers write p = if write then 0 else p.1.txn.request.len
+
+-- the requests of a direction that are held, where these were issued and answers with these IDs have come
+abbrev pub held_items : Bool → List (ℕ × ScriptItem) → List ℕ → List (ℕ × ScriptItem)
+held_items write issued ids = map request_of (held (later_answers write) (λ (p : ℕ × ScriptItem). p.1.txn.request.id) issued ids)
+
+-- the first data beats of a write; none where there is no write
+abbrev pub first_data : ℕ → ℕ → Option (ℕ × ScriptItem) → List WBeat
+first_data bus beats None = []
+first_data bus beats (Some next) = take beats (data_beats next.1 bus)
+
+-- the data that was sent: all of the first writes, and the first beats of the next one
+abbrev pub sent_data : ManagerState → List WBeat
+sent_data s =
+    flat_map (λ (p : ℕ × ScriptItem). data_beats p.1 s.bus) (take s.sent_writes (writes_of s.script))
+    ++ first_data s.bus s.sent_beats (slice_get (writes_of s.script) s.sent_writes)
 
 -- What is noted of a write: the responses that came for it, and nothing else.
 pub record IsWriteNote (s : ManagerState) (trail : Beats) (place : ℕ) (item : ScriptItem) : Type 0 where
@@ -66,11 +90,11 @@ pub record IsReadNote (plan : Schedule) (s : ManagerState) (trail : Beats) (plac
 pub record HasPassed (plan : Schedule) (s : ManagerState) (trail : Beats) : Type 0 where
   -- it has put the first requests of each direction, and the data of the first writes
   pub aw : trail.aw ≡ map (λ (p : ℕ × ScriptItem). request_of_item p.1) (take s.issued_writes (writes_of s.script))
-  pub w : trail.w ≡ map (λ (p : ℕ × ScriptItem). data_of p.1) (take s.sent_writes (writes_of s.script))
+  pub w : trail.w ≡ sent_data s
   pub ar : trail.ar ≡ map (λ (p : ℕ × ScriptItem). request_of_item p.1) (take s.issued_reads (reads_of s.script))
   -- those wait that are held
-  pub write_entries : s.write_entries ≡ map entry_of (held_items (take s.issued_writes (writes_of s.script)) (map (λ b. b.id) trail.b))
-  pub read_entries : s.read_entries ≡ map entry_of (held_items (take s.issued_reads (reads_of s.script)) (map (λ r. r.id) trail.r))
+  pub write_entries : s.write_entries ≡ map entry_of (held_items true (take s.issued_writes (writes_of s.script)) (map (λ b. b.id) trail.b))
+  pub read_entries : s.read_entries ≡ map entry_of (held_items false (take s.issued_reads (reads_of s.script)) (map (λ r. r.id) trail.r))
   -- what came, came in order
   pub writes_in_order : InOrderOfId (writes_asked trail) (write_replies trail)
   pub reads_in_order : InOrderOfId (reads_asked trail) (read_replies trail)
@@ -88,7 +112,7 @@ pub record ManagerKeeps (plan : Schedule) (rounds : ℕ) (s : ManagerState) (tra
 -- it holds of a manager that has issued nothing
 abbrev pub ManagerOpens : Type 0
 ManagerOpens =
-    (plan : Schedule) (script : List ScriptItem) (lower bus : ℕ) → IsScript script → IsBusWidth bus → All (λ (item : ScriptItem). IsWholeWord bus item.txn.request) script →
+    (plan : Schedule) (script : List ScriptItem) (lower bus : ℕ) → IsScript script → IsBusWidth bus → All (λ (item : ScriptItem). IsLegal item.txn.request bus) script →
     IsPlanOf plan bus script → ManagerKeeps plan 0 (new_manager script lower bus) no_beats
 
 -- the trail after a round

@@ -1,10 +1,15 @@
 //! `Answer`, seen in clauses as what came for a transaction, and what is due.
 
-ghost use Rattle.std.specs.Prelude.{◌≡◌, ◌<◌, ◌≤◌, ◌+◌, ◌-◌, ◌++◌, [], length, take, slice_get};
-ghost use Rattle.std.specs.Prelude.{Some, IfOk};
-ghost use Rattle.manager_end.specs.Answer.{answered_in, issued_in, unanswered};
+ghost use Rattle.std.specs.Prelude.{◌≡◌, ◌<◌, ◌≤◌, ◌^◌, ◌+◌, ◌-◌, ◌++◌, [], drop, length, take};
+ghost use Rattle.std.specs.Prelude.{slice_get, Some, IfOk};
+ghost use Rattle.axi_beats.specs.Word.{IsBusWidth};
+ghost use Rattle.burst_address.specs.Bytes.{burst_bytes, bytes_before};
+ghost use Rattle.burst_address.specs.Legal.{IsLegal};
+ghost use Rattle.manager_end.specs.Answer.{answered_in, awaited_of, is_last, issued_in};
+ghost use Rattle.manager_end.specs.Beats.{valid_lanes};
 
-use axi_beats::{Lanes, NoMemory, Resp};
+use axi_beats::{Addr, Lanes, NoMemory, RBeat, Resp};
+use burst_address::lanes;
 use std::alloc::Global;
 use std::marker::Model;
 
@@ -35,16 +40,17 @@ impl Model for Answer {
 }
 
 impl Answer {
-    /// Room for one response and for `bytes` bytes, none of which came yet.
-    pub(crate) fn new(alloc: Global, bytes: u8) -> Result<Answer, NoMemory>
-        ensures { IfOk result (λ answer. answer ≡ unanswered bytes) }
+    /// Room for `resps` responses and `bytes` bytes, none of which came yet.
+    pub(crate) fn new(alloc: Global, resps: usize, bytes: usize) -> Result<Answer, NoMemory>
+        requires { resps ≤ 256 }
+        ensures { IfOk result (λ answer. answer ≡ awaited_of resps bytes) }
     {
         Ok(Answer {
             issued: 0,
             answered: 0,
-            resps: vec![in alloc; Resp::Okay; 1]?,
+            resps: vec![in alloc; Resp::Okay; resps]?,
             came: 0,
-            bytes: vec![in alloc; 0; usize::from(bytes)]?,
+            bytes: vec![in alloc; 0; bytes]?,
             read: 0,
         })
     }
@@ -78,7 +84,8 @@ impl Answer {
         self.resps[n as usize]
     }
 
-    /// The bytes that were read, lowest lane first; empty for a write.
+    /// The bytes that were read: those of the valid lanes of each beat, beat by beat and lowest lane
+    /// first; empty for a write.
     pub fn bytes(&self) -> &[u8]
         ensures { result.now ≡ self.now.bytes }
     {
@@ -92,50 +99,63 @@ impl Answer {
         self.issued = round;
     }
 
-    /// Notes a response, of which another one is due, as the last one.
-    pub(crate) fn note_response(&mut self, round: u64, resp: Resp)
+    /// Notes a response, of which another one is due; with the last one the round. Tells whether it
+    /// is the last one.
+    pub(crate) fn note_response(&mut self, round: u64, resp: Resp) -> bool
         requires { length self.old.resps < self.old.due_resps }
-        ensures { self.new ≡ answered_in round resp [] self.old }
+        ensures note { self.new ≡ answered_in round resp [] self.old }
+        ensures last { result ≡ is_last self.old }
     {
         self.resps[self.came] = resp;
         self.came += 1;
-        self.answered = round;
+        let last = self.came == self.resps.len();
+        if last {
+            self.answered = round;
+        }
+        last
     }
 
-    /// Notes a response, of which another one is due, as the last one, and the bytes of the first
-    /// `bus` lanes, of which as many are due.
-    pub(crate) fn note_data(&mut self, round: u64, resp: Resp, bus: u8, lanes: &Lanes)
-        requires resps { length self.old.resps < self.old.due_resps }
-        requires bytes { length self.old.bytes + bus ≤ self.old.due_bytes }
-        requires lanes { bus ≤ 128 }
-        ensures { self.new ≡ answered_in round resp (take bus lanes.now) self.old }
+    /// Notes the next beat of a read with this request, of which another one is due: its response
+    /// and the bytes of its valid lanes. Tells whether it is the last one.
+    pub(crate) fn note_data(&mut self, round: u64, request: &Addr, bus: u8, beat: &RBeat) -> bool
+        requires more { length self.old.resps < self.old.due_resps }
+        requires resps { self.old.due_resps ≡ request.now.len + 1 }
+        requires came { length self.old.bytes
+            ≤ length (bytes_before request.now (length self.old.resps)) }
+        requires bytes { self.old.due_bytes ≡ length (burst_bytes request.now) }
+        requires start { request.now.addr < 2 ^ 63 }
+        requires bus { IsBusWidth bus }
+        requires legal { IsLegal request.now bus }
+        ensures note { self.new ≡ answered_in round beat.now.resp
+            (valid_lanes bus request.now (length self.old.resps) beat.now.lanes) self.old }
+        ensures last { result ≡ is_last self.old }
     {
-        let end = self.read + usize::from(bus);
-        put_lanes(&mut self.bytes, self.read, end, lanes);
+        let (low, high) = lanes(request, self.came as u32, bus);
+        let end = self.read + usize::from(high - low) + 1;
+        put_lanes(&mut self.bytes, self.read, end, low, &beat.lanes);
         self.read = end;
-        self.resps[self.came] = resp;
-        self.came += 1;
-        self.answered = round;
+        self.note_response(round, beat.resp)
     }
 }
 
-/// Writes the first lanes over the bytes from place `start` to before place `end`.
-fn put_lanes(bytes: &mut [u8], start: usize, end: usize, lanes: &Lanes)
+/// Writes the lanes from `low` upwards over the bytes from place `start` to before place `end`.
+fn put_lanes(bytes: &mut [u8], start: usize, end: usize, low: u8, lanes: &Lanes)
     requires order { start ≤ end }
     requires within { end ≤ length bytes.old }
-    requires lanes { end ≤ start + 128 }
-    ensures put { take end bytes.new ≡ take start bytes.old ++ take (end - start) lanes.now }
+    requires lanes { low + (end - start) ≤ 128 }
+    ensures put { take end bytes.new
+        ≡ take start bytes.old ++ take (end - start) (drop low lanes.now) }
     ensures length { length bytes.new ≡ length bytes.old }
 {
-    copy_lanes(&mut bytes[start..end], lanes);
+    copy_lanes(&mut bytes[start..end], low, lanes);
 }
 
-/// Writes the first lanes over the bytes.
-fn copy_lanes(bytes: &mut [u8], lanes: &Lanes)
-    requires { length bytes.old ≤ 128 }
-    ensures { bytes.new ≡ take (length bytes.old) lanes.now }
+/// Writes the lanes from `low` upwards over the bytes.
+fn copy_lanes(bytes: &mut [u8], low: u8, lanes: &Lanes)
+    requires { low + length bytes.old ≤ 128 }
+    ensures { bytes.new ≡ take (length bytes.old) (drop low lanes.now) }
 {
-    for (lane, byte) in bytes.iter_mut().enumerate() {
-        *byte = lanes.get(lane as u8);
+    for (n, byte) in bytes.iter_mut().enumerate() {
+        *byte = lanes.get(low + n as u8);
     }
 }

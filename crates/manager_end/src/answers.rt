@@ -1,14 +1,19 @@
 //! `Answers`, seen in clauses as the list of what is noted of each transaction of a script.
 
-ghost use Rattle.std.specs.Prelude.{◌≡◌, ◌<◌, ◌≤◌, ◌+◌, [], length, map, take, slice_get};
-ghost use Rattle.std.specs.Prelude.{slice_index_or, Some, IfOk};
-ghost use Rattle.std.specs.Option.{option_copied};
-ghost use Rattle.manager_end.specs.Answer.{answered_in, issued_in, noted, unanswered};
-ghost use Rattle.manager_end.specs.ManagerState.{IsUnanswered, due_bytes};
+ghost use Rattle.std.specs.Prelude.{◌≡◌, ◌<◌, ◌≤◌, ◌^◌, [], length, map, slice_get, slice_index_or};
+ghost use Rattle.std.specs.Prelude.{All, Some, IfOk, false, true, if◌then◌else◌};
+ghost use Rattle.axi_beats.specs.Word.{IsBusWidth};
+ghost use Rattle.burst_address.specs.Bytes.{burst_bytes};
+ghost use Rattle.burst_address.specs.Legal.{IsLegal};
+ghost use Rattle.manager_end.specs.Answer.{answered_in, awaited_of, is_last, issued_in, noted};
+ghost use Rattle.manager_end.specs.Answer.{unanswered};
+ghost use Rattle.manager_end.specs.ManagerState.{IsDue, due_bytes, due_resps};
+ghost use Rattle.manager_end.specs.ManagerTable.{read_in};
 
 use crate::answer::Answer;
+use crate::burst::burst_count;
 use crate::script::{Script, Txn};
-use axi_beats::{NoMemory, RBeat, Resp};
+use axi_beats::{Addr, NoMemory, RBeat, Resp};
 use std::alloc::Global;
 use std::marker::Model;
 
@@ -28,14 +33,19 @@ impl Model for Answers {
 }
 
 impl Answers {
-    /// Room for the answers to all transactions of a script on a bus of `bus` bytes.
-    pub(crate) fn new(alloc: Global, script: &Script, bus: u8) -> Result<Answers, NoMemory>
+    /// Room for the answers to all transactions of a script.
+    pub(crate) fn new(alloc: Global, script: &Script) -> Result<Answers, NoMemory>
         ensures { IfOk result (λ answers.
-            answers ≡ map (λ item. unanswered (due_bytes bus item.txn)) script.now) }
+            answers ≡ map (λ item. awaited_of (due_resps item.txn) (due_bytes item.txn)) script.now) }
     {
         let mut items = Vec::new(alloc);
         for n in 0..script.len() {
-            let answer = Answer::new(alloc, due(script.txn(n), bus))?;
+            let txn = script.txn(n);
+            let answer = Answer::new(
+                alloc,
+                due_resps(txn),
+                due_bytes(txn.write, script.request(n)),
+            )?;
             if items.push(answer).is_err() {
                 return Err(NoMemory);
             }
@@ -59,30 +69,56 @@ impl Answers {
         self.items[place as usize].note_issue(round);
     }
 
-    /// Notes the response to a write, which is due.
-    pub(crate) fn note_write(&mut self, place: u32, round: u64, resp: Resp)
+    /// Notes the response to a write of the script, which is due.
+    pub(crate) fn note_write(&mut self, script: &Script, place: u32, round: u64, resp: Resp)
         requires within { place < length self.old }
-        requires due { IsUnanswered 0 (slice_index_or self.old place (unanswered 0)) }
+        requires due { IsDue script.now true place
+            (slice_index_or self.old place (unanswered 0)) }
         ensures { self.new ≡ noted place (answered_in round resp []) self.old }
     {
         self.items[place as usize].note_response(round, resp);
     }
 
-    /// Notes the response to a read and its bytes, which are due.
-    pub(crate) fn note_read(&mut self, place: u32, round: u64, bus: u8, beat: &RBeat)
+    /// Notes the next beat of a read of the script, which is due. Tells whether it is its last one.
+    pub(crate) fn note_read(
+        &mut self,
+        script: &Script,
+        place: u32,
+        round: u64,
+        bus: u8,
+        beat: &RBeat,
+    ) -> bool
         requires within { place < length self.old }
-        requires due { IsUnanswered bus (slice_index_or self.old place (unanswered 0)) }
-        requires lanes { bus ≤ 128 }
-        ensures { self.new ≡ noted place
-            (answered_in round beat.now.resp (take bus beat.now.lanes)) self.old }
+        requires due { IsDue script.now false place
+            (slice_index_or self.old place (unanswered 0)) }
+        requires bus { IsBusWidth bus }
+        requires legal { All (λ item. IsLegal item.txn.request bus) script.now }
+        ensures note { self.new ≡ noted place
+            (read_in round bus (slice_get script.now place) beat.now) self.old }
+        ensures last { result ≡ is_last (slice_index_or self.old place (unanswered 0)) }
     {
-        self.items[place as usize].note_data(round, beat.resp, bus, &beat.lanes);
+        let request = script.request(place);
+        self.items[place as usize].note_data(round, request, bus, beat)
     }
 }
 
-/// The number of bytes that a transaction reads on a bus of `bus` bytes.
-fn due(txn: &Txn, bus: u8) -> u8
-    ensures { result ≡ due_bytes bus txn.now }
+/// How many responses answer a transaction.
+fn due_resps(txn: &Txn) -> usize
+    ensures value { result ≡ due_resps txn.now }
+    ensures most { result ≤ 256 }
 {
-    if txn.write { 0 } else { bus }
+    if txn.write {
+        1
+    } else {
+        usize::from(txn.request.len) + 1
+    }
+}
+
+/// How many bytes a write reads, which is none, or a read with this request.
+fn due_bytes(write: bool, request: &Addr) -> usize
+    requires start { request.now.addr < 2 ^ 63 }
+    requires legal { IsLegal request.now 128 }
+    ensures { result ≡ (if write then 0 else length (burst_bytes request.now)) }
+{
+    if write { 0 } else { burst_count(request) }
 }

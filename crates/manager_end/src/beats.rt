@@ -1,14 +1,20 @@
 //! The beats that a manager puts, in place in its `Out`.
 
-ghost use Rattle.std.specs.Prelude.{◌≡◌, ◌<◌, ◌≤◌, length, IfSome};
+ghost use Rattle.std.specs.Prelude.{◌≡◌, ◌<◌, ◌≤◌, ◌+◌, ◌-◌, ◌*◌, ◌^◌, All, IfSome, Some};
+ghost use Rattle.std.specs.Prelude.{drop, length, slice_get, take};
 ghost use Rattle.std.specs.Option.{option_map};
+ghost use Rattle.axi_beats.specs.Word.{IsBusWidth};
 ghost use Rattle.axi_link.specs.Table.{put_of};
-ghost use Rattle.manager_end.specs.Beats.{data_of, lane_of, request_of};
+ghost use Rattle.burst_address.specs.Legal.{IsLegal};
+ghost use Rattle.manager_end.specs.Beats.{data_beat, lane_of, lanes_from, request_of, strobe_of};
+ghost use Rattle.manager_end.specs.ManagerInside.{IsWithin};
 ghost use Rattle.manager_end.specs.Placed.{placed};
 
 use crate::script::{Script, Txn, WriteByte};
+use crate::sending::Sending;
 use axi_beats::{Addr, Lanes, Tag, WBeat};
 use axi_link::set_put;
+use burst_address::lanes;
 
 /// Puts the request of the transaction at `place` on link `number`; nothing where there is none.
 pub(crate) fn put_request(
@@ -34,23 +40,51 @@ pub(crate) fn put_request(
     }
 }
 
-/// Puts the data of the write at `place` on link `number`; nothing where there is none.
+/// Puts the next data beat of the write at `place` on link `number`, whose bus has `bus` bytes;
+/// nothing where there is none.
 pub(crate) fn put_data(
     put: &mut Option<(u32, WBeat)>,
     number: u32,
     script: &Script,
     place: Option<u32>,
+    bus: u8,
+    sending: &Sending,
 )
-    requires { IfSome place (λ p. p < length script.now) }
+    requires place { IfSome place (λ p. p < length script.now) }
+    requires within { IfSome (placed script.now place) (λ next. IsWithin sending.now next.1) }
+    requires bus { IsBusWidth bus }
+    requires legal { All (λ item. IsLegal item.txn.request bus) script.now }
     ensures { put.new ≡ put_of number
-        (option_map (λ next. data_of next.1) (placed script.now place)) }
+        (option_map (λ next. data_beat next.1 bus sending.now.beats) (placed script.now place)) }
 {
     match place {
         Some(place) => {
-            let beat = data_beat(script.txn(place), script.bytes(place));
+            let beat = next_beat(script, place, bus, sending);
             set_put(put, number, Some(&beat));
         }
         None => set_put(put, number, None),
+    }
+}
+
+/// The next data beat of the write at `place`.
+fn next_beat(script: &Script, place: u32, bus: u8, sending: &Sending) -> WBeat
+    requires place { place < length script.now }
+    requires within { IfSome (slice_get script.now place) (IsWithin sending.now) }
+    requires bus { IsBusWidth bus }
+    requires legal { All (λ item. IsLegal item.txn.request bus) script.now }
+    ensures { option_map (λ item. data_beat item bus sending.now.beats)
+        (slice_get script.now place) ≡ Some result }
+{
+    let request = script.request(place);
+    let bytes = script.bytes(place);
+    let (low, high) = lanes(request, sending.beats, bus);
+    let end = sending.bytes + usize::from(high - low) + 1;
+    let (lanes, strobe) = on_lanes(part(bytes, sending.bytes, end), low);
+    WBeat {
+        lanes,
+        strobe,
+        last: sending.beats == u32::from(request.len),
+        tag: tag(script.txn(place)),
     }
 }
 
@@ -65,23 +99,29 @@ fn tag(txn: &Txn) -> Tag
     }
 }
 
-/// The one data beat of a write: its bytes from lane 0 upwards, those with a strobe alone.
-fn data_beat(txn: &Txn, bytes: &[WriteByte]) -> WBeat
-    requires { length bytes.now ≤ 128 }
-    ensures { result ≡ data_of (record { txn = txn.now; bytes = bytes.now }) }
+/// The bytes from place `start` to before place `end`.
+fn part(bytes: &[WriteByte], start: usize, end: usize) -> &[WriteByte]
+    requires order { start ≤ end }
+    requires within { end ≤ length bytes.now }
+    ensures { result.now ≡ take (end - start) (drop start bytes.now) }
+{
+    &bytes[start..end]
+}
+
+/// The lanes and strobes of bytes from lane `low` upwards, of those with a strobe alone.
+fn on_lanes(bytes: &[WriteByte], low: u8) -> (Lanes, u128)
+    requires low { low < 128 }
+    requires few { low + length bytes.now ≤ 128 }
+    ensures lanes { result.0 ≡ lanes_from low bytes.now }
+    ensures strobe { result.1 ≡ strobe_of bytes.now * 2 ^ low }
 {
     let mut lanes = Lanes::zero();
     let mut strobe = 0;
     for (n, byte) in bytes.iter().enumerate() {
-        lanes.set(n as u8, on_lane(byte));
+        lanes.set(low + n as u8, on_lane(byte));
         strobe |= u128::from(byte.strobed) << n;
     }
-    WBeat {
-        lanes,
-        strobe,
-        last: true,
-        tag: tag(txn),
-    }
+    (lanes, strobe << low)
 }
 
 /// What is on a byte's lane: 0 for a byte without a strobe.

@@ -93,6 +93,18 @@ impl Direction {
         self.issued += 1;
     }
 
+    /// The place of the oldest transaction of an ID among those that wait; None exactly where none
+    /// has the ID.
+    pub(crate) fn oldest(&self, id: u32) -> Option<u32>
+        ensures { result ≡ option_map (λ entry. entry.place)
+            (find (λ entry. entry.id == id) self.now.entries) }
+    {
+        match self.entries.oldest(id) {
+            Some(oldest) => Some(self.entries.get(oldest).place),
+            None => None,
+        }
+    }
+
     /// Takes the oldest transaction of an ID out of those that wait, and tells its place; None
     /// exactly where none has the ID.
     pub(crate) fn close(&mut self, id: u32) -> Option<u32>

@@ -9,16 +9,18 @@
 mod answer;
 mod answers;
 mod beats;
+mod burst;
 mod direction;
 mod entry;
 mod manager;
 mod manager_laws;
 mod script;
+mod sending;
 #[cfg(test)]
 mod tests;
 
 pub use answer::Answer;
 pub use entry::Entry;
 pub use manager::{Manager, crosses_threads};
-pub use manager_laws::{laws, laws_of_rounds, laws_of_trails};
+pub use manager_laws::{laws, laws_of_rounds, laws_of_trails, laws_of_words};
 pub use script::{Script, Txn, WriteByte};

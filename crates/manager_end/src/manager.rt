@@ -1,14 +1,15 @@
 //! `Manager`, seen in clauses as its state and its moves.
 
-ghost use Rattle.std.specs.Prelude.{◌≡◌, ◌<◌, ◌≤◌, ◌+◌, ◌∷◌, [], All, IfOk, IfSome, IsSome, length};
-ghost use Rattle.std.specs.Prelude.{is_some, slice_index_or, vec_len};
-ghost use Rattle.std.specs.Option.{option_copied};
-ghost use Rattle.axi_beats.specs.Word.{IsBusWidth, IsWholeWord};
+ghost use Rattle.std.specs.Prelude.{◌≡◌, ◌<◌, ◌+◌, ◌∷◌, [], All, IfOk, IfSome, IsSome, length, true};
+ghost use Rattle.std.specs.Prelude.{false, is_some, slice_index_or, vec_len};
+ghost use Rattle.std.specs.Option.{option_copied, option_map};
+ghost use Rattle.axi_beats.specs.Word.{IsBusWidth};
 ghost use Rattle.axi_link.specs.Acted.{opened};
-ghost use Rattle.manager_end.specs.Answer.{unanswered};
-ghost use Rattle.manager_end.specs.ManagerState.{CanManager, IsUnanswered, answer_of, is_done};
+ghost use Rattle.burst_address.specs.Legal.{IsLegal};
+ghost use Rattle.manager_end.specs.Answer.{is_last, unanswered};
+ghost use Rattle.manager_end.specs.ManagerState.{CanManager, IsDue, answer_of, is_done};
 ghost use Rattle.manager_end.specs.ManagerState.{new_manager};
-ghost use Rattle.manager_end.specs.ManagerTable.{answering, left_waiting, manager_table, more};
+ghost use Rattle.manager_end.specs.ManagerTable.{answering, ending, left_waiting, manager_table, more};
 ghost use Rattle.manager_end.specs.ManagerTable.{note_issue, note_read, note_write, with_issued};
 ghost use Rattle.manager_end.specs.Placed.{placed};
 
@@ -17,6 +18,7 @@ use crate::answers::Answers;
 use crate::beats::{put_data, put_request};
 use crate::direction::Direction;
 use crate::script::Script;
+use crate::sending::Sending;
 use axi_beats::{BBeat, NoMemory, RBeat};
 use axi_link::{Link, Out, link_at, set_take};
 use std::alloc::Global;
@@ -30,8 +32,7 @@ pub struct Manager {
     bus: u8,
     writes: Direction,
     reads: Direction,
-    // Of how many writes the data is sent.
-    sent: usize,
+    sending: Sending,
     answered: u32,
     answers: Answers,
     out: Out,
@@ -51,8 +52,9 @@ impl Model for Manager {
 }
 
 impl Manager {
-    /// A manager with nothing issued: its script, the number of the link below it and the bytes of
-    /// its bus. All memory for the answers is taken here.
+    /// A manager with nothing issued: its script, all of whose bursts are legal on its bus, the
+    /// number of the link below it and the bytes of its bus. All memory for the answers is taken
+    /// here.
     pub fn new(
         alloc: Global,
         script: Script,
@@ -62,21 +64,25 @@ impl Manager {
         give: &[u8],
     ) -> Result<Manager, NoMemory>
         requires bus { IsBusWidth bus }
-        requires words { All (λ item. IsWholeWord bus item.txn.request) script }
+        requires legal { All (λ item. IsLegal item.txn.request bus) script }
         requires accept { accept.now ≡ 0 ∷ [] }
         requires give { give.now ≡ 0 ∷ [] }
         ensures { IfOk result (λ manager. manager ≡ opened (new_manager script lower bus)) }
     {
         let writes = Direction::new(alloc, &script, true)?;
         let reads = Direction::new(alloc, &script, false)?;
-        let answers = Answers::new(alloc, &script, bus)?;
+        let answers = Answers::new(alloc, &script)?;
         Ok(Manager {
             script,
             lower,
             bus,
             writes,
             reads,
-            sent: 0,
+            sending: Sending {
+                writes: 0,
+                beats: 0,
+                bytes: 0,
+            },
             answered: 0,
             answers,
             out: Out::default(),
@@ -122,23 +128,37 @@ impl Manager {
             .writes
             .next(&self.script, self.answered, link.room_aw());
         let read = self.reads.next(&self.script, self.answered, link.room_ar());
-        let data = self.writes.next_data(self.sent, link.room_w());
+        let data = self.writes.next_data(self.sending.writes, link.room_w());
         put_request(&mut self.out.aw_put, self.lower, &self.script, write);
-        put_data(&mut self.out.w_put, self.lower, &self.script, data);
+        put_data(
+            &mut self.out.w_put,
+            self.lower,
+            &self.script,
+            data,
+            self.bus,
+            &self.sending,
+        );
         put_request(&mut self.out.ar_put, self.lower, &self.script, read);
 
-        let written = take_response(&mut self.writes, &mut self.answers, round, link.head_b());
+        let written = take_response(
+            &mut self.writes,
+            &mut self.answers,
+            &self.script,
+            round,
+            link.head_b(),
+        );
         let got = take_data(
             &mut self.reads,
             &mut self.answers,
+            &self.script,
             round,
             self.bus,
             link.head_r(),
         );
         set_take(&mut self.out.b_take, self.lower, written);
-        set_take(&mut self.out.r_take, self.lower, got);
-        self.answered += u32::from(written) + u32::from(got);
-        self.sent += usize::from(data.is_some());
+        set_take(&mut self.out.r_take, self.lower, got.is_some());
+        self.answered += u32::from(written) + u32::from(got.unwrap_or(false));
+        self.sending.step(&self.script, data);
         issue(
             &mut self.writes,
             &mut self.answers,
@@ -167,13 +187,13 @@ impl Manager {
 fn take_response(
     writes: &mut Direction,
     answers: &mut Answers,
+    script: &Script,
     round: u64,
     head: Option<&BBeat>,
 ) -> bool
     requires within { All (λ entry. entry.place < length answers.old) writes.old.entries }
-    requires due { All (λ entry.
-        IsUnanswered 0 (slice_index_or answers.old entry.place (unanswered 0)))
-        writes.old.entries }
+    requires due { All (λ entry. IsDue script.now true entry.place
+        (slice_index_or answers.old entry.place (unanswered 0))) writes.old.entries }
     ensures taken { result ≡ is_some
         (answering (λ beat. beat.id) writes.old.entries (option_copied head.entry)) }
     ensures writes { writes.new ≡ record writes.old {
@@ -191,42 +211,48 @@ fn take_response(
     let Some(place) = writes.close(beat.id) else {
         return false;
     };
-    answers.note_write(place, round, beat.resp);
+    answers.note_write(script, place, round, beat.resp);
     true
 }
 
-/// Takes a data beat that answers a read, and notes it; whether one was taken.
+/// Takes a data beat that answers a read, and notes it; the read leaves with its last one. Tells
+/// whether it was the last one, and None where no beat was taken.
 fn take_data(
     reads: &mut Direction,
     answers: &mut Answers,
+    script: &Script,
     round: u64,
     bus: u8,
     head: Option<&RBeat>,
-) -> bool
+) -> Option<bool>
     requires within { All (λ entry. entry.place < length answers.old) reads.old.entries }
-    requires due { All (λ entry.
-        IsUnanswered bus (slice_index_or answers.old entry.place (unanswered 0)))
-        reads.old.entries }
-    requires lanes { bus ≤ 128 }
-    ensures taken { result ≡ is_some
+    requires due { All (λ entry. IsDue script.now false entry.place
+        (slice_index_or answers.old entry.place (unanswered 0))) reads.old.entries }
+    requires bus { IsBusWidth bus }
+    requires legal { All (λ item. IsLegal item.txn.request bus) script.now }
+    ensures taken { result ≡ option_map
+        (λ answer. is_last (slice_index_or answers.old answer.0.place (unanswered 0)))
         (answering (λ beat. beat.id) reads.old.entries (option_copied head.entry)) }
     ensures reads { reads.new ≡ record reads.old {
-      entries = left_waiting
-          (answering (λ beat. beat.id) reads.old.entries (option_copied head.entry))
+      entries = left_waiting (ending answers.old
+          (answering (λ beat. beat.id) reads.old.entries (option_copied head.entry)))
           reads.old.entries;
     } }
-    ensures answers { answers.new ≡ note_read round bus
+    ensures answers { answers.new ≡ note_read round bus script.now
         (answering (λ beat. beat.id) reads.old.entries (option_copied head.entry))
         answers.old }
 {
     let Some(beat) = head else {
-        return false;
+        return None;
     };
-    let Some(place) = reads.close(beat.id) else {
-        return false;
+    let Some(place) = reads.oldest(beat.id) else {
+        return None;
     };
-    answers.note_read(place, round, bus, beat);
-    true
+    let last = answers.note_read(script, place, round, bus, beat);
+    if last {
+        reads.close(beat.id);
+    }
+    Some(last)
 }
 
 /// Files the next transaction as issued, and notes the round; nothing where there is none.

@@ -1,7 +1,8 @@
 //! What holds of the manager's definitions alone.
 
 ghost use Rattle.manager_end.specs.Laws.{DoneIsAnswered, ManagerMovesFit, ManagerBegins};
-ghost use Rattle.manager_end.specs.Laws.{ManagerStays};
+ghost use Rattle.manager_end.specs.Laws.{ManagerStays, WordHasItsBytes, WordHasItsLanes, WordIsLegal};
+ghost use Rattle.manager_end.specs.Laws.{WordIsOneBeat};
 ghost use Rattle.manager_end.specs.ManagerOrder.{NotesStay};
 ghost use Rattle.manager_end.specs.ManagerTrail.{ManagerAsks, ManagerOpens, ManagerSteps};
 
@@ -32,4 +33,12 @@ pub fn laws_of_trails()
 
     // And it asks as it should.
     ensures asks { ManagerAsks }
+{}
+
+/// What a request for one whole word of the bus is among bursts.
+pub fn laws_of_words()
+    ensures legal { WordIsLegal }
+    ensures bytes { WordHasItsBytes }
+    ensures lanes { WordHasItsLanes }
+    ensures data { WordIsOneBeat }
 {}

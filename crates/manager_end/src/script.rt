@@ -1,9 +1,10 @@
 //! `Script`, seen in clauses as the list of its transactions, each with its bytes.
 
-ghost use Rattle.std.specs.Prelude.{◌≡◌, ◌<◌, ◌≤◌, ◌++◌, ◌∷◌, [], length, slice_get, OnOk, OnErr};
-ghost use Rattle.std.specs.Prelude.{Some};
+ghost use Rattle.std.specs.Prelude.{◌≡◌, ◌<◌, ◌≤◌, ◌^◌, ◌++◌, ◌∷◌, [], length, slice_get, OnOk};
+ghost use Rattle.std.specs.Prelude.{OnErr, Some};
 ghost use Rattle.std.specs.Option.{option_map};
-ghost use Rattle.manager_end.specs.Script.{CanPush, IsScript};
+ghost use Rattle.burst_address.specs.Legal.{IsLegal};
+ghost use Rattle.manager_end.specs.Script.{CanPush, IsScript, sent_bytes};
 
 use axi_beats::{Addr, NoMemory};
 use std::alloc::Global;
@@ -68,8 +69,8 @@ impl Script {
         }
     }
 
-    /// Adds a transaction with its bytes: those that a write names, lowest lane first, and none for
-    /// a read. The script is unchanged where there is no memory.
+    /// Adds a transaction with its bytes: for a write those of the valid lanes of its beats, beat by
+    /// beat and lowest lane first, and none for a read. The script is unchanged where there is no memory.
     pub fn push(&mut self, txn: Txn, bytes: &[WriteByte]) -> Result<(), NoMemory>
         requires { CanPush self.old txn bytes.now }
         ensures ok { OnOk result
@@ -99,11 +100,23 @@ impl Script {
         &self.items[n as usize].txn
     }
 
+    /// The request of the transaction at place `n`, which is below the length.
+    pub(crate) fn request(&self, n: u32) -> &Addr
+        requires { n < length self.now }
+        ensures value { option_map (λ item. item.txn.request) (slice_get self.now n)
+            ≡ Some result.now }
+        ensures start { result.now.addr < 2 ^ 63 }
+        ensures legal { IsLegal result.now 128 }
+    {
+        &self.items[n as usize].txn.request
+    }
+
     /// The bytes that were pushed with the transaction at place `n`, which is below the length.
     pub fn bytes(&self, n: u32) -> &[WriteByte]
         requires { n < length self.now }
         ensures value { option_map (λ item. item.bytes) (slice_get self.now n) ≡ Some result.now }
-        ensures most { length result.now ≤ 128 }
+        ensures count { option_map (λ item. sent_bytes item.txn) (slice_get self.now n)
+            ≡ Some (length result.now) }
     {
         self.items[n as usize].bytes.as_slice()
     }

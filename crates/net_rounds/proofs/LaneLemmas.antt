@@ -8,6 +8,7 @@ use Rattle.std.proofs.lemmas.Nat.Bits.{bit_at-suc, bit_at_lowest}
 use Rattle.axi_beats.specs.declared.beat.Burst.{Burst}
 use Rattle.burst_address.specs.Bytes.{beat_bytes, burst_bytes, bytes_before, valid_bytes, written}
 use Rattle.burst_address.specs.Formulas.{address_of, beats_of, size_of}
+use Rattle.manager_end.proofs.WordLemmas.{word-sent}
 use Rattle.manager_end.specs.Beats.{data_of, lane_of, lanes_of, strobe_of}
 use Rattle.manager_end.specs.Script.{ScriptItem}
 use Rattle.manager_end.specs.declared.script.WriteByte.{WriteByte}
@@ -116,7 +117,7 @@ module _ (item : ScriptItem) (known : IsTrafficItem item) where
   -- what a write strobes is what its data beat strobes
   pub strobed-lanes : item.txn.write ≡ true → strobed_bytes item ≡ map (λ (lane : ℕ). (lane_address (part_of item) 0 4 lane, slice_index (data_of item).lanes lane)) (strobed_lanes 4 (data_of item))
   strobed-lanes direction =
-      let four : length item.bytes ≡ 4 = known.sent ∙ ap (λ b. cond b (2 ^ item.txn.request.size) 0) direction ∙ known.word.wide in
+      let four : length item.bytes ≡ 4 = word-sent item 4 known.word direction known.sent in
       ap (λ addresses. written addresses (map strobed_value item.bytes)) (burst-beat ∙ first-beat)
       ∙ ap (λ n. written (range_with_len (word + 0) n) (map strobed_value item.bytes)) (sym four)
       ∙ written-lanes word (is_strobed (data_of item)) (slice_index (data_of item).lanes) 0 item.bytes (data-shows item)

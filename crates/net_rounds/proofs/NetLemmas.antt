@@ -9,6 +9,7 @@ use Rattle.axi_link.proofs.MovesLemmas.{fitting_moves}
 use Rattle.axi_link.specs.Acted.{Acted, opened}
 use Rattle.axi_link.specs.LinkView.{LinkView, empty_link}
 use Rattle.manager_end.proofs.ManagerLaws.{manager-begins, manager-fits}
+use Rattle.manager_end.proofs.WordLemmas.{words-legal}
 use Rattle.manager_end.specs.ManagerState.{IsManager, ManagerState, new_manager}
 use Rattle.manager_end.specs.ManagerTable.{manager_out}
 use Rattle.manager_end.specs.Script.{ScriptItem}
@@ -37,14 +38,15 @@ ram-config = record { bus = refl; base = refl; size = refl; end = lit≤ tt }
 
 pub built_in-holds : (script : List ScriptItem) → IsTraffic script → PairHolds (built_in_pair script)
 built_in-holds script traffic =
-    let manager = manager-begins script 0 4 traffic.is_script refl traffic.words in
+    let manager = manager-begins script 0 4 traffic.is_script refl (words-legal script 4 refl traffic.words) in
     record {
       manager = manager;
+      words = traffic.words;
       lower = refl;
       bus = refl;
       memory = new-is_memory ram 0 (touched_lines script) ram-config (touched-ascending script);
       upper = refl;
-      lines = touched-kept (new_manager script 0 4) manager refl;
+      lines = touched-kept (new_manager script 0 4) manager traffic.words refl;
       link = record { aw = All-nil (IsWholeWord 4); aw_lines = All-nil (AreLinesAmong ram (touched_lines script)); ar = All-nil (IsWholeWord 4); w = All-nil (λ (w : WBeat). w.strobe < 2 ^ 4) };
       few = few-begins script 0 4;
     }

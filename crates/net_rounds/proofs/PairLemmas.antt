@@ -1,5 +1,5 @@
 -- What a round keeps of the pair.
-use Rattle.std.proofs.Common.{◌≡◌, ◌<◌, ◌+◌, ◌*◌, ◌^◌, ◌∷◌, [], ℕ, zero, suc, List, Option, Some, None, Bool, true, false, cond, length, get_or, sym, ap, ◌∙◌, subst, arith}
+use Rattle.std.proofs.Common.{◌≡◌, ◌<◌, ◌≤◌, ◌+◌, ◌*◌, ◌^◌, ◌∷◌, [], ℕ, zero, suc, List, Option, Some, None, Bool, true, false, cond, length, get_or, sym, ap, ◌∙◌, subst, arith}
 use Rattle.std.specs.Prelude.{All, Contains, IfSome, not, take}
 use Rattle.std.specs.List.{enumerate_from}
 use Rattle.std.proofs.lemmas.List.Elements.{All-contains_itself, All-filter, filter_passes}
@@ -11,7 +11,8 @@ use Rattle.axi_link.specs.LinkView.{LinkView}
 use Rattle.axi_link.specs.Table.{head_of, link_of, put_of}
 use Rattle.axi_link.proofs.KeepLemmas.{All-moved}
 use Rattle.manager_end.proofs.ManagerLaws.{manager-stays}
-use Rattle.manager_end.specs.Beats.{request_of, data_of, strobe_of}
+use Rattle.manager_end.proofs.WordLemmas.{word-first, word-sent}
+use Rattle.manager_end.specs.Beats.{request_of, data_beat, data_of, strobe_of}
 use Rattle.manager_end.specs.ManagerState.{ManagerState, IsManager, CanManager, writes_of, reads_of}
 use Rattle.manager_end.specs.ManagerTable.{manager_aw, manager_ar, manager_w, manager_out, ready}
 use Rattle.manager_end.specs.Script.{CanPush, IsScript, ScriptItem, sent_bytes}
@@ -62,52 +63,47 @@ script-sent script pushed k d within =
     in at.bytes_sent
 
 script-chosen :
-    (s : ManagerState) → IsManager s →
+    (s : ManagerState) → IsManager s → All (λ (item : ScriptItem). IsWholeWord s.bus item.txn.request) s.script →
     All (λ (item : ScriptItem). Contains s.script item × IsWholeWord s.bus item.txn.request × (length item.bytes ≡ sent_bytes item.txn)) s.script
-script-chosen s m k d within = (All-contains_itself s.script k d within, m.words k d within, script-sent s.script m.is_script k d within)
+script-chosen s m words k d within = (All-contains_itself s.script k d within, words k d within, script-sent s.script m.is_script k d within)
 
-pub writes-chosen : (s : ManagerState) → IsManager s → All (λ (p : ℕ × ScriptItem). IsChosen s.script s.bus true p.1) (writes_of s.script)
-writes-chosen s m k d within =
+pub writes-chosen : (s : ManagerState) → IsManager s → All (λ (item : ScriptItem). IsWholeWord s.bus item.txn.request) s.script → All (λ (p : ℕ × ScriptItem). IsChosen s.script s.bus true p.1) (writes_of s.script)
+writes-chosen s m words k d within =
     let test : ℕ × ScriptItem → Bool = λ p. p.1.txn.write in
     let Known : ScriptItem → Type 0 = λ item. Contains s.script item × IsWholeWord s.bus item.txn.request × (length item.bytes ≡ sent_bytes item.txn) in
-    let each = All-filter test (λ p. Known p.1) (enumerate_from 0 s.script) (All-enumerated Known 0 s.script (script-chosen s m)) k d within in
+    let each = All-filter test (λ p. Known p.1) (enumerate_from 0 s.script) (All-enumerated Known 0 s.script (script-chosen s m words)) k d within in
     let passes : (get_or (writes_of s.script) k d).1.txn.write ≡ true = filter_passes test (enumerate_from 0 s.script) k d within in
     record { among = each.0; direction = passes; word = each.1; sent = each.2 }
 
-reads-words : (s : ManagerState) → IsManager s → All (λ (p : ℕ × ScriptItem). IsWholeWord s.bus p.1.txn.request) (reads_of s.script)
-reads-words s m =
+reads-words : (s : ManagerState) → All (λ (item : ScriptItem). IsWholeWord s.bus item.txn.request) s.script → All (λ (p : ℕ × ScriptItem). IsWholeWord s.bus p.1.txn.request) (reads_of s.script)
+reads-words s words =
     All-filter (λ (p : ℕ × ScriptItem). not p.1.txn.write) (λ (p : ℕ × ScriptItem). IsWholeWord s.bus p.1.txn.request) (enumerate_from 0 s.script)
-    (All-enumerated (λ (item : ScriptItem). IsWholeWord s.bus item.txn.request) 0 s.script m.words)
+    (All-enumerated (λ (item : ScriptItem). IsWholeWord s.bus item.txn.request) 0 s.script words)
 
 -- what the manager puts has what its script has
-aw-puts :
-    (P : Addr → Type 0) (links : List LinkView) (s : ManagerState) → All (λ (p : ℕ × ScriptItem). P (request_of p.1)) (writes_of s.script) →
-    IfSome (manager_out links s).aw_put (λ (p : ℕ × Addr). P p.1)
-aw-puts P links s all =
-    let Has : ℕ × ScriptItem → Type 0 = λ p. P (request_of p.1) in
-    put-has P s.lower _ (IfSome-map (λ (next : ℕ × ScriptItem). request_of next.1) P (manager_aw links s)
-    (passing-has Has _ _ (ready-has Has s.answered _ (All-slice_get Has (writes_of s.script) s.issued_writes all))))
-
-ar-puts :
-    (P : Addr → Type 0) (links : List LinkView) (s : ManagerState) → All (λ (p : ℕ × ScriptItem). P (request_of p.1)) (reads_of s.script) →
-    IfSome (manager_out links s).ar_put (λ (p : ℕ × Addr). P p.1)
-ar-puts P links s all =
-    let Has : ℕ × ScriptItem → Type 0 = λ p. P (request_of p.1) in
-    put-has P s.lower _ (IfSome-map (λ (next : ℕ × ScriptItem). request_of next.1) P (manager_ar links s)
-    (passing-has Has _ _ (ready-has Has s.answered _ (All-slice_get Has (reads_of s.script) s.issued_reads all))))
+a-- a write of a whole word has one data beat
+record IsOneBeat (bus : ℕ) (item : ScriptItem) : Type 0 where
+  first : data_beat item bus 0 ≡ data_of item
+  only : item.txn.request.len ≡ 0
 
 w-puts :
-    (P : WBeat → Type 0) (links : List LinkView) (s : ManagerState) → All (λ (p : ℕ × ScriptItem). P (data_of p.1)) (writes_of s.script) →
+    (P : WBeat → Type 0) (links : List LinkView) (s : ManagerState) → IsManager s → All (λ (p : ℕ × ScriptItem). IsOneBeat s.bus p.1 × P (data_of p.1)) (writes_of s.script) →
     IfSome (manager_out links s).w_put (λ (p : ℕ × WBeat). P p.1)
-w-puts P links s all =
-    let Has : ℕ × ScriptItem → Type 0 = λ p. P (data_of p.1) in
-    put-has P s.lower _ (IfSome-map (λ (next : ℕ × ScriptItem). data_of next.1) P (manager_w links s)
-    (passing-has Has _ _ (All-slice_get Has (writes_of s.script) s.sent_writes all)))
+w-puts P links s m all =
+    let Has : ℕ × ScriptItem → Type 0 = λ p. P (data_beat p.1 s.bus s.sent_beats) in
+    let both : (o : Option (ℕ × ScriptItem)) → IfSome o (λ (p : ℕ × ScriptItem). s.sent_beats ≤ p.1.txn.request.len) → IfSome o (λ (p : ℕ × ScriptItem). IsOneBeat s.bus p.1 × P (data_of p.1)) → IfSome o Has =
+    λ o. elim o as (λ o. IfSome o (λ (p : ℕ × ScriptItem). s.sent_beats ≤ p.1.txn.request.len) → IfSome o (λ (p : ℕ × ScriptItem). IsOneBeat s.bus p.1 × P (data_of p.1)) → IfSome o Has) [
+      | None ↦ λ few has. tt
+      | Some p ↦ λ few has.
+          let none : 0 ≡ s.sent_beats = omega (arith, few, has.0.only) in
+          subst (λ (n : ℕ). P (data_beat p.1 s.bus n)) none (subst P (sym has.0.first) has.1)
+    ] in
+    put-has P s.lower _ (IfSome-map (λ (next : ℕ × ScriptItem). data_beat next.1 s.bus s.sent_beats) P (manager_w links s)
+    (passing-has Has _ _ (both _ m.beats_sent (All-slice_get (λ (p : ℕ × ScriptItem). IsOneBeat s.bus p.1 × P (data_of p.1)) (writes_of s.script) s.sent_writes all))))
 
 data-strobe : (bus : ℕ) (item : ScriptItem) (script : List ScriptItem) → IsChosen script bus true item → (data_of item).strobe < 2 ^ bus
 data-strobe bus item script chosen =
-    let sent : length item.bytes ≡ bus = chosen.sent ∙ ap (λ b. cond b (2 ^ item.txn.request.size) 0) chosen.direction ∙ chosen.word.wide in
-    subst (λ (n : ℕ). strobe_of item.bytes < 2 ^ n) sent (strobe-small item.bytes)
+    subst (λ (n : ℕ). strobe_of item.bytes < 2 ^ n) (word-sent item bus chosen.word chosen.direction chosen.sent) (strobe-small item.bytes)
 
 -- what every beat on the link is: requests for words of the bus, writes on lines that the memory keeps, strobes on
 -- lanes of the bus
@@ -124,6 +120,7 @@ pub record KeepsLines (config : MemoryConfig) (lines : List ℕ) (script : List 
 -- what holds of the pair after every round
 pub record PairHolds (p : Pair) : Type 0 where
   pub manager : IsManager p.manager.state
+  pub words : All (λ (item : ScriptItem). IsWholeWord p.manager.state.bus item.txn.request) p.manager.state.script
   pub lower : p.manager.state.lower ≡ 0
   pub bus : p.manager.state.bus ≡ p.memory.state.config.bus
   pub memory : IsMemory p.memory.state
@@ -170,8 +167,8 @@ link-keeps p n holds =
     let Strobe : WBeat → Type 0 = λ w. w.strobe < 2 ^ config.bus in
     let takes = memory_out links p.memory.state in
     let puts = manager_out links s in
-    let chosen = writes-chosen s holds.manager in
-    let reads = reads-words s holds.manager in
+    let chosen = writes-chosen s holds.manager holds.words in
+    let reads = reads-words s holds.words in
     record {
       aw = All-moved Word 0 takes.aw_take puts.aw_put p.link.aw holds.link.aw
           (aw-puts Word links s (λ k d lt.
@@ -183,9 +180,13 @@ link-keeps p n holds =
           let item = (get_or (reads_of s.script) k d).1 in
           subst (λ (bus : ℕ). IsWholeWord bus (request_of item)) holds.bus (tagged-word s.bus item (reads k d lt))));
       w = All-moved Strobe 0 takes.w_take puts.w_put p.link.w holds.link.w
-          (w-puts Strobe links s (λ k d lt.
+          (w-puts Strobe links s holds.manager (λ k d lt.
           let item = (get_or (writes_of s.script) k d).1 in
-          subst (λ (bus : ℕ). (data_of item).strobe < 2 ^ bus) holds.bus (data-strobe s.bus item s.script (chosen k d lt))));
+          let own = chosen k d lt in
+          (
+            record { first = word-first item s.bus own.word (word-sent item s.bus own.word own.direction own.sent); only = own.word.one_beat },
+            subst (λ (bus : ℕ). (data_of item).strobe < 2 ^ bus) holds.bus (data-strobe s.bus item s.script own),
+          )));
     }
 
 -- a round keeps it
@@ -194,13 +195,14 @@ pair-keeps p n holds =
     let same = sym (lines-stay (p.link ∷ []) p.memory.state) in
     record {
       manager = manager-stays (p.link ∷ []) p.manager.state (suc n) (can-manager p n holds).counted holds.manager;
+      words = holds.words;
       lower = holds.lower;
       bus = holds.bus;
       memory = memory-stays (suc n) (p.link ∷ []) p.memory.state holds.memory (can-memory p n holds);
       upper = holds.upper;
       lines = subst (λ (lines : List ℕ). KeepsLines p.memory.state.config lines p.manager.state.script) same holds.lines;
       link = subst (λ (lines : List ℕ). LinkHolds p.memory.state.config lines (moved (decided (suc n) p)).link) same (link-keeps p n holds);
-      few = few-keeps (suc n) (p.link ∷ []) p.manager.state holds.manager holds.few;
+      few = few-keeps (suc n) (p.link ∷ []) p.manager.state (can-manager p n holds).counted holds.manager holds.words holds.few;
     }
 
 pub pair-holds : (p : Pair) → PairHolds p → (n : ℕ) → PairHolds (pair_after n p)

@@ -14,6 +14,7 @@ use Rattle.axi_trail.specs.Schedule.{SameChain, Share, Span}
 use Rattle.axi_beats.specs.declared.beat.Burst.{Burst}
 use Rattle.burst_address.specs.Formulas.{address_of, beats_of as burst_beats, lower_lane, size_of, upper_lane}
 use Rattle.manager_end.specs.Beats.{request_of}
+use Rattle.manager_end.proofs.WordLemmas.{word-data, word-sent, word-spans}
 use Rattle.manager_end.specs.ManagerTrail.{HasItem, IsItsOwn, IsPlanOf, shares_of}
 use Rattle.manager_end.specs.Script.{ScriptItem, sent_bytes}
 use Rattle.memory_end.specs.Accesses.{BeatOf, beats_of_parts, burst_status, span_of}
@@ -198,10 +199,10 @@ word-span : (item : ScriptItem) → IsTrafficItem item → span_of ram (record {
 word-span item known = ap₂ (λ (first count : ℕ). span first (first + count - 1)) (first-lane item known) (all-lanes item known)
 
 -- the plan has each transaction as it is
-has-write : (script : List ScriptItem) (item : ScriptItem) → item.txn.write ≡ true → (plan_of script).writes item.txn.number ≡ write_share item → item.txn.request.id < 2 ^ 4 → HasItem (plan_of script) 4 item
-has-write script item direction own fits = record {
+has-write : (script : List ScriptItem) (item : ScriptItem) → IsTrafficItem item → item.txn.write ≡ true → (plan_of script).writes item.txn.number ≡ write_share item → item.txn.request.id < 2 ^ 4 → HasItem (plan_of script) 4 item
+has-write script item known direction own fits = record {
   parts = ap (λ b. ((if b then (plan_of script).writes else (plan_of script).reads) item.txn.number).parts) direction ∙ ap (λ (s : Share). s.parts) own;
-  write_data = λ is. ap (λ (s : Share). s.write_data) own;
+  write_data = λ is. ap (λ (s : Share). s.write_data) own ∙ ap (λ (beats : List WBeat). beats ∷ []) (sym (word-data item 4 known.word (word-sent item 4 known.word direction known.sent)));
   lanes = λ is. absurd (true≢false (sym direction ∙ is));
   id_fits = fits;
 }
@@ -210,7 +211,9 @@ has-read : (script : List ScriptItem) (item : ScriptItem) → IsTrafficItem item
 has-read script item known direction own fits = record {
   parts = ap (λ b. ((if b then (plan_of script).writes else (plan_of script).reads) item.txn.number).parts) direction ∙ ap (λ (s : Share). s.parts) own;
   write_data = λ is. absurd (true≢false (sym is ∙ direction));
-  lanes = λ is. ap (λ (s : Share). s.lanes) own ∙ ap (map (span_of ram)) (one-beat item known) ∙ ap (λ (s : Span). s ∷ []) (word-span item known);
+  lanes = λ is.
+      ap (λ (s : Share). s.lanes) own ∙ ap (map (span_of ram)) (one-beat item known) ∙ ap (λ (s : Span). s ∷ []) (word-span item known)
+      ∙ sym (word-spans item.txn.request 4 known.word (omega arith));
   id_fits = fits;
 }
 
@@ -254,7 +257,7 @@ plan-of-script script t = record {
       let among = All-contains_itself script k d within in
       let known = traffic-items script t k d within in
       elim (cases_Bool item.txn.write) [
-        | inl direction ↦ has-write script item direction (share-own script t item among true direction) known.id_fits
+        | inl direction ↦ has-write script item known direction (share-own script t item among true direction) known.id_fits
         | inr direction ↦ has-read script item known direction (share-own script t item among false direction) known.id_fits
       ];
   chains = λ k d within number same.

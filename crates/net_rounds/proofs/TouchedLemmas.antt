@@ -53,10 +53,10 @@ touched-item script item among writes word beat within inside =
     let low : item.txn.request.addr < 8192 = subst (λ (a : ℕ). a < 8192) own (inside-low (beat_address item.txn.request beat / 4 * 4) inside) in
     subst (λ (a : ℕ). Contains (lines_below 64 script) (line_of a)) (sym own) (lines-own 64 script item among writes (line-low item.txn.request.addr low))
 
-pub touched-kept : (s : ManagerState) → IsManager s → s.bus ≡ 4 → KeepsLines ram (touched_lines s.script) s.script
-touched-kept s m bus = record {
+pub touched-kept : (s : ManagerState) → IsManager s → All (λ (item : ScriptItem). IsWholeWord s.bus item.txn.request) s.script → s.bus ≡ 4 → KeepsLines ram (touched_lines s.script) s.script
+touched-kept s m words bus = record {
   kept = λ k d lt.
-      let chosen = writes-chosen s m k d lt in
+      let chosen = writes-chosen s m words k d lt in
       let item = (get_or (writes_of s.script) k d).1 in
       touched-item s.script item chosen.among chosen.direction (subst (λ (b : ℕ). IsWholeWord b item.txn.request) bus chosen.word);
 }

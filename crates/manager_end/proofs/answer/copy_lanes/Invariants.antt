@@ -1,5 +1,6 @@
 use Rattle.std.proofs.Common.{◌≡◌, take}
+use Rattle.std.specs.Prelude.{drop}
 use Rattle.manager_end.proofs.answer.copy_lanes.Given as goal
 
-abbrev pub invariant-loop-lane : goal.invariant-loop-lane
-invariant-loop-lane l = take l.lane l.bytes ≡ take l.lane l.lanes
+abbrev pub invariant-loop-n : goal.invariant-loop-n
+invariant-loop-n l = take l.n l.bytes ≡ take l.n (drop l.low l.lanes)

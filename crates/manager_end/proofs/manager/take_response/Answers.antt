@@ -1,7 +1,7 @@
-use Rattle.std.proofs.Common.{◌<◌, ap, sym, ◌∙◌, length, get_or}
+use Rattle.std.proofs.Common.{◌<◌, true, ap, sym, ◌∙◌, length, get_or}
 use Rattle.std.specs.Option.{option_copied}
 use Rattle.manager_end.specs.Answer.{unanswered}
-use Rattle.manager_end.specs.ManagerState.{IsUnanswered}
+use Rattle.manager_end.specs.ManagerState.{IsDue}
 use Rattle.manager_end.specs.ManagerTable.{answering, left_waiting}
 use Rattle.manager_end.proofs.WaitingLemmas.{at-place, left-head, direction-same}
 use Rattle.manager_end.proofs.manager.take_response.Goals as goal
@@ -15,7 +15,7 @@ pub note_write-requires-clause-within : goal.note_write-requires-clause-within
 note_write-requires-clause-within c = at-place (λ place. place < length c.args.answers.now) c.in-Some.beat.now.id c.args.writes.now.entries _ c.requires.within (sym c.close.ensures.place ∙ c.in-Some-close.is)
 
 pub note_write-requires-clause-due : goal.note_write-requires-clause-due
-note_write-requires-clause-due c = at-place (λ place. IsUnanswered 0 (get_or c.args.answers.now place (unanswered 0))) c.in-Some.beat.now.id c.args.writes.now.entries _ c.requires.due (sym c.close.ensures.place ∙ c.in-Some-close.is)
+note_write-requires-clause-due c = at-place (λ place. IsDue c.args.script.now true place (get_or c.args.answers.now place (unanswered 0))) c.in-Some.beat.now.id c.args.writes.now.entries _ c.requires.due (sym c.close.ensures.place ∙ c.in-Some-close.is)
 
 pub returns-clause-writes : goal.returns-clause-writes
 returns-clause-writes c =

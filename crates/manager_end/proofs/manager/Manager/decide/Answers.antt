@@ -1,19 +1,21 @@
-use Rattle.std.proofs.Common.{◌≡◌, ◌+◌, ◌<◌, ◌^◌, ℕ, List, true, false, Option, ap, arith, length, subst, sym, ◌∙◌}
+use Rattle.std.proofs.Common.{◌≡◌, ◌+◌, ◌<◌, ◌^◌, ℕ, List, true, false, Option, ap, arith, length, refl, subst, sym, ◌∙◌}
 use Rattle.std.specs.Option.{option_copied, option_map}
-use Rattle.std.specs.Prelude.{IfSome, is_some}
+use Rattle.std.specs.Prelude.{IfSome, is_some, slice_get}
 use Rattle.axi_link.specs.Acted.{Acted}
 use Rattle.axi_link.specs.LinkView.{LinkView}
 use Rattle.axi_link.specs.Table.{put_of, take_of}
 use Rattle.axi_link.specs.declared.out.Out.{Out}
-use Rattle.manager_end.specs.Beats.{request_of, data_of}
-use Rattle.manager_end.specs.ManagerInside.{manager_state}
-use Rattle.manager_end.specs.ManagerState.{ManagerState, IsManager}
-use Rattle.manager_end.specs.ManagerTable.{answering, left_waiting, with_issued, manager_aw, manager_w, manager_ar, manager_b, manager_r, manager_next, manager_out, manager_table, more, note_write, note_read, note_issue}
+use Rattle.manager_end.specs.Beats.{data_beat, request_of}
+use Rattle.manager_end.specs.ManagerInside.{IsWithin, manager_state, sent_after}
+use Rattle.manager_end.specs.ManagerState.{ManagerState, IsManager, writes_of}
+use Rattle.manager_end.specs.ManagerTable.{answering, ending, left_waiting, with_issued, manager_aw, manager_w, manager_ar, manager_b, manager_r, manager_r_last, manager_next, manager_out, manager_table, more, note_write, note_read, note_issue}
 use Rattle.manager_end.specs.Placed.{placed}
 use Rattle.manager_end.specs.Script.{ScriptItem}
 use Rattle.manager_end.specs.declared.entry.Entry.{Entry}
 use Rattle.manager_end.proofs.ManagerLaws.{manager-stays}
-use Rattle.manager_end.proofs.StepLemmas.{places-within, passing-within, aw-is, ar-is, w-is, b-is, r-is, writes-within, writes-due, reads-within, reads-due, answered-small, room-left, state-same, out-same, acted-same, byte-more, placed-some, sum-small, sum-same}
+use Rattle.manager_end.specs.declared.sending.Sending.{Sending}
+use Rattle.manager_end.proofs.RowLemmas.{w-next}
+use Rattle.manager_end.proofs.StepLemmas.{places-within, passing-within, aw-is, ar-is, w-is, b-is, r-is, writes-within, writes-due, reads-within, reads-due, answered-small, room-left, state-same, out-same, acted-same, byte-more, next-within, sent-beats, sent-small, sent-writes, sending-next, got-last, got-some, last-is, sum-small, sum-same}
 use Rattle.manager_end.proofs.manager.Manager.decide.Goals as goal
 
 pub next-write-requires : goal.next-write-requires
@@ -22,10 +24,15 @@ next-write-requires c = places-within true c.self.inside.script c.self.inside.wr
 pub next-read-requires : goal.next-read-requires
 next-read-requires c = places-within false c.self.inside.script c.self.inside.reads.places.items c.self.invariant.read_places
 
-pub put_data-requires : goal.put_data-requires
-put_data-requires c =
+pub put_data-requires-clause-place : goal.put_data-requires-clause-place
+put_data-requires-clause-place c =
     subst (λ (o : Option ℕ). IfSome o (λ place. place < length c.self.inside.script)) (sym c.next_data-data.ensures)
-    (passing-within (λ place. place < length c.self.inside.script) _ c.self.inside.writes.places.items c.self.inside.sent (places-within true c.self.inside.script c.self.inside.writes.places.items c.self.invariant.write_places))
+    (passing-within (λ place. place < length c.self.inside.script) _ c.self.inside.writes.places.items c.self.inside.sending.writes (places-within true c.self.inside.script c.self.inside.writes.places.items c.self.invariant.write_places))
+
+pub put_data-requires-clause-within : goal.put_data-requires-clause-within
+put_data-requires-clause-within c =
+    let w = w-is c.args.links.now (manager_state c.self.inside) c.link_at-link.result.now c.self.inside.writes.places.items c.room_w.result c.next_data-data.result c.self.invariant.write_places c.link_at-link.ensures c.room_w.ensures c.next_data-data.ensures
+    in next-within c.args.links.now (manager_state c.self.inside) c.self.inside.sending (placed c.self.inside.script c.next_data-data.result) w refl c.self.invariant.sending
 
 pub take_response-written-requires-clause-within : goal.take_response-written-requires-clause-within
 take_response-written-requires-clause-within c = writes-within c.args.links.now (manager_state c.self.inside) c.args.round c.requires.counted c.self.invariant.state
@@ -47,13 +54,30 @@ take_data-got-requires-clause-due c =
 
 pub overflow_add-self-2 : goal.overflow_add-self-2
 overflow_add-self-2 c =
-    let b = b-is c.args.links.now (manager_state c.self.inside) c.link_at-link.result.now (option_copied c.head_b.result) c.link_at-link.ensures c.head_b.ensures
-    in let r = r-is c.args.links.now (manager_state c.self.inside) c.link_at-link.result.now (option_copied c.head_r.result) c.link_at-link.ensures c.head_r.ensures
-    in let wrote : c.from.result ≡ more (is_some (manager_b c.args.links.now (manager_state c.self.inside))) = c.from.ensures ∙ byte-more _ ∙ ap more (c.take_response-written.ensures.taken ∙ ap is_some b)
-    in let got : c.from-2.result ≡ more (is_some (manager_r c.args.links.now (manager_state c.self.inside))) = c.from-2.ensures ∙ byte-more _ ∙ ap more (c.take_data-got.ensures.taken ∙ ap is_some r)
-    in let small = answered-small c.args.links.now (manager_state c.self.inside) c.args.round c.requires.counted c.self.invariant.state
+    let links : List LinkView = c.args.links.now
+    in let st : ManagerState = manager_state c.self.inside
+    in let b = b-is links st c.link_at-link.result.now (option_copied c.head_b.result) c.link_at-link.ensures c.head_b.ensures
+    in let r = r-is links st c.link_at-link.result.now (option_copied c.head_r.result) c.link_at-link.ensures c.head_r.ensures
+    in let wrote : c.from.result ≡ more (is_some (manager_b links st)) = c.from.ensures ∙ byte-more _ ∙ ap more (c.take_response-written.ensures.taken ∙ ap is_some b)
+    in let got : c.from-2.result ≡ more (is_some (manager_r_last links st)) =
+    c.from-2.ensures ∙ byte-more _
+    ∙ got-last links st c.args.round c.self.invariant.state c.take_response-written.new.answers _ c.take_data-got.result c.unwrap_or.result (c.take_response-written.ensures.answers ∙ ap (λ answer. note_write c.args.round answer c.self.inside.answers) b) r c.take_data-got.ensures.taken c.unwrap_or.ensures
+    in let small = answered-small links st c.args.round c.requires.counted c.self.invariant.state
     in let fits : c.self.inside.answered + (c.from.result + c.from-2.result) < 2 ^ 32 = sum-small c.self.inside.answered _ _ _ _ wrote got small
     in omega (arith, fits)
+
+pub step-requires-clause-small : goal.step-requires-clause-small
+step-requires-clause-small c = sent-small (manager_state c.self.inside) c.self.invariant.state
+
+pub step-requires-clause-place : goal.step-requires-clause-place
+step-requires-clause-place c =
+    subst (λ (o : Option ℕ). IfSome o (λ place. place < length c.self.inside.script)) (sym c.next_data-data.ensures)
+    (passing-within (λ place. place < length c.self.inside.script) _ c.self.inside.writes.places.items c.self.inside.sending.writes (places-within true c.self.inside.script c.self.inside.writes.places.items c.self.invariant.write_places))
+
+pub step-requires-clause-within : goal.step-requires-clause-within
+step-requires-clause-within c =
+    let w = w-is c.args.links.now (manager_state c.self.inside) c.link_at-link.result.now c.self.inside.writes.places.items c.room_w.result c.next_data-data.result c.self.invariant.write_places c.link_at-link.ensures c.room_w.ensures c.next_data-data.ensures
+    in next-within c.args.links.now (manager_state c.self.inside) c.self.inside.sending (placed c.self.inside.script c.next_data-data.result) w refl c.self.invariant.sending
 
 pub issue-requires-clause-room : goal.issue-requires-clause-room
 issue-requires-clause-room c = λ some.
@@ -64,7 +88,7 @@ issue-requires-2-clause-room c = λ some.
     subst (λ (entries : List Entry). length entries < 16) (sym (ap (λ direction. direction.entries) c.take_data-got.ensures.reads)) (room-left c.self.inside.reads.entries _ (c.next-read.ensures.fit some))
 
 -- the state after the round is the table's
-state-after : (c : goal.After-issue-2) → ◌≡◌ {A = ManagerState} (record { script = c.self.inside.script; lower = c.self.inside.lower; bus = c.self.inside.bus; issued_writes = c.issue.new.direction.issued; issued_reads = c.issue-2.new.direction.issued; sent_writes = c.self.inside.sent + c.from-3.result; write_entries = c.issue.new.direction.entries; read_entries = c.issue-2.new.direction.entries; answered = c.self.inside.answered + (c.from.result + c.from-2.result); answers = c.issue-2.new.answers }) (manager_next c.args.round c.args.links.now (manager_state c.self.inside))
+state-after : (c : goal.After-issue-2) → ◌≡◌ {A = ManagerState} (record { script = c.self.inside.script; lower = c.self.inside.lower; bus = c.self.inside.bus; issued_writes = c.issue.new.direction.issued; issued_reads = c.issue-2.new.direction.issued; sent_writes = c.step.new.self.writes; sent_beats = c.step.new.self.beats; write_entries = c.issue.new.direction.entries; read_entries = c.issue-2.new.direction.entries; answered = c.self.inside.answered + (c.from.result + c.from-2.result); answers = c.issue-2.new.answers }) (manager_next c.args.round c.args.links.now (manager_state c.self.inside))
 state-after c =
     let links : List LinkView = c.args.links.now
     in let s : ManagerState = manager_state c.self.inside
@@ -75,23 +99,25 @@ state-after c =
     in let b = b-is links s link (option_copied c.head_b.result) c.link_at-link.ensures c.head_b.ensures
     in let r = r-is links s link (option_copied c.head_r.result) c.link_at-link.ensures c.head_r.ensures
     in let wrote : c.from.result ≡ more (is_some (manager_b links s)) = c.from.ensures ∙ byte-more _ ∙ ap more (c.take_response-written.ensures.taken ∙ ap is_some b)
-    in let got : c.from-2.result ≡ more (is_some (manager_r links s)) = c.from-2.ensures ∙ byte-more _ ∙ ap more (c.take_data-got.ensures.taken ∙ ap is_some r)
-    in let data_within = subst (λ (o : Option ℕ). IfSome o (λ place. place < length s.script)) (sym c.next_data-data.ensures)
-    (passing-within (λ place. place < length s.script) _ c.self.inside.writes.places.items c.self.inside.sent (places-within true s.script c.self.inside.writes.places.items c.self.invariant.write_places))
-    in let sent : c.from-3.result ≡ more (is_some (manager_w links s)) = c.from-3.ensures ∙ byte-more _ ∙ ap more (c.is_some.ensures ∙ sym (placed-some s.script c.next_data-data.result data_within) ∙ ap is_some w)
-    in state-same s.script s.lower s.bus _ _ _ _ _ _ _ _ _ _ _ _ _ _
+    in let noted : c.take_response-written.new.answers ≡ note_write c.args.round (manager_b links s) s.answers = c.take_response-written.ensures.answers ∙ ap (λ answer. note_write c.args.round answer s.answers) b
+    in let ends : ending c.take_response-written.new.answers (answering (λ beat. beat.id) s.read_entries (option_copied c.head_r.result)) ≡ manager_r_last links s = last-is links s c.args.round c.self.invariant.state c.take_response-written.new.answers _ noted r
+    in let got : c.from-2.result ≡ more (is_some (manager_r_last links s)) =
+    c.from-2.ensures ∙ byte-more _ ∙ got-last links s c.args.round c.self.invariant.state c.take_response-written.new.answers _ c.take_data-got.result c.unwrap_or.result noted r c.take_data-got.ensures.taken c.unwrap_or.ensures
+    in let sent : c.step.new.self ≡ sent_after (manager_w links s) c.self.inside.sending = c.step.ensures ∙ ap (λ next. sent_after next c.self.inside.sending) w
+    in state-same s.script s.lower s.bus _ _ _ _ _ _ _ _ _ _ _ _ _ _ _ _
     (ap (λ direction. direction.issued) c.issue.ensures.direction ∙ ap (λ direction. direction.issued + more (is_some (placed s.script c.next-write.result))) c.take_response-written.ensures.writes ∙ ap (λ next. s.issued_writes + more (is_some next)) aw)
     (ap (λ direction. direction.issued) c.issue-2.ensures.direction ∙ ap (λ direction. direction.issued + more (is_some (placed s.script c.next-read.result))) c.take_data-got.ensures.reads ∙ ap (λ next. s.issued_reads + more (is_some next)) ar)
-    (ap (λ more_sent. s.sent_writes + more_sent) sent)
+    (ap (λ (sending : Sending). sending.writes) sent ∙ sent-writes c.self.inside.sending (manager_w links s))
+    (ap (λ (sending : Sending). sending.beats) sent ∙ sent-beats c.self.inside.sending (manager_w links s))
     (ap (λ direction. direction.entries) c.issue.ensures.direction ∙ ap (λ direction. with_issued (placed s.script c.next-write.result) direction.entries) c.take_response-written.ensures.writes ∙ ap (λ next. with_issued next (left_waiting (answering (λ beat. beat.id) s.write_entries (option_copied c.head_b.result)) s.write_entries)) aw ∙ ap (λ answer. with_issued (manager_aw links s) (left_waiting answer s.write_entries)) b)
-    (ap (λ direction. direction.entries) c.issue-2.ensures.direction ∙ ap (λ direction. with_issued (placed s.script c.next-read.result) direction.entries) c.take_data-got.ensures.reads ∙ ap (λ next. with_issued next (left_waiting (answering (λ beat. beat.id) s.read_entries (option_copied c.head_r.result)) s.read_entries)) ar ∙ ap (λ answer. with_issued (manager_ar links s) (left_waiting answer s.read_entries)) r)
+    (ap (λ direction. direction.entries) c.issue-2.ensures.direction ∙ ap (λ direction. with_issued (placed s.script c.next-read.result) direction.entries) c.take_data-got.ensures.reads ∙ ap (λ next. with_issued next (left_waiting (ending c.take_response-written.new.answers (answering (λ beat. beat.id) s.read_entries (option_copied c.head_r.result))) s.read_entries)) ar ∙ ap (λ answer. with_issued (manager_ar links s) (left_waiting answer s.read_entries)) ends)
     (sum-same s.answered _ _ _ _ wrote got)
     (c.issue-2.ensures.answers
-    ∙ ap (note_issue c.args.round (placed s.script c.next-read.result)) (c.issue.ensures.answers ∙ ap (note_issue c.args.round (placed s.script c.next-write.result)) (c.take_data-got.ensures.answers ∙ ap (note_read c.args.round s.bus (answering (λ beat. beat.id) s.read_entries (option_copied c.head_r.result))) c.take_response-written.ensures.answers))
-    ∙ ap (λ next. note_issue c.args.round next (note_issue c.args.round (placed s.script c.next-write.result) (note_read c.args.round s.bus (answering (λ beat. beat.id) s.read_entries (option_copied c.head_r.result)) (note_write c.args.round (answering (λ beat. beat.id) s.write_entries (option_copied c.head_b.result)) s.answers)))) ar
-    ∙ ap (λ next. note_issue c.args.round (manager_ar links s) (note_issue c.args.round next (note_read c.args.round s.bus (answering (λ beat. beat.id) s.read_entries (option_copied c.head_r.result)) (note_write c.args.round (answering (λ beat. beat.id) s.write_entries (option_copied c.head_b.result)) s.answers)))) aw
-    ∙ ap (λ answer. note_issue c.args.round (manager_ar links s) (note_issue c.args.round (manager_aw links s) (note_read c.args.round s.bus answer (note_write c.args.round (answering (λ beat. beat.id) s.write_entries (option_copied c.head_b.result)) s.answers)))) r
-    ∙ ap (λ answer. note_issue c.args.round (manager_ar links s) (note_issue c.args.round (manager_aw links s) (note_read c.args.round s.bus (manager_r links s) (note_write c.args.round answer s.answers)))) b)
+    ∙ ap (note_issue c.args.round (placed s.script c.next-read.result)) (c.issue.ensures.answers ∙ ap (note_issue c.args.round (placed s.script c.next-write.result)) (c.take_data-got.ensures.answers ∙ ap (note_read c.args.round s.bus s.script (answering (λ beat. beat.id) s.read_entries (option_copied c.head_r.result))) c.take_response-written.ensures.answers))
+    ∙ ap (λ next. note_issue c.args.round next (note_issue c.args.round (placed s.script c.next-write.result) (note_read c.args.round s.bus s.script (answering (λ beat. beat.id) s.read_entries (option_copied c.head_r.result)) (note_write c.args.round (answering (λ beat. beat.id) s.write_entries (option_copied c.head_b.result)) s.answers)))) ar
+    ∙ ap (λ next. note_issue c.args.round (manager_ar links s) (note_issue c.args.round next (note_read c.args.round s.bus s.script (answering (λ beat. beat.id) s.read_entries (option_copied c.head_r.result)) (note_write c.args.round (answering (λ beat. beat.id) s.write_entries (option_copied c.head_b.result)) s.answers)))) aw
+    ∙ ap (λ answer. note_issue c.args.round (manager_ar links s) (note_issue c.args.round (manager_aw links s) (note_read c.args.round s.bus s.script answer (note_write c.args.round (answering (λ beat. beat.id) s.write_entries (option_copied c.head_b.result)) s.answers)))) r
+    ∙ ap (λ answer. note_issue c.args.round (manager_ar links s) (note_issue c.args.round (manager_aw links s) (note_read c.args.round s.bus s.script (manager_r links s) (note_write c.args.round answer s.answers)))) b)
 
 -- the moves of the round are the table's
 out-after : (c : goal.After-issue-2) → ◌≡◌ {A = Out} (record { aw_take = c.self.inside.out.aw_take; aw_put = c.put_request.new.put; w_take = c.self.inside.out.w_take; w_put = c.put_data.new.put; b_take = c.set_take.new.take; b_put = c.self.inside.out.b_put; ar_take = c.self.inside.out.ar_take; ar_put = c.put_request-2.new.put; r_take = c.set_take-2.new.take; r_put = c.self.inside.out.r_put }) (manager_out c.args.links.now (manager_state c.self.inside))
@@ -107,11 +133,11 @@ out-after c =
     in out-same _ _ _ _ _ _ _ _ _ _ _ _ _ _ _ c.self.invariant.above.aw_take
     (c.put_request.ensures ∙ ap (λ (next : Option (ℕ × ScriptItem)). put_of s.lower (option_map (λ (n : ℕ × ScriptItem). request_of n.1) next)) aw)
     c.self.invariant.above.w_take
-    (c.put_data.ensures ∙ ap (λ (next : Option (ℕ × ScriptItem)). put_of s.lower (option_map (λ (n : ℕ × ScriptItem). data_of n.1) next)) w)
+    (c.put_data.ensures ∙ ap (λ (next : Option (ℕ × ScriptItem)). put_of s.lower (option_map (λ (n : ℕ × ScriptItem). data_beat n.1 s.bus s.sent_beats) next)) w)
     (c.set_take.ensures ∙ ap (take_of s.lower) (c.take_response-written.ensures.taken ∙ ap is_some b))
     c.self.invariant.above.b_put c.self.invariant.above.ar_take
     (c.put_request-2.ensures ∙ ap (λ (next : Option (ℕ × ScriptItem)). put_of s.lower (option_map (λ (n : ℕ × ScriptItem). request_of n.1) next)) ar)
-    (c.set_take-2.ensures ∙ ap (take_of s.lower) (c.take_data-got.ensures.taken ∙ ap is_some r))
+    (c.set_take-2.ensures ∙ ap (take_of s.lower) (c.is_some.ensures ∙ got-some _ _ c.take_data-got.result c.take_data-got.ensures.taken ∙ ap is_some r))
     c.self.invariant.above.r_put
 
 pub invariant_of-self : goal.invariant_of-self
@@ -119,6 +145,9 @@ invariant_of-self c = record {
   state = subst IsManager (sym (state-after c)) (manager-stays c.args.links.now (manager_state c.self.inside) c.args.round c.requires.counted c.self.invariant.state);
   write_places = ap (λ direction. direction.places.items) c.issue.ensures.direction ∙ ap (λ direction. direction.places.items) c.take_response-written.ensures.writes ∙ c.self.invariant.write_places;
   read_places = ap (λ direction. direction.places.items) c.issue-2.ensures.direction ∙ ap (λ direction. direction.places.items) c.take_data-got.ensures.reads ∙ c.self.invariant.read_places;
+  sending =
+      let w = w-is c.args.links.now (manager_state c.self.inside) c.link_at-link.result.now c.self.inside.writes.places.items c.room_w.result c.next_data-data.result c.self.invariant.write_places c.link_at-link.ensures c.room_w.ensures c.next_data-data.ensures
+      in subst (λ (sending : Sending). IfSome (slice_get (writes_of c.self.inside.script) sending.writes) (λ (next : ℕ × ScriptItem). IsWithin sending next.1)) (sym (c.step.ensures ∙ ap (λ next. sent_after next c.self.inside.sending) w)) (sending-next c.self.inside.script c.self.inside.sending (manager_w c.args.links.now (manager_state c.self.inside)) (w-next c.args.links.now (manager_state c.self.inside)) c.self.invariant.sending);
   above = record { aw_take = c.self.invariant.above.aw_take; w_take = c.self.invariant.above.w_take; b_put = c.self.invariant.above.b_put; ar_take = c.self.invariant.above.ar_take; r_put = c.self.invariant.above.r_put };
 }
 
