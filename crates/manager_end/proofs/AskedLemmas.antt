@@ -1,27 +1,21 @@
 -- What a manager's requests keep.
-use Rattle.std.proofs.Common.{◌≡◌, ◌≢◌, ◌⊎◌, ℕ, ◌<◌, ◌≤◌, ◌==◌, ◌^◌, suc, Bool, true, false, List, [], ◌∷◌, ◌++◌, Some, All, length, map, take, refl, sym, ◌∙◌, ap, subst, inl, inr, arith, append_assoc, append-nil}
-use Rattle.std.specs.Prelude.{IsTrue, flat_map, slice_get}
+use Rattle.std.proofs.Common.{◌≡◌, ◌≢◌, ◌⊎◌, ℕ, ◌<◌, ◌==◌, ◌^◌, suc, Bool, List, [], ◌∷◌, ◌++◌, Some, All, length, map, take, refl, sym, ◌∙◌, ap, subst, inl, inr, arith, append_assoc}
+use Rattle.std.specs.Prelude.{slice_get}
 use Rattle.std.proofs.lemmas.Bool.{cases_eq, eq-eqb}
 use Rattle.std.proofs.lemmas.List.{length-map, take_at, take-map}
-use Rattle.std.proofs.lemmas.List.Elements.{All-head, All-tail}
 use Rattle.std.proofs.lemmas.Option.{same_Some}
-use Rattle.std.proofs.lemmas.Simd.{map-map}
 use Rattle.axi_beats.specs.declared.beat.Addr.{Addr}
-use Rattle.axi_beats.specs.declared.beat.WBeat.{WBeat}
 use Rattle.flight.specs.Entries.{of_key}
 use Rattle.axi_trail.proofs.FilterFacts.{of_key-cons, of_key-map, of_key-skip}
-use Rattle.axi_trail.proofs.MarkFacts.{prefix_agree}
-use Rattle.axi_trail.proofs.PrefixFacts.{prefix_map, prefix_same, prefix_of_same, prefix_take}
+use Rattle.axi_trail.proofs.PrefixFacts.{prefix_same, prefix_of_same}
 use Rattle.axi_trail.proofs.StreamFacts.{prefix_itself, prefix_nil}
-use Rattle.axi_trail.specs.LinkContracts.{OneIdAtATime, Requests, WholeBeforeTheNext, without_id}
-use Rattle.axi_trail.specs.Schedule.{Progress, SameChain, Schedule}
-use Rattle.axi_trail.specs.Streams.{Agree, IsPrefix}
-use Rattle.axi_trail.specs.Trail.{Beats}
-use Rattle.axi_trail.specs.Words.{Asked, Mark, Reply, announced_marks, burst_asked, burst_marks, data_marks, mark_of_data, marks, number_of_address, number_of_asked, number_of_data, read_replies, write_replies}
-use Rattle.manager_end.specs.Beats.{data_of, request_of as request_of_item}
-use Rattle.manager_end.specs.ManagerOrder.{IsAt, note_at}
-use Rattle.manager_end.specs.ManagerState.{ManagerState, issued_of, of_direction, writes_of}
-use Rattle.manager_end.specs.ManagerTrail.{HasItem, IsItsOwn, IsPlanOf, ManagerAsks, ManagerKeeps, shares_of}
+use Rattle.axi_trail.specs.LinkContracts.{OneIdAtATime, WholeBeforeTheNext, without_id}
+use Rattle.axi_trail.specs.Schedule.{SameChain, Schedule}
+use Rattle.axi_trail.specs.Streams.{IsPrefix}
+use Rattle.axi_trail.specs.Words.{Asked, Reply, number_of_address, number_of_asked}
+use Rattle.manager_end.specs.Beats.{request_of as request_of_item}
+use Rattle.manager_end.specs.ManagerState.{of_direction}
+use Rattle.manager_end.specs.ManagerTrail.{HasItem, IsItsOwn, IsPlanOf, shares_of}
 use Rattle.manager_end.specs.Script.{ScriptItem}
 use Rattle.manager_end.proofs.HeldLemmas.{asked_by}
 use Rattle.manager_end.proofs.ListLemmas.{map-from, take-from, take-has}

@@ -1,5 +1,5 @@
 -- Transactions of which answers are due.
-use Rattle.std.proofs.Common.{◌≡◌, ◌≢◌, ℕ, ◌+◌, ◌-◌, ◌<◌, ◌≤◌, ◌==◌, suc, Bool, true, false, cond, List, [], ◌∷◌, ◌++◌, Option, Some, None, length, refl, sym, ◌∙◌, ap, subst, inl, inr, arith, eq-eqb, length-append, length-take, take}
+use Rattle.std.proofs.Common.{◌≡◌, ◌≢◌, ℕ, ◌+◌, ◌-◌, ◌<◌, ◌≤◌, suc, Bool, true, false, cond, List, [], ◌∷◌, ◌++◌, Option, Some, length, sym, ◌∙◌, ap, subst, inl, inr, arith, eq-eqb, length-append, length-take}
 use Rattle.std.specs.Prelude.{All, drop, nat_lt, slice_get}
 use Rattle.std.proofs.lemmas.Bool.{cases_order, eqb-false, lt-ltb}
 use Rattle.std.proofs.lemmas.Option.{same_Some}
@@ -10,7 +10,7 @@ use Rattle.burst_address.specs.Bytes.{bytes_before}
 use Rattle.burst_address.specs.Legal.{IsLegal}
 use Rattle.manager_end.specs.Answer.{AnswerView, answered_in, is_last}
 use Rattle.manager_end.specs.Beats.{high_lane, low_lane, valid_lanes}
-use Rattle.manager_end.specs.ManagerState.{IsDue, bytes_by, due_resps, is_answered}
+use Rattle.manager_end.specs.ManagerState.{IsDue, bytes_by, is_answered}
 use Rattle.manager_end.specs.ManagerTable.{read_in}
 use Rattle.manager_end.specs.Script.{ScriptItem}
 use Rattle.manager_end.proofs.BurstLemmas.{bytes-next, lane-count, lane-order}

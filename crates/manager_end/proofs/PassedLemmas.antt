@@ -1,5 +1,5 @@
 -- What a round adds to a manager's trail, and what waits after it.
-use Rattle.std.proofs.Common.{◌≡◌, ℕ, ◌+◌, ◌≤◌, ◌==◌, Bool, true, false, cond, List, [], ◌∷◌, ◌++◌, Option, Some, None, All, map, take, refl, sym, ◌∙◌, ap, subst, add-zero, add-one, append-nil, eq-eqb}
+use Rattle.std.proofs.Common.{◌≡◌, ℕ, ◌+◌, ◌≤◌, ◌==◌, Bool, true, false, cond, List, [], ◌∷◌, ◌++◌, Option, Some, None, map, take, refl, sym, ◌∙◌, ap, subst, add-zero, add-one, append-nil, eq-eqb}
 use Rattle.std.specs.Option.{option_map, option_to_list}
 use Rattle.std.specs.Prelude.{find, is_some, slice_get}
 use Rattle.std.proofs.lemmas.List.{map-append}

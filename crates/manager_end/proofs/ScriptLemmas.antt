@@ -1,8 +1,7 @@
 -- Facts on scripts as lists.
-use Rattle.std.proofs.Common.{◌≡◌, ℕ, ◌-◌, ◌^◌, ◌<◌, ◌≤◌, zero, suc, List, [], ◌∷◌, ◌++◌, Option, Some, length, take, refl, sym, subst, arith, length-take, get_or, ap, ◌∙◌, Bool, true, false, cond, map}
+use Rattle.std.proofs.Common.{◌≡◌, ℕ, ◌-◌, ◌^◌, ◌<◌, zero, suc, List, [], ◌∷◌, ◌++◌, Option, Some, length, take, refl, sym, subst, arith, length-take, get_or, ap, ◌∙◌, Bool, true, false, cond, map}
 use Rattle.std.specs.Option.{option_map}
 use Rattle.std.specs.Prelude.{IfSome, slice_get}
-use Rattle.manager_end.specs.declared.script.Txn.{Txn}
 use Rattle.manager_end.specs.declared.script.WriteByte.{WriteByte}
 use Rattle.manager_end.specs.Script.{ScriptItem, CanPush, IsScript, sent_bytes}
 use Rattle.manager_end.specs.declared.script.Item.{Item}

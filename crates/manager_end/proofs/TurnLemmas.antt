@@ -1,7 +1,6 @@
 -- What a round does to the rounds that are noted of each transaction, and which entries leave.
-use Rattle.std.proofs.Common.{◌≡◌, ℕ, ◌<◌, Bool, true, false, List, [], Option, Some, None, refl, sym, ◌∙◌, ap, subst}
+use Rattle.std.proofs.Common.{◌≡◌, ℕ, Bool, true, false, List, [], Option, Some, None, refl, sym, ◌∙◌, ap, subst}
 use Rattle.std.specs.Option.{option_map}
-use Rattle.axi_beats.specs.declared.beat.BBeat.{BBeat}
 use Rattle.axi_beats.specs.declared.beat.RBeat.{RBeat}
 use Rattle.axi_link.specs.LinkView.{LinkView}
 use Rattle.axi_link.specs.Table.{passing}
@@ -12,7 +11,7 @@ use Rattle.manager_end.specs.ManagerTable.{ending, manager_b, manager_r, manager
 use Rattle.manager_end.specs.Script.{ScriptItem}
 use Rattle.manager_end.specs.declared.entry.Entry.{Entry}
 use Rattle.manager_end.proofs.DueLemmas.{last-answers, more-answers, write-last}
-use Rattle.manager_end.proofs.NoteLemmas.{Kept, Wrote, Read, Issued, change-of, b-taken, r-taken, mapped, next_of, taken_of, taken-waits}
+use Rattle.manager_end.proofs.NoteLemmas.{Kept, Wrote, Read, Issued, change-of, b-taken, mapped, next_of, taken_of, taken-waits}
 use Rattle.manager_end.proofs.RowLemmas.{passing-some}
 
 module _ (links : List LinkView) (s : ManagerState) where

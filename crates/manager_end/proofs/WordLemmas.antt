@@ -1,5 +1,5 @@
 -- Requests for one whole word of the bus.
-use Rattle.std.proofs.Common.{◌≡◌, ℕ, ◌+◌, ◌-◌, ◌*◌, ◌/◌, ◌%◌, ◌^◌, ◌<◌, ◌≤◌, ◌==◌, ◌||◌, not, Bool, true, false, cond, List, [], ◌∷◌, ◌++◌, Option, Some, None, length, map, take, take_all, refl, sym, ◌∙◌, ap, subst, inl, inr, arith, eq-eqb}
+use Rattle.std.proofs.Common.{◌≡◌, ℕ, ◌+◌, ◌-◌, ◌*◌, ◌/◌, ◌%◌, ◌^◌, ◌<◌, ◌≤◌, ◌==◌, ◌||◌, not, Bool, true, false, cond, List, [], ◌∷◌, Some, None, length, map, take, take_all, sym, ◌∙◌, ap, subst, inl, inr, arith, eq-eqb}
 use Rattle.std.specs.List.{range_with_len}
 use Rattle.std.specs.Prelude.{All, nat_lt, slice_range}
 use Rattle.std.proofs.lemmas.Bool.{eqb-true, le-ltb, or_cases}
@@ -11,11 +11,9 @@ use Rattle.axi_beats.specs.declared.beat.Addr.{Addr}
 use Rattle.axi_beats.specs.declared.beat.Burst.{Burst}
 use Rattle.axi_beats.specs.declared.beat.Burst.TheVariants.{Incr}
 use Rattle.axi_beats.specs.declared.beat.WBeat.{WBeat}
-use Rattle.axi_trail.specs.Schedule.{Span}
 use Rattle.burst_address.specs.Bytes.{beat_bytes, burst_bytes, bytes_before, valid_bytes}
 use Rattle.burst_address.specs.Formulas.{address_of, aligned, beat_at, beats_of, size_of}
 use Rattle.burst_address.specs.Legal.{IsLegal, is_in_page, is_length_of, is_start_of}
-use Rattle.burst_address.specs.declared.rule.BurstRule.{BurstRule}
 use Rattle.burst_address.specs.declared.rule.BurstRule.TheVariants.{Size, Length, WrapAlign, Page}
 use Rattle.manager_end.specs.Beats.{data_beat, data_beats, data_of, high_lane, lanes_from, lanes_of, low_lane, strobe_of, tag_of, valid_lanes}
 use Rattle.manager_end.specs.ManagerTrail.{spans_of}

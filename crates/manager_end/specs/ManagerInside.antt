@@ -1,5 +1,5 @@
 -- How a manager is kept.
-use Rattle.std.specs.Prelude.{◌≡◌, ◌≤◌, ◌+◌, ◌==◌, ℕ, Bool, true, Option, Some, None, IfSome, length, map, slice_get, if◌then◌else◌}
+use Rattle.std.specs.Prelude.{◌≡◌, ◌≤◌, ◌+◌, ◌==◌, ℕ, true, Option, Some, None, IfSome, length, map, slice_get, if◌then◌else◌}
 use Rattle.axi_link.specs.Acted.{Acted}
 use Rattle.axi_link.specs.declared.out.Out.{Out}
 use Rattle.burst_address.specs.Bytes.{beat_bytes, bytes_before}

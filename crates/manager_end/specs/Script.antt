@@ -1,5 +1,5 @@
 -- What a manager is to do: its transactions in their order, each with the bytes that a write sends.
-use Rattle.std.specs.Prelude.{◌≡◌, ◌==◌, ◌<◌, ◌≤◌, ◌-◌, ◌^◌, ◌||◌, ℕ, List, Option, Some, None, IsTrue, IfSome, length, take, slice_get, if◌then◌else◌}
+use Rattle.std.specs.Prelude.{◌≡◌, ◌==◌, ◌<◌, ◌-◌, ◌^◌, ◌||◌, ℕ, List, Option, Some, None, IsTrue, IfSome, length, take, slice_get, if◌then◌else◌}
 use Rattle.burst_address.specs.Bytes.{burst_bytes}
 use Rattle.burst_address.specs.Legal.{IsLegal}
 use Rattle.manager_end.specs.declared.script.Txn.{Txn}

@@ -1,15 +1,15 @@
-use Rattle.std.proofs.Common.{◌≡◌, ◌<◌, ◌≤◌, ◌+◌, ◌-◌, ◌*◌, ◌^◌, ◌==◌, ℕ, List, Some, arith, length, ap, sym, ◌∙◌, subst, take}
+use Rattle.std.proofs.Common.{◌≡◌, ◌+◌, ◌-◌, ◌==◌, ℕ, List, Some, arith, length, ap, ◌∙◌, subst}
 use Rattle.std.specs.Option.{option_map}
-use Rattle.std.specs.Prelude.{All, IfSome, drop, slice_get}
+use Rattle.std.specs.Prelude.{All}
 use Rattle.axi_beats.specs.declared.beat.Addr.{Addr}
 use Rattle.axi_beats.specs.declared.beat.WBeat.{WBeat}
-use Rattle.burst_address.specs.Bytes.{beat_bytes, bytes_before}
+use Rattle.burst_address.specs.Bytes.{beat_bytes}
 use Rattle.burst_address.specs.Legal.{IsLegal}
-use Rattle.manager_end.specs.Beats.{data_beat, high_lane, lanes_from, low_lane, strobe_of}
+use Rattle.manager_end.specs.Beats.{data_beat}
 use Rattle.manager_end.specs.Script.{ScriptItem}
 use Rattle.manager_end.specs.declared.script.WriteByte.{WriteByte}
 use Rattle.manager_end.specs.declared.sending.Sending.{Sending}
-use Rattle.manager_end.proofs.BurstLemmas.{beat-within, bytes-most, lane-count, lane-most, lane-order}
+use Rattle.manager_end.proofs.BurstLemmas.{beat-within, bytes-most, lane-count, lane-order}
 use Rattle.manager_end.proofs.NumberLemmas.{at-all}
 use Rattle.manager_end.proofs.SendingLemmas.{NextData, beat-is, next-data, txn-is}
 use Rattle.manager_end.proofs.beats.next_beat.Goals as goal

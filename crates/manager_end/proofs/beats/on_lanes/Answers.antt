@@ -1,6 +1,6 @@
-use Rattle.std.proofs.Common.{◌≤◌, ◌+◌, ◌*◌, ◌%◌, ◌^◌, arith, ap, ◌∙◌, refl, set, sym, take, take_all}
+use Rattle.std.proofs.Common.{◌+◌, ◌*◌, ◌%◌, ◌^◌, arith, ap, ◌∙◌, refl, set, take_all}
 use Rattle.std.specs.Prelude.{bit_or}
-use Rattle.manager_end.specs.Beats.{lanes_from, strobe_of}
+use Rattle.manager_end.specs.Beats.{strobe_of}
 use Rattle.manager_end.proofs.BeatLemmas.{lanes-first, lanes-step, strobe-shifted, strobe-step}
 use Rattle.manager_end.proofs.beats.on_lanes.Goals as goal
 

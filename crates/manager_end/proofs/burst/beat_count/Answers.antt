@@ -1,4 +1,4 @@
-use Rattle.std.proofs.Common.{◌≡◌, ◌+◌, ◌-◌, arith, refl, sym, ◌∙◌, ap}
+use Rattle.std.proofs.Common.{arith, refl}
 use Rattle.manager_end.proofs.BurstLemmas.{lane-count, lane-order}
 use Rattle.manager_end.proofs.burst.beat_count.Goals as goal
 

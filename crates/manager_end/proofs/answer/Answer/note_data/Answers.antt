@@ -1,7 +1,7 @@
-use Rattle.std.proofs.Common.{◌≡◌, ◌≤◌, ◌+◌, ◌-◌, ◌<◌, ◌++◌, [], ℕ, List, arith, length, take, refl, sym, ◌∙◌, ap, subst}
+use Rattle.std.proofs.Common.{◌≡◌, ◌≤◌, ◌+◌, ◌-◌, ◌++◌, [], ℕ, List, arith, length, take, refl, sym, ◌∙◌, ap, subst}
 use Rattle.std.specs.Prelude.{drop}
 use Rattle.std.proofs.lemmas.List.{take_at}
-use Rattle.manager_end.specs.Answer.{AnswerView, answered_in}
+use Rattle.manager_end.specs.Answer.{answered_in}
 use Rattle.manager_end.specs.Beats.{high_lane, low_lane, valid_lanes}
 use Rattle.manager_end.proofs.AnswerLemmas.{beat-fits, came-is, noted-after}
 use Rattle.manager_end.proofs.BurstLemmas.{lane-order}

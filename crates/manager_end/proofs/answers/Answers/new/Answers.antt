@@ -1,4 +1,4 @@
-use Rattle.std.proofs.Common.{◌≡◌, ℕ, Bool, cond, length, rules, true, is_ok, ap, sym, ◌∙◌, Some}
+use Rattle.std.proofs.Common.{◌≡◌, cond, length, rules, true, is_ok, ap, sym, ◌∙◌, Some}
 use Rattle.std.specs.Prelude.{slice_get}
 use Rattle.std.specs.Option.{option_map}
 use Rattle.axi_beats.specs.declared.beat.Addr.{Addr}

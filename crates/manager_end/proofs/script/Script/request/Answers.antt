@@ -1,4 +1,4 @@
-use Rattle.std.proofs.Common.{◌<◌, ap, arith, length, subst, sym}
+use Rattle.std.proofs.Common.{◌<◌, arith, length}
 use Rattle.std.proofs.lemmas.List.{length-map}
 use Rattle.manager_end.specs.ScriptInside.{item_view}
 use Rattle.manager_end.proofs.ScriptLemmas.{item-can}

@@ -1,4 +1,4 @@
-use Rattle.std.proofs.Common.{◌≡◌, ◌<◌, ◌≤◌, ◌+◌, ◌^◌, arith, ap, sym}
+use Rattle.std.proofs.Common.{arith}
 use Rattle.manager_end.proofs.BurstLemmas.{bytes-most}
 use Rattle.manager_end.proofs.SendingLemmas.{placed-within}
 use Rattle.manager_end.proofs.sending.Sending.step.Goals as goal
