@@ -35,8 +35,8 @@ both : (P : ScriptItem → Type 0) → P known_write → P known_read → All P 
 both P first second = All-cons P known_write (known_read ∷ []) first (All-cons P known_read [] second (All-nil P))
 
 is-script : IsScript known_script
-is-script zero = record { word = write-word; size = omega arith; bytes_sent = refl; after = refl; short = lit< tt }
-is-script (suc zero) = record { word = read-word; size = omega arith; bytes_sent = refl; after = refl; short = lit< tt }
+is-script zero = record { start = write-word.small; legal = refl; bytes_sent = refl; after = refl; short = lit< tt }
+is-script (suc zero) = record { start = read-word.small; legal = refl; bytes_sent = refl; after = refl; short = lit< tt }
 is-script (suc (suc n)) = tt
 
 numbered : AllPairs (λ (a b : ScriptItem). a.txn.number < b.txn.number) known_script

@@ -81,7 +81,23 @@ reads-words s words =
     (All-enumerated (λ (item : ScriptItem). IsWholeWord s.bus item.txn.request) 0 s.script words)
 
 -- what the manager puts has what its script has
-a-- a write of a whole word has one data beat
+aw-puts :
+    (P : Addr → Type 0) (links : List LinkView) (s : ManagerState) → All (λ (p : ℕ × ScriptItem). P (request_of p.1)) (writes_of s.script) →
+    IfSome (manager_out links s).aw_put (λ (p : ℕ × Addr). P p.1)
+aw-puts P links s all =
+    let Has : ℕ × ScriptItem → Type 0 = λ p. P (request_of p.1) in
+    put-has P s.lower _ (IfSome-map (λ (next : ℕ × ScriptItem). request_of next.1) P (manager_aw links s)
+    (passing-has Has _ _ (ready-has Has s.answered _ (All-slice_get Has (writes_of s.script) s.issued_writes all))))
+
+ar-puts :
+    (P : Addr → Type 0) (links : List LinkView) (s : ManagerState) → All (λ (p : ℕ × ScriptItem). P (request_of p.1)) (reads_of s.script) →
+    IfSome (manager_out links s).ar_put (λ (p : ℕ × Addr). P p.1)
+ar-puts P links s all =
+    let Has : ℕ × ScriptItem → Type 0 = λ p. P (request_of p.1) in
+    put-has P s.lower _ (IfSome-map (λ (next : ℕ × ScriptItem). request_of next.1) P (manager_ar links s)
+    (passing-has Has _ _ (ready-has Has s.answered _ (All-slice_get Has (reads_of s.script) s.issued_reads all))))
+
+-- a write of a whole word has one data beat
 record IsOneBeat (bus : ℕ) (item : ScriptItem) : Type 0 where
   first : data_beat item bus 0 ≡ data_of item
   only : item.txn.request.len ≡ 0

@@ -17,6 +17,7 @@ use Rattle.burst_address.specs.Legal.{IsLegal, is_in_page, is_length_of, is_star
 use Rattle.link_ports.proofs.PortFacts.{links_are_legal}
 use Rattle.link_ports.specs.LegalPlan.{IsDataOf, IsLegalPlan}
 use Rattle.link_ports.specs.PortView.{port_history, port_of, port_round}
+use Rattle.manager_end.proofs.WordLemmas.{word-sent}
 use Rattle.manager_end.specs.Beats.{data_of, strobe_of}
 use Rattle.manager_end.specs.Script.{ScriptItem}
 use Rattle.net_rounds.proofs.BuiltInPlan.{links_at, lower_out, no_share, pair_at, plan_of, progress_at, share_at, share_of, upper_out}
@@ -74,7 +75,7 @@ word-data : (item : ScriptItem) → IsTrafficItem item → item.txn.write ≡ tr
 word-data item known writes =
     let word = known.word in
     let lanes = lanes-are (part_of item) word.incrementing word.wide word.aligned in
-    let sent : length item.bytes ≡ 4 = known.sent ∙ ap (λ (b : Bool). cond b (2 ^ item.txn.request.size) 0) writes ∙ word.wide in
+    let sent : length item.bytes ≡ 4 = word-sent item 4 word writes known.sent in
     let small : strobe_of item.bytes < 2 ^ 4 = subst (λ (n : ℕ). strobe_of item.bytes < 2 ^ n) sent (strobe-small item.bytes) in
     let within : strobes_within 0 3 (strobe_of item.bytes) ≡ true = rw (lt-ltb (strobe_of item.bytes) (2 ^ 4) small) (eq-mod (strobe_of item.bytes)) in
     let here : strobes_within (lower_lane 4 (beat_at (part_of item) 0)) (upper_lane (size_of (part_of item)) 4 (beat_at (part_of item) 0)) (strobe_of item.bytes) ≡ true =
