@@ -198,8 +198,7 @@ link-keeps p n holds =
       w = All-moved Strobe 0 takes.w_take puts.w_put p.link.w holds.link.w
           (w-puts Strobe links s holds.manager (λ k d lt.
           let item = (get_or (writes_of s.script) k d).1 in
-          let own = chosen k d lt in
-          (
+          let own = chosen k d lt in (
             record { first = word-first item s.bus own.word (word-sent item s.bus own.word own.direction own.sent); only = own.word.one_beat },
             subst (λ (bus : ℕ). (data_of item).strobe < 2 ^ bus) holds.bus (data-strobe s.bus item s.script own),
           )));
