@@ -3,7 +3,7 @@ use Rattle.std.proofs.Common.{◌≡◌, ◌<◌, ◌≤◌, ◌+◌, ℕ, List,
 use Rattle.std.specs.Prelude.{All, AllPairs, IfSome, slice_get}
 use Rattle.std.proofs.lemmas.Option.{slice_get-get_or}
 use Rattle.manager_end.specs.Script.{IsScript, ScriptItem}
-use Rattle.net_rounds.proofs.NodeLaws.{node-laws}
+use Rattle.net_rounds.proofs.NodeLawsHold.{node-laws}
 use Rattle.net_rounds.proofs.PortsLegal.{ports-are-legal}
 use Rattle.net_rounds.proofs.RunsRight.{runs-are-right}
 use Rattle.net_rounds.specs.BuiltIn.{IsTraffic}

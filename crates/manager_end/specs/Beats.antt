@@ -1,5 +1,5 @@
 -- The beats that a manager puts, and the bytes that it reads (Arm IHI 0022, write strobes and byte lanes).
-use Rattle.std.specs.Prelude.{◌+◌, ◌*◌, ◌-◌, ◌^◌, ◌==◌, ◌++◌, ◌∷◌, [], ℕ, List, true, drop, length, map, replicate, slice_range, take, if◌then◌else◌}
+use Rattle.std.specs.Prelude.{◌+◌, ◌*◌, ◌-◌, ◌^◌, ◌==◌, ◌++◌, ◌∷◌, [], ℕ, List, Option, Some, None, true, drop, length, map, replicate, slice_range, take, if◌then◌else◌}
 use Rattle.std.specs.List.{range_with_len}
 use Rattle.axi_beats.specs.declared.beat.Addr.{Addr}
 use Rattle.axi_beats.specs.declared.beat.Tag.{Tag}
@@ -20,6 +20,10 @@ request_of item = record item.txn.request { tag = tag_of item }
 -- what is on a byte's lane: its value, and 0 for a byte without a strobe
 abbrev pub lane_of : WriteByte → ℕ
 lane_of byte = if byte.strobed then byte.value else 0
+
+-- what a script says of a byte: its value, where its strobe is set
+abbrev pub strobed_value : WriteByte → Option ℕ
+strobed_value byte = if byte.strobed then Some byte.value else None
 
 -- the strobes of bytes from lane 0 upwards: bit n for lane n
 abbrev pub strobe_of : List WriteByte → ℕ

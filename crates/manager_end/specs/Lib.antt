@@ -1,6 +1,7 @@
 pub mod Answer
 pub mod AnswerInside
 pub mod Beats
+pub mod BurstLaws
 pub mod Laws
 pub mod ManagerInside
 pub mod ManagerOrder
@@ -8,5 +9,6 @@ pub mod ManagerState
 pub mod ManagerTable
 pub mod ManagerTrail
 pub mod Placed
+pub mod RowLaws
 pub mod Script
 pub mod ScriptInside

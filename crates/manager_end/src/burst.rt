@@ -8,7 +8,7 @@ use axi_beats::Addr;
 use burst_address::lanes;
 
 /// The number of valid bytes of beat `n` of a burst that is legal on the widest bus.
-pub(crate) fn beat_count(request: &Addr, n: u32) -> usize
+pub fn beat_count(request: &Addr, n: u32) -> usize
     requires beat { n ≤ request.now.len }
     requires start { request.now.addr < 2 ^ 63 }
     requires legal { IsLegal request.now 128 }

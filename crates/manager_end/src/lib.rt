@@ -20,6 +20,7 @@ mod sending;
 mod tests;
 
 pub use answer::Answer;
+pub use burst::beat_count;
 pub use entry::Entry;
 pub use manager::{Manager, crosses_threads};
 pub use manager_laws::{laws, laws_of_rounds, laws_of_trails, laws_of_words};

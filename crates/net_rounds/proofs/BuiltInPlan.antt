@@ -10,7 +10,7 @@ use Rattle.axi_trail.specs.Trail.{Beats, trail_above, trail_below}
 use Rattle.axi_trail.specs.Words.{number_of_data}
 use Rattle.flight.specs.Entries.{of_key}
 use Rattle.manager_end.specs.Answer.{AnswerView}
-use Rattle.manager_end.specs.Beats.{data_of, request_of}
+use Rattle.manager_end.specs.Beats.{data_beats, request_of}
 use Rattle.manager_end.specs.ManagerTable.{manager_out}
 use Rattle.manager_end.specs.Script.{ScriptItem}
 use Rattle.memory_end.specs.Accesses.{BeatOf, accesses_of, allowed_before, beats_of_parts, burst_status, filled_bytes, span_of}
@@ -31,9 +31,9 @@ write_share item =
     let part = without_id (request_of item) in
     record {
       parts = part ∷ [];
-      write_data = (data_of item ∷ []) ∷ [];
+      write_data = data_beats item 4 ∷ [];
       lanes = [];
-      responses = burst_status ram part 0 (data_of item ∷ []) ∷ [];
+      responses = burst_status ram part 0 (data_beats item 4) ∷ [];
       chain = item.txn.request.id ∷ 0 ∷ [];
     }
 

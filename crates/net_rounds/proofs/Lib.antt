@@ -14,6 +14,7 @@ pub mod LaneLemmas
 pub mod NetLemmas
 pub mod NetworkLemmas
 pub mod NodeLaws
+pub mod NodeLawsHold
 pub mod NotedLists
 pub mod NotesLemmas
 pub mod Numbers

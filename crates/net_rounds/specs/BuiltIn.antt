@@ -3,10 +3,11 @@
 -- them. Nothing delays.
 use Rattle.std.specs.Prelude.{◌==◌, ◌<◌, ◌+◌, ◌*◌, ◌/◌, ◌^◌, ◌&&◌, ◌∷◌, [], ℕ, Bool, List, All, Option, Some, None, filter, max, sum_by}
 use Rattle.std.specs.List.{list_any, range_with_len}
-use Rattle.axi_beats.specs.Word.{IsWholeWord}
 use Rattle.axi_beats.specs.declared.beat.Addr.{Addr}
 use Rattle.axi_link.specs.Acted.{opened}
 use Rattle.axi_link.specs.LinkView.{empty_link}
+use Rattle.burst_address.specs.Formulas.{beat_at, beats_of, size_of}
+use Rattle.burst_address.specs.Legal.{IsLegal}
 use Rattle.manager_end.specs.ManagerState.{ManagerState, new_manager}
 use Rattle.manager_end.specs.Script.{IsScript, ScriptItem}
 use Rattle.manager_end.specs.declared.script.Txn.{Txn}
@@ -20,9 +21,9 @@ use Rattle.net_rounds.specs.Network.{Network}
 abbrev pub ram : MemoryConfig
 ram = record { base = 0; size = 8192; bus = 4; fill = 0 }
 
--- a transaction writes on this line of 128 bytes
+-- a transaction writes a beat on this line of 128 bytes: the bytes of a beat lie in one line
 abbrev pub touches_line : ℕ → Txn → Bool
-touches_line line txn = txn.write && (line_of txn.request.addr == line)
+touches_line line txn = txn.write && list_any (λ n. line_of (beat_at txn.request n) == line) (range_with_len 0 (beats_of txn.request))
 
 abbrev pub is_touched_by : ℕ → ScriptItem → Bool
 is_touched_by line item = touches_line line item.txn
@@ -43,15 +44,14 @@ built_in script = record {
   ends = record { upper = 0; lower = 1 } ∷ [];
 }
 
--- what the built-in network runs: a script of words of 4 bytes in the memory
+-- what the built-in network runs: a script of bursts that are legal on its bus
 pub record IsTraffic (script : List ScriptItem) : Type 0 where
   pub is_script : IsScript script
-  pub words : All (λ (item : ScriptItem). IsWholeWord 4 item.txn.request) script
-  pub inside : All (λ (item : ScriptItem). item.txn.request.addr < 8192) script
+  pub legal : All (λ (item : ScriptItem). IsLegal item.txn.request 4) script
 
 -- the effort of a request: its beats, each counted once for every 4 bytes of its width
 abbrev pub effort : Addr → ℕ
-effort request = (request.len + 1) * max 1 (2 ^ request.size / 4)
+effort request = beats_of request * max 1 (size_of request / 4)
 
 -- the rounds in which the built-in network answers everything: 6 for each unit of effort and each
 -- node on the path, of which there are two

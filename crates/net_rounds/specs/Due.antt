@@ -6,15 +6,11 @@ use Rattle.axi_beats.specs.declared.response.Resp.{Resp}
 use Rattle.axi_history.specs.Records.{Byte, Transaction}
 use Rattle.burst_address.specs.Bytes.{beat_bytes, burst_bytes, written}
 use Rattle.burst_address.specs.Formulas.{beats_of}
+use Rattle.manager_end.specs.Beats.{strobed_value}
 use Rattle.manager_end.specs.Script.{ScriptItem}
-use Rattle.manager_end.specs.declared.script.WriteByte.{WriteByte}
 use Rattle.memory_end.specs.Status.{is_okay, read_status, worst_among, write_status}
 use Rattle.memory_end.specs.declared.config.MemoryConfig.{MemoryConfig}
 use Rattle.net_rounds.specs.BuiltIn.{IsTraffic, ram}
-
--- what a script says of a byte: its value, where its strobe is set
-abbrev pub strobed_value : WriteByte → Option ℕ
-strobed_value byte = if byte.strobed then Some byte.value else None
 
 -- the bytes that a write strobes, in burst order, each with its address
 abbrev pub strobed_bytes : ScriptItem → List (ℕ × ℕ)

@@ -5,6 +5,7 @@
 //! state, and says so in its type.
 #![tactic(auto)]
 
+mod bound;
 mod ends;
 mod net;
 mod phase;

@@ -10,6 +10,7 @@ ghost use Rattle.net_rounds.specs.Notes.{AreNotes};
 ghost use Rattle.net_rounds.specs.Ports.{port_at};
 ghost use Rattle.net_rounds.specs.Run.{run_length};
 
+use crate::bound::bound_of;
 use crate::ends::Ends;
 use crate::phase::{commit_each, decide_each};
 use crate::touched::touched_lines;
@@ -67,7 +68,7 @@ impl Net {
         requires { IsTraffic script }
         ensures { IfOk result (λ net. net ≡ record { network = built_in script; rounds = 0; decided = false; most = bound script }) }
     {
-        let most = 12 * u64::from(script.len());
+        let most = bound_of(&script);
         let touched = touched_lines(alloc, &script)?;
         let ram = MemoryConfig {
             base: 0,

@@ -1,8 +1,10 @@
 -- The line of a transaction and its answer (Arm IHI 0022, read and write response structure).
-use Rattle.std.specs.Prelude.{ℕ, ◌^◌, Bool, List, [], ◌∷◌, ◌++◌, take, drop, if◌then◌else◌, codes}
+use Rattle.std.specs.Prelude.{ℕ, suc, Bool, List, [], ◌∷◌, ◌++◌, length, take, drop, if◌then◌else◌, codes}
 use Rattle.std.specs.Fmt.{decimal}
+use Rattle.axi_beats.specs.declared.beat.Addr.{Addr}
 use Rattle.axi_beats.specs.declared.response.Resp.{Resp}
 use Rattle.axi_beats.specs.declared.response.Resp.TheVariants.{Okay, SlvErr, DecErr}
+use Rattle.burst_address.specs.Bytes.{beat_bytes}
 use Rattle.manager_end.specs.Answer.{AnswerView}
 use Rattle.manager_end.specs.declared.script.Txn.{Txn}
 use Rattle.plain_text.specs.Printing.{pairs}
@@ -22,16 +24,17 @@ write_outcome (resp ∷ more) = codes " " ++ response_name resp
 abbrev pub beat_text : Resp → List ℕ → List ℕ
 beat_text resp bytes = codes " " ++ response_name resp ++ codes ":" ++ pairs bytes
 
--- all beats of a read, of which each has so many bytes
-abbrev pub read_outcome : ℕ → List Resp → List ℕ → List ℕ
-read_outcome width [] bytes = []
-read_outcome width (resp ∷ more) bytes = beat_text resp (take width bytes) ++ read_outcome width more (drop width bytes)
+-- the beats of a read, of which the first one is beat n: each has as many bytes as it has valid ones
+abbrev pub read_outcome : Addr → ℕ → List Resp → List ℕ → List ℕ
+read_outcome request n [] bytes = []
+read_outcome request n (resp ∷ more) bytes =
+    beat_text resp (take (length (beat_bytes request n)) bytes) ++ read_outcome request (suc n) more (drop (length (beat_bytes request n)) bytes)
 
 -- what came for a transaction
 abbrev pub outcome : Txn → AnswerView → List ℕ
 outcome txn answer =
     if txn.write then write_outcome answer.resps
-    else read_outcome (2 ^ txn.request.size) answer.resps answer.bytes
+    else read_outcome txn.request 0 answer.resps answer.bytes
 
 -- whether it wrote or read
 abbrev pub direction : Bool → List ℕ

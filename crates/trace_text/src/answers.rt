@@ -2,23 +2,25 @@
 //!
 //! The call replaces the bytes of a line buffer by one line with its line feed, and takes no memory.
 
-ghost use Rattle.std.specs.Prelude.{◌≡◌, ◌≤◌, ◌+◌, ◌*◌, ◌++◌, drop, length, take};
+ghost use Rattle.std.specs.Prelude.{◌≡◌, ◌<◌, ◌≤◌, ◌+◌, ◌*◌, ◌++◌, ◌^◌, drop, length, take};
+ghost use Rattle.burst_address.specs.Legal.{IsLegal};
 ghost use Rattle.trace_text.specs.AnswerLine.{answer_line, beat_text, direction, outcome, read_outcome, response_name, write_outcome};
 
-use axi_beats::Resp;
-use manager_end::{Answer, Txn};
+use axi_beats::{Addr, Resp};
+use manager_end::{Answer, Txn, beat_count};
 use plain_text::line_buffer::LineBuffer;
 
 /// Writes the line of a transaction and its answer: its number, its direction, the name of its manager, which has at most 32
 /// bytes, the rounds of its issue and of its answer, and what came for it.
 ///
-/// The transaction has beats of at most 128 bytes, and its answer at most 256 beats of 4096 bytes in all, as for any
-/// burst.
+/// The transaction is a burst that is legal on the widest bus, and its answer has at most as many beats as that burst, with
+/// at most the 4096 bytes of a page.
 #[tactic(auto, unfolding(crate::specs::AnswerLine::answer_line))]
 pub fn render_answers(line: &mut LineBuffer, manager: &str, txn: &Txn, answer: &Answer)
     requires name { length manager.now ≤ 32 }
-    requires width { txn.now.request.size ≤ 7 }
-    requires beats { length answer.now.resps ≤ 256 }
+    requires start { txn.now.request.addr < 2 ^ 63 }
+    requires legal { IsLegal txn.now.request 128 }
+    requires beats { length answer.now.resps ≤ txn.now.request.len + 1 }
     requires bytes { length answer.now.bytes ≤ 4096 }
     ensures { line.new ≡ answer_line manager.now txn.now answer.now }
 {
@@ -45,8 +47,9 @@ fn direction(write: bool) -> &'static str
 // Writes what came for a transaction.
 fn push_outcome(line: &mut LineBuffer, txn: &Txn, answer: &Answer)
     requires place { length line.old ≤ 200 }
-    requires width { txn.now.request.size ≤ 7 }
-    requires beats { length answer.now.resps ≤ 256 }
+    requires start { txn.now.request.addr < 2 ^ 63 }
+    requires legal { IsLegal txn.now.request 128 }
+    requires beats { length answer.now.resps ≤ txn.now.request.len + 1 }
     requires bytes { length answer.now.bytes ≤ 4096 }
     ensures text { line.new ≡ line.old ++ outcome txn.now answer.now }
     ensures room { length line.new ≤ length line.old + 8 * 256 + 2 * 4096 }
@@ -54,7 +57,7 @@ fn push_outcome(line: &mut LineBuffer, txn: &Txn, answer: &Answer)
     if txn.write {
         push_response(line, answer);
     } else {
-        push_beats(line, 1 << txn.request.size, answer);
+        push_beats(line, &txn.request, answer);
     }
 }
 
@@ -70,17 +73,19 @@ fn push_response(line: &mut LineBuffer, answer: &Answer)
     }
 }
 
-// Writes the beats of a read, each with `width` bytes.
-fn push_beats(line: &mut LineBuffer, width: usize, answer: &Answer)
+// Writes the beats of a read, each with the bytes of its valid lanes.
+fn push_beats(line: &mut LineBuffer, request: &Addr, answer: &Answer)
     requires place { length line.old ≤ 200 }
-    requires beats { length answer.now.resps ≤ 256 }
+    requires start { request.now.addr < 2 ^ 63 }
+    requires legal { IsLegal request.now 128 }
+    requires beats { length answer.now.resps ≤ request.now.len + 1 }
     requires bytes { length answer.now.bytes ≤ 4096 }
-    ensures text { line.new ≡ line.old ++ read_outcome width answer.now.resps answer.now.bytes }
+    ensures text { line.new ≡ line.old ++ read_outcome request.now 0 answer.now.resps answer.now.bytes }
     ensures room { length line.new ≤ length line.old + 8 * 256 + 2 * 4096 }
 {
     let mut bytes = answer.bytes();
     for beat in 0..answer.beats() {
-        let (front, rest) = split_front(bytes, width);
+        let (front, rest) = split_front(bytes, beat_count(request, beat));
         push_beat(line, answer.resp(beat), front);
         bytes = rest;
     }

@@ -1,4 +1,4 @@
-use Rattle.net_rounds.proofs.NodeLaws.{node-laws}
+use Rattle.net_rounds.proofs.NodeLawsHold.{node-laws}
 use Rattle.net_rounds.proofs.PortsLegal.{ports-are-legal}
 use Rattle.net_rounds.proofs.run_laws.ports_are_legal.Goals as goal
 

@@ -1,4 +1,4 @@
-use Rattle.net_rounds.proofs.NodeLaws.{node-laws}
+use Rattle.net_rounds.proofs.NodeLawsHold.{node-laws}
 use Rattle.net_rounds.proofs.RunsRight.{runs-are-right}
 use Rattle.net_rounds.proofs.run_laws.runs_are_right.Goals as goal
 
