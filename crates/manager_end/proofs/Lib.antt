@@ -4,6 +4,7 @@ pub mod AskLaws
 pub mod AskedLemmas
 pub mod BeatLemmas
 pub mod BurstLemmas
+pub mod DataLaws
 pub mod DirectionLemmas
 pub mod DueLemmas
 pub mod EntryLemmas
@@ -21,6 +22,7 @@ pub mod ScriptLemmas
 pub mod SendingLemmas
 pub mod SentLemmas
 pub mod StepLemmas
+pub mod StrobeLemmas
 pub mod TrailLaws
 pub mod TrailLemmas
 pub mod TurnLemmas
