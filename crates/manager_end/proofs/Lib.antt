@@ -17,6 +17,7 @@ pub mod NumberLemmas
 pub mod OrderLaws
 pub mod PassedLemmas
 pub mod PlaceLemmas
+pub mod RowFacts
 pub mod RowLemmas
 pub mod ScriptLemmas
 pub mod SendingLemmas
