@@ -5,6 +5,7 @@ pub mod AnsweredOrder
 pub mod BoundLemmas
 pub mod BuiltInPlan
 pub mod Choosing
+pub mod DataLemmas
 pub mod DeliveredLemmas
 pub mod DueLemmas
 pub mod EventLemmas
