@@ -11,7 +11,6 @@ pub mod DueLemmas
 pub mod EventLemmas
 pub mod ItemEvents
 pub mod KnownFacts
-pub mod LaneLemmas
 pub mod NetLemmas
 pub mod NetworkLemmas
 pub mod NodeLaws
