@@ -26,8 +26,7 @@ pub fn touched_lines(alloc: Global, script: &Script) -> Result<Vec<u64>, AllocEr
 }
 
 /// Which lines the writes of the script touch.
-fn mark_script(script: &Script) -> [bool; LINES]
-{
+fn mark_script(script: &Script) -> [bool; LINES] {
     let mut touched = [false; LINES];
     for place in 0..script.len() {
         let txn = script.txn(place);
@@ -39,8 +38,7 @@ fn mark_script(script: &Script) -> [bool; LINES]
 }
 
 /// Marks the lines on which the beats of a burst lie.
-fn mark_burst(touched: &mut [bool; LINES], request: &Addr)
-{
+fn mark_burst(touched: &mut [bool; LINES], request: &Addr) {
     for beat in 0..u32::from(request.len) + 1 {
         let line = (beat_address(request, beat) / 128) as usize;
         if line < LINES {
