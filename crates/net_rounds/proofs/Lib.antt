@@ -23,6 +23,7 @@ pub mod Pair
 pub mod PairLemmas
 pub mod PlanFacts
 pub mod PortsLegal
+pub mod PushedItems
 pub mod RunAnswered
 pub mod RunFacts
 pub mod RunHistory
