@@ -22,7 +22,7 @@ drop-at resps beat resp is =
 -- the text of the beats that are left begins with that of the first one
 read-first : (request : Addr) (beat : ℕ) (resp : Resp) (more : List Resp) (left : List ℕ)
     → read_outcome request beat (resp ∷ more) left
-      ≡ beat_text resp (take (length (beat_bytes request beat)) left) ++ read_outcome request (beat + 1) more (drop (length (beat_bytes request beat)) left)
+    ≡ beat_text resp (take (length (beat_bytes request beat)) left) ++ read_outcome request (beat + 1) more (drop (length (beat_bytes request beat)) left)
 read-first request beat resp more left =
     let next : suc beat ≡ beat + 1 = omega arith in
     ap (λ (n : ℕ). beat_text resp (take (length (beat_bytes request beat)) left) ++ read_outcome request n more (drop (length (beat_bytes request beat)) left)) next
