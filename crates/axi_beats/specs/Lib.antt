@@ -1,2 +1,2 @@
+pub mod Bus
 pub mod Response
-pub mod Word

@@ -2,7 +2,7 @@
 use Rattle.std.specs.Prelude.{◌≡◌, ℕ, ◌+◌, ◌-◌, ◌^◌, ◌%◌, ◌<◌, ◌==◌, ◌||◌, nat_eq, Bool, true, false, IsTrue, List, [], ◌∷◌, ◌++◌, length, map, fold, take, drop, All, Option, None, Some, IfSome, is_some, slice_get, if◌then◌else◌, codes}
 use Rattle.std.specs.List.{filter_map, starts_with}
 use Rattle.std.specs.Str.{bytes_eq}
-use Rattle.axi_beats.specs.Word.{IsWholeWord}
+use Rattle.axi_beats.specs.Bus.{IsWholeWord}
 use Rattle.axi_beats.specs.declared.beat.Addr.{Addr}
 use Rattle.axi_beats.specs.declared.beat.Burst.TheVariants.{Incr}
 use Rattle.manager_end.specs.Script.{ScriptItem, awaited}

@@ -6,7 +6,7 @@ use Rattle.std.proofs.lemmas.Nat.Bits.{same_from_bits, bit_at-zero}
 use Rattle.std.proofs.lemmas.Bool.{cases_lt, or_cases, eqb-true, le-leb, lt-leb, ne_eqb, eq-eqb}
 use Rattle.std.proofs.Math.Dec.{leb}
 use Rattle.std.specs.Int.{bit_at}
-use Rattle.axi_beats.specs.Word.{IsBusWidth}
+use Rattle.axi_beats.specs.Bus.{IsBusWidth}
 use Rattle.burst_address.specs.Formulas.{aligned}
 
 -- ---- powers of two

@@ -1,6 +1,6 @@
 //! The address of each beat, and its valid lanes.
 ghost use Rattle.std.specs.Prelude.{◌≡◌, ◌+◌, ◌*◌, ◌/◌, ◌%◌, ◌^◌, ◌<◌, ◌≤◌};
-ghost use Rattle.axi_beats.specs.Word.{IsBusWidth};
+ghost use Rattle.axi_beats.specs.Bus.{IsBusWidth};
 ghost use Rattle.burst_address.specs.Formulas.{aligned, incr_address, wrap_address, size_of, beats_of, beat_at, lower_lane, upper_lane};
 ghost use Rattle.burst_address.specs.Legal.{IsLegal};
 

@@ -1,6 +1,6 @@
 //! Bursts whose rules, addresses and lanes are known from the standard's formulas and figures.
 ghost use Rattle.std.specs.Prelude.{◌^◌, ◌<◌, ◌≤◌};
-ghost use Rattle.axi_beats.specs.Word.{IsBusWidth};
+ghost use Rattle.axi_beats.specs.Bus.{IsBusWidth};
 ghost use Rattle.burst_address.specs.Legal.{IsLegal};
 
 use crate::{BurstRule, beat_address, lanes, laws, legal};

@@ -1,7 +1,7 @@
 -- What is noted of a beat of a read.
 use Rattle.std.proofs.Common.{◌≡◌, ℕ, ◌+◌, ◌-◌, ◌≤◌, ◌<◌, List, subst, [], ◌++◌, length, take, sym, ◌∙◌, ap, arith, append-nil, length-take}
 use Rattle.std.specs.Prelude.{drop, slice_range}
-use Rattle.axi_beats.specs.Word.{IsBusWidth}
+use Rattle.axi_beats.specs.Bus.{IsBusWidth}
 use Rattle.axi_beats.specs.declared.beat.Addr.{Addr}
 use Rattle.axi_beats.specs.declared.response.Resp.{Resp}
 use Rattle.burst_address.specs.Bytes.{burst_bytes, bytes_before}

@@ -28,4 +28,3 @@ pub mod TrailLaws
 pub mod TrailLemmas
 pub mod TurnLemmas
 pub mod WaitingLemmas
-pub mod WordLemmas

@@ -6,7 +6,7 @@ use Rattle.std.proofs.lemmas.Bool.{ltb-true, leb-true, and_parts}
 use Rattle.std.proofs.lemmas.List.Elements.{All-head, All-tail}
 use Rattle.axi_beats.specs.declared.beat.BBeat.{BBeat}
 use Rattle.axi_beats.specs.declared.beat.RBeat.{RBeat}
-use Rattle.axi_beats.specs.Word.{IsBusWidth}
+use Rattle.axi_beats.specs.Bus.{IsBusWidth}
 use Rattle.axi_link.specs.LinkView.{LinkView}
 use Rattle.axi_link.specs.Table.{passing, head_of}
 use Rattle.manager_end.specs.ManagerState.{ManagerState, writes_of, reads_of}

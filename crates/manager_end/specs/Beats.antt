@@ -61,11 +61,3 @@ data_beats item bus = map (data_beat item bus) (range_with_len 0 (beats_of item.
 -- what is on the valid lanes of beat n of a read
 abbrev pub valid_lanes : ℕ → Addr → ℕ → List ℕ → List ℕ
 valid_lanes bus request n lanes = slice_range lanes (low_lane bus request n) (high_lane bus request n + 1)
-
--- the 128 lanes: the bytes from lane 0 upwards, and 0 on all others
-abbrev pub lanes_of : List WriteByte → List ℕ
-lanes_of bytes = map lane_of bytes ++ replicate (128 - length bytes) 0
-
--- the one data beat of a write of a whole word
-abbrev pub data_of : ScriptItem → WBeat
-data_of item = record { lanes = lanes_of item.bytes; strobe = strobe_of item.bytes; last = true; tag = tag_of item }

@@ -1,7 +1,7 @@
 -- The data beats of a write carry what its script says of its bytes (Arm IHI 0022, write strobes and byte lanes).
 use Rattle.std.specs.Prelude.{◌≡◌, ◌<◌, ◌≤◌, ◌+◌, ◌%◌, ◌^◌, ℕ, length, map}
 use Rattle.std.specs.Int.{bit_at}
-use Rattle.axi_beats.specs.Word.{IsBusWidth}
+use Rattle.axi_beats.specs.Bus.{IsBusWidth}
 use Rattle.burst_address.specs.Bytes.{burst_bytes, written, written_bytes}
 use Rattle.burst_address.specs.Formulas.{beats_of}
 use Rattle.burst_address.specs.Legal.{IsLegal}

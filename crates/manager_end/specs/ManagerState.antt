@@ -1,7 +1,7 @@
 -- What a manager keeps.
 use Rattle.std.specs.Prelude.{◌≡◌, ◌≢◌, ◌↔◌, ◌==◌, ◌<◌, ◌≤◌, ◌+◌, ◌++◌, ◌∷◌, [], ℕ, List, Bool, true, false, Option, Some, None, All, IfSome, length, map, drop, filter, count_by, not, nat_lt, slice_get, slice_index_or, if◌then◌else◌}
 use Rattle.std.specs.List.{enumerate_from}
-use Rattle.axi_beats.specs.Word.{IsBusWidth}
+use Rattle.axi_beats.specs.Bus.{IsBusWidth}
 use Rattle.axi_link.specs.LinkView.{LinkView}
 use Rattle.burst_address.specs.Bytes.{burst_bytes, bytes_before}
 use Rattle.burst_address.specs.Legal.{IsLegal}

@@ -1,6 +1,6 @@
 -- What a manager has passed on its link, and what its state has to do with it (Arm IHI 0022, ordering model).
 use Rattle.std.specs.Prelude.{◌≡◌, ◌↔◌, ◌<◌, ◌^◌, ◌++◌, ◌∷◌, [], ℕ, suc, List, Bool, true, false, Option, Some, None, IsTrue, All, AllPairs, Contains, flat_map, length, map, slice_get, take, if◌then◌else◌}
-use Rattle.axi_beats.specs.Word.{IsBusWidth}
+use Rattle.axi_beats.specs.Bus.{IsBusWidth}
 use Rattle.axi_beats.specs.declared.beat.WBeat.{WBeat}
 use Rattle.std.specs.List.{range_with_len}
 use Rattle.axi_beats.specs.declared.beat.Addr.{Addr}

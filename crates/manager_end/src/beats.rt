@@ -3,7 +3,7 @@
 ghost use Rattle.std.specs.Prelude.{◌≡◌, ◌<◌, ◌≤◌, ◌+◌, ◌-◌, ◌*◌, ◌^◌, All, IfSome, Some};
 ghost use Rattle.std.specs.Prelude.{drop, length, slice_get, take};
 ghost use Rattle.std.specs.Option.{option_map};
-ghost use Rattle.axi_beats.specs.Word.{IsBusWidth};
+ghost use Rattle.axi_beats.specs.Bus.{IsBusWidth};
 ghost use Rattle.axi_link.specs.Table.{put_of};
 ghost use Rattle.burst_address.specs.Legal.{IsLegal};
 ghost use Rattle.manager_end.specs.Beats.{data_beat, lane_of, lanes_from, request_of, strobe_of};

@@ -2,9 +2,7 @@
 
 ghost use Rattle.manager_end.specs.BurstLaws.{DataStrobesAreWithin, DataStrobesValidLanes};
 ghost use Rattle.manager_end.specs.BurstLaws.{DataWritesItsBytes};
-ghost use Rattle.manager_end.specs.Laws.{DoneIsAnswered, ManagerMovesFit, ManagerBegins};
-ghost use Rattle.manager_end.specs.Laws.{ManagerStays, WordHasItsBytes, WordHasItsLanes, WordIsLegal};
-ghost use Rattle.manager_end.specs.Laws.{WordIsOneBeat};
+ghost use Rattle.manager_end.specs.Laws.{DoneIsAnswered, ManagerBegins, ManagerMovesFit, ManagerStays};
 ghost use Rattle.manager_end.specs.ManagerOrder.{NotesStay};
 ghost use Rattle.manager_end.specs.ManagerTrail.{ManagerAsks, ManagerOpens, ManagerSteps};
 ghost use Rattle.manager_end.specs.RowLaws.{RowsAreDone};
@@ -39,23 +37,4 @@ pub fn laws_of_trails()
 
     // And it asks as it should.
     ensures asks { ManagerAsks }
-{}
-
-/// What a request for one whole word of the bus is among bursts.
-pub fn laws_of_words()
-    ensures legal { WordIsLegal }
-    ensures bytes { WordHasItsBytes }
-    ensures lanes { WordHasItsLanes }
-    ensures data { WordIsOneBeat }
-{}
-
-/// What the data beats of a write are, where its burst is legal and the script has a byte for each
-/// valid one of it.
-pub fn laws_of_bursts()
-    // They write the bytes that the script strobes, each at its address and in burst order.
-    ensures bytes { DataWritesItsBytes }
-
-    // The strobes of each beat stand on its valid lanes.
-    ensures strobes { DataStrobesAreWithin }
-    ensures valid { DataStrobesValidLanes }
 {}

@@ -2,7 +2,7 @@
 
 ghost use Rattle.std.specs.Prelude.{◌≡◌, ◌==◌, ◌<◌, ◌≤◌, ◌+◌, ◌-◌, ◌^◌, ◌||◌, ◌++◌, ◌∷◌, []};
 ghost use Rattle.std.specs.Prelude.{All, IfOk, IsTrue, OnOk, length, slice_get};
-ghost use Rattle.axi_beats.specs.Word.{IsBusWidth};
+ghost use Rattle.axi_beats.specs.Bus.{IsBusWidth};
 ghost use Rattle.axi_link.specs.Acted.{opened};
 ghost use Rattle.burst_address.specs.Legal.{IsLegal};
 ghost use Rattle.manager_end.specs.Script.{CanPush, awaited, sent_bytes};
@@ -186,7 +186,6 @@ fn reads_wait_for_writes_and_answers_find_their_ids(rt: HostRuntime) -> Result<(
     laws();
     laws_of_rounds();
     laws_of_trails();
-    laws_of_words();
     let alloc = rt.alloc();
     let mut manager = Manager::new(alloc, script(&rt, alloc)?, 0, 4, &[0], &[0])?;
     crosses_threads(&manager);

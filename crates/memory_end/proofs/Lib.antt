@@ -26,7 +26,6 @@ pub mod TrailAnswers
 pub mod TrailAsked
 pub mod TrailLists
 pub mod TrailSteps
-pub mod WholeWords
 pub mod WriteAccess
 pub mod WriteSteps
 pub mod WriteTracks

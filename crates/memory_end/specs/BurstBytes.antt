@@ -1,7 +1,7 @@
 -- A memory's beats in the terms of bursts: their lines, and the bytes that they read and write (Arm IHI 0022, burst
 -- address structure).
 use Rattle.std.specs.Prelude.{◌≡◌, ◌↔◌, ◌<◌, ◌≤◌, ◌++◌, ◌∷◌, [], ℕ, suc, List, Some, All, Contains, IsTrue, filter, flat_map, length, map, slice_get, zip}
-use Rattle.axi_beats.specs.Word.{IsBusWidth}
+use Rattle.axi_beats.specs.Bus.{IsBusWidth}
 use Rattle.axi_beats.specs.declared.beat.Addr.{Addr}
 use Rattle.axi_beats.specs.declared.beat.WBeat.{WBeat}
 use Rattle.axi_trail.specs.Schedule.{Share}

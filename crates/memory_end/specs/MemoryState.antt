@@ -1,7 +1,7 @@
 -- A memory as contracts see it between rounds.
 use Rattle.std.specs.Prelude.{◌≡◌, ◌<◌, ◌≤◌, ◌%◌, ◌+◌, ◌^◌, ℕ, List, [], Option, Some, None, IsTrue, All, Contains, if◌then◌else◌}
 use Rattle.axi_beats.specs.declared.beat.Addr.{Addr}
-use Rattle.axi_beats.specs.Word.{IsBusWidth}
+use Rattle.axi_beats.specs.Bus.{IsBusWidth}
 use Rattle.burst_address.specs.Legal.{IsLegal}
 use Rattle.memory_end.specs.declared.config.MemoryConfig.{MemoryConfig}
 use Rattle.memory_end.specs.declared.entry.WriteEntry.{WriteEntry}

@@ -1,7 +1,7 @@
 //! The bytes of single beats: what a W beat writes and what an R beat answers.
 
 ghost use Rattle.std.specs.Prelude.{◌≡◌, ◌*◌, ◌/◌, ◌<◌, ◌≤◌, ◌^◌};
-ghost use Rattle.axi_beats.specs.Word.{IsBusWidth};
+ghost use Rattle.axi_beats.specs.Bus.{IsBusWidth};
 ghost use Rattle.memory_end.specs.Beats.{all_written, answered_lanes, beat_address, strobed_status, written_bytes};
 ghost use Rattle.memory_end.specs.MemoryState.{IsMemoryConfig, IsReadEntry, IsRequest};
 ghost use Rattle.memory_end.specs.Status.{is_inside, write_status};

@@ -1,7 +1,7 @@
 //! Known values, at memories of one page from 0x1000 on, all of whose lines may be written.
 
 ghost use Rattle.std.specs.Prelude.{ℕ, ◌≡◌, ◌<◌, ◌≤◌, ◌^◌, [], ◌∷◌, AllPairs, Contains, IfOk, IfSome, IsTrue, option_copied};
-ghost use Rattle.axi_beats.specs.Word.{IsBusWidth};
+ghost use Rattle.axi_beats.specs.Bus.{IsBusWidth};
 ghost use Rattle.axi_link.specs.Table.{head_of};
 ghost use Rattle.memory_end.specs.Laws.{HasSameArguments};
 ghost use Rattle.memory_end.specs.MemoryState.{IsRequest, new_memory};

@@ -3,7 +3,7 @@ use Rattle.std.proofs.Common.{◌≡◌, ◌+◌, ◌*◌, ◌/◌, ◌^◌, ◌
 use Rattle.std.specs.Prelude.{All, fold}
 use Rattle.std.specs.List.{AllByRecursion}
 use Rattle.std.proofs.lemmas.List.Elements.{recursion_from_All}
-use Rattle.axi_beats.specs.Word.{IsWholeWord}
+use Rattle.axi_beats.specs.Bus.{IsWholeWord}
 use Rattle.manager_end.specs.Script.{ScriptItem}
 use Rattle.net_rounds.specs.BuiltIn.{bound, effort}
 

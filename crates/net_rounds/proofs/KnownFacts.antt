@@ -3,7 +3,7 @@ use Rattle.std.proofs.Common.{◌≡◌, ◌<◌, ◌^◌, ◌∷◌, [], zero, 
 use Rattle.std.specs.Prelude.{All, AllPairs}
 use Rattle.std.proofs.lemmas.List.Elements.{All-cons, All-nil}
 use Rattle.std.proofs.lemmas.List.Kept.{AllPairs-cons}
-use Rattle.axi_beats.specs.Word.{IsWholeWord}
+use Rattle.axi_beats.specs.Bus.{IsWholeWord}
 use Rattle.manager_end.specs.Script.{IsScript, ScriptItem}
 use Rattle.net_rounds.specs.BuiltIn.{built_in, touched_lines}
 use Rattle.net_rounds.specs.Due.{IsNumberedTraffic}

@@ -3,7 +3,7 @@ use Rattle.std.proofs.Common.{◌≡◌, ◌<◌, ◌+◌, ◌∷◌, [], ℕ, s
 use Rattle.std.specs.Prelude.{All}
 use Rattle.std.proofs.lemmas.List.{take_at}
 use Rattle.std.proofs.lemmas.List.Elements.{All-from_recursion, All-nil}
-use Rattle.axi_beats.specs.Word.{IsWholeWord}
+use Rattle.axi_beats.specs.Bus.{IsWholeWord}
 use Rattle.axi_beats.specs.declared.beat.WBeat.{WBeat}
 use Rattle.axi_link.proofs.MovesLemmas.{fitting_moves}
 use Rattle.axi_link.specs.Acted.{Acted, opened}

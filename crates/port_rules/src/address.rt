@@ -1,6 +1,6 @@
 //! The rules of one address.
 ghost use Rattle.std.specs.Prelude.{◌≡◌, ◌<◌, ◌≤◌, ◌^◌, true, IsTrue, Option, None};
-ghost use Rattle.axi_beats.specs.Word.{IsBusWidth};
+ghost use Rattle.axi_beats.specs.Bus.{IsBusWidth};
 ghost use Rattle.axi_history.specs.PortRules.{request_of, address_rules, least_broken, keeps_address_rules, has_last_where_due, has_strobes_on_valid_lanes, strobes_within};
 
 use axi_beats::{Addr, Burst, WBeat};

@@ -2,7 +2,7 @@
 ghost use Rattle.std.specs.Prelude.{◌≡◌, ◌≢◌, ◌+◌, ◌<◌, ◌≤◌, ◌^◌, ◌∷◌, ◌++◌, ◌&&◌, [], true, length, Option, Some, None, IfNone, OnOk, if◌then◌else◌, ℕ};
 ghost use Rattle.std.specs.List.{list_all};
 ghost use Rattle.std.specs.VecDeque.{deque_len, deque_capacity};
-ghost use Rattle.axi_beats.specs.Word.{IsBusWidth};
+ghost use Rattle.axi_beats.specs.Bus.{IsBusWidth};
 ghost use Rattle.axi_history.specs.PortRules.{has_strobes_on_valid_lanes};
 ghost use Rattle.port_rules.specs.Judged.{lesser as lesser_of, late_fault_of, addresses_then, passed_then, beats_then, beat_fault_of, addresses_done, passed_done, beats_done, data_fault};
 ghost use Rattle.std.specs.Option.{ForSome};

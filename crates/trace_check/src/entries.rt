@@ -1,6 +1,6 @@
 //! The places of the links.
 ghost use Rattle.std.specs.Prelude.{◌≡◌, ◌≢◌, ◌<◌, ◌≤◌, ◌+◌, ◌∷◌, ◌++◌, [], ℕ, List, length, max, option_map, IfOk, OnOk, IfSome, Some};
-ghost use Rattle.axi_beats.specs.Word.{IsBusWidth};
+ghost use Rattle.axi_beats.specs.Bus.{IsBusWidth};
 ghost use Rattle.axi_history.specs.declared.port.PortRound.{PortRound as Round};
 ghost use Rattle.port_rules.specs.Checked.{HasSmallAddresses};
 ghost use Rattle.trace_check.specs.Entries.{EntryFollows, EntryTakes};

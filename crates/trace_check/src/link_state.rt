@@ -1,7 +1,7 @@
 //! What is kept of one link of a trace: its port, and its judge where the rules of the port are written.
 ghost use Rattle.std.specs.Prelude.{◌≡◌, ◌<◌, ◌≤◌, ◌+◌, ◌∷◌, ◌++◌, [], ℕ, false, List, None, length, IfOk};
 ghost use Rattle.std.specs.List.{find};
-ghost use Rattle.axi_beats.specs.Word.{IsBusWidth};
+ghost use Rattle.axi_beats.specs.Bus.{IsBusWidth};
 ghost use Rattle.axi_history.specs.declared.port.PortRound.{PortRound as Round};
 ghost use Rattle.port_rules.specs.Checked.{HasSmallAddresses};
 ghost use Rattle.trace_check.specs.Follows.{CanGoOn, Follows, HasJudgedTo, HasNotJudged, TellsOf};

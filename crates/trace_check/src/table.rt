@@ -1,7 +1,7 @@
 //! What is kept of a trace while its lines are read: a place for each link up to the greatest one, and the last line.
 ghost use Rattle.std.specs.Prelude.{◌≡◌, ◌≢◌, ◌<◌, ◌≤◌, ◌+◌, ◌∷◌, ◌++◌, ◌^◌, [], ℕ, true, List, Some, None, length, max, option_map, if◌then◌else◌, slice_index_or, vec_len, IfOk, OnOk};
 ghost use Rattle.std.specs.List.{last_or, list_all};
-ghost use Rattle.axi_beats.specs.Word.{IsBusWidth};
+ghost use Rattle.axi_beats.specs.Bus.{IsBusWidth};
 ghost use Rattle.axi_history.specs.declared.port.PortKind.{PortKind as Kind};
 ghost use Rattle.axi_history.specs.declared.port.PortRound.{PortRound as Round};
 ghost use Rattle.axi_history.specs.PortRules.{or_else};

@@ -1,7 +1,7 @@
 //! Why lines of traffic are refused.
 
 ghost use Rattle.std.specs.Prelude.{◌≡◌, ◌-◌, ◌<◌, ◌^◌, All, Some, length};
-ghost use Rattle.axi_beats.specs.Word.{IsBusWidth};
+ghost use Rattle.axi_beats.specs.Bus.{IsBusWidth};
 ghost use Rattle.burst_address.specs.Legal.{broken_rule};
 ghost use Rattle.plain_text.specs.Lines.{lines};
 ghost use Rattle.traffic.specs.Faults.{burst_fault, code_of, least, least_fault, line_fault, request_of};
