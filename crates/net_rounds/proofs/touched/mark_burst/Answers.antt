@@ -1,6 +1,5 @@
 use Rattle.std.proofs.Common.{◌≡◌, ◌<◌, ◌+◌, ◌||◌, ◌==◌, ◌/◌, Bool, true, false, length, get_or, sym, ap, ◌∙◌, arith}
 use Rattle.std.proofs.lemmas.List.{length-set}
-use Rattle.burst_address.specs.Formulas.{beat_at}
 use Rattle.memory_end.specs.Store.{line_of}
 use Rattle.net_rounds.proofs.ScriptLemmas.{flag-kept, flag-marked, reaches-more}
 use Rattle.net_rounds.specs.BuiltIn.{reaches_line}
