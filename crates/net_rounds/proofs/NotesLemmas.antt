@@ -1,5 +1,5 @@
 -- What a manager notes stays short, and once all is done every answer is there.
-use Rattle.std.proofs.Common.{◌≡◌, ◌<◌, ◌≤◌, ◌+◌, ◌-◌, ◌*◌, ◌/◌, ◌∷◌, [], ◌++◌, ℕ, suc, List, Some, Bool, true, false, cond, inl, inr, length, get_or, refl, sym, ap, ◌∙◌, subst, arith, length-append}
+use Rattle.std.proofs.Common.{◌≡◌, ◌<◌, ◌≤◌, ◌+◌, ◌-◌, ◌*◌, ◌/◌, ◌∷◌, [], ℕ, suc, List, Some, Bool, true, false, cond, length, refl, sym, ap, ◌∙◌, subst, arith, length-append}
 use Rattle.std.specs.Prelude.{All, count_by, drop, fold, slice_get}
 use Rattle.std.specs.List.{AllByRecursion}
 use Rattle.std.proofs.lemmas.Bool.{eqb-true, ltb-true}
@@ -26,7 +26,7 @@ use Rattle.manager_end.specs.ManagerState.{IsDue, IsManager, ManagerState, due_b
 use Rattle.manager_end.specs.ManagerTable.{manager_next}
 use Rattle.manager_end.specs.Script.{ScriptItem}
 use Rattle.manager_end.proofs.BurstLemmas.{beat-within, bytes-most, lane-count, lane-order}
-use Rattle.manager_end.proofs.NoteLemmas.{Change, b-taken, change-of, r-taken, taken-waits}
+use Rattle.manager_end.proofs.NoteLemmas.{b-taken, change-of, r-taken, taken-waits}
 use Rattle.manager_end.proofs.NoteLemmas.Change.{Issued, Kept, Read, Wrote}
 use Rattle.manager_end.proofs.NumberLemmas.{at-all}
 use Rattle.manager_end.proofs.ScriptLemmas.{script-item}

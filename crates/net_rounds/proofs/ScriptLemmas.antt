@@ -1,5 +1,5 @@
 -- One more beat of a burst, one more transaction of a script, and one more line.
-use Rattle.std.proofs.Common.{◌≡◌, ◌≢◌, ◌<◌, ◌+◌, ◌∷◌, [], ◌++◌, ℕ, List, Option, Some, None, Bool, true, false, cond, inl, inr, length, take, filter, get_or, append-nil, zero-add, refl, sym, ap, subst, ◌∙◌, arith, eq-eqb}
+use Rattle.std.proofs.Common.{◌≡◌, ◌≢◌, ◌<◌, ◌+◌, ◌∷◌, [], ◌++◌, ℕ, List, Option, Some, None, Bool, true, false, cond, inl, inr, length, take, filter, get_or, append-nil, zero-add, refl, sym, ap, subst, ◌∙◌, eq-eqb}
 use Rattle.std.specs.Prelude.{◌==◌, ◌&&◌, ◌||◌, option_map, slice_get, slice_set, unwrap_or}
 use Rattle.std.specs.List.{list_any, range_with_len}
 use Rattle.std.proofs.Math.Bool.{or-false}
@@ -10,12 +10,12 @@ use Rattle.std.proofs.lemmas.List.Elements.{filter-append}
 use Rattle.std.proofs.lemmas.Option.{get_or_from_slice_get, slice_get-get_or}
 use Rattle.axi_beats.specs.declared.beat.Addr.{Addr}
 use Rattle.burst_address.specs.Formulas.{beat_at, beats_of}
-use Rattle.memory_end.proofs.ListLemmas.{range-more}
-use Rattle.memory_end.specs.MemoryState.{IsRequest}
-use Rattle.memory_end.specs.Store.{line_of}
 use Rattle.manager_end.proofs.ScriptLemmas.{script-item}
 use Rattle.manager_end.specs.Script.{IsScript, ScriptItem}
 use Rattle.manager_end.specs.declared.script.Txn.{Txn}
+use Rattle.memory_end.proofs.ListLemmas.{range-more}
+use Rattle.memory_end.specs.MemoryState.{IsRequest}
+use Rattle.memory_end.specs.Store.{line_of}
 use Rattle.net_rounds.specs.BuiltIn.{is_touched_by, lines_below, reaches_line, touches_line}
 
 -- ---- one more beat of a burst

@@ -1,6 +1,6 @@
 -- The memory keeps every line that the script may write.
 use Rattle.std.proofs.Common.{◌≡◌, ◌<◌, ◌≤◌, ◌+◌, ◌*◌, ◌/◌, ℕ, List, Bool, true, length, get_or, refl, sym, ap, ◌∙◌, subst, arith, eq-eqb, leb, ltb, zero-add}
-use Rattle.std.specs.Prelude.{All, AllPairs, Contains, IsTrue, ◌&&◌, ◌==◌}
+use Rattle.std.specs.Prelude.{AllPairs, Contains, IsTrue, ◌&&◌, ◌==◌}
 use Rattle.std.specs.List.{list_any, range_with_len}
 use Rattle.std.proofs.lemmas.Bool.Decides.{nat_tests}
 use Rattle.std.proofs.lemmas.List.Folds.{list_any_at}

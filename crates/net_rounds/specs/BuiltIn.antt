@@ -1,7 +1,7 @@
 -- The built-in network: manager `m` on a bus of 4 bytes with IDs of 4 bits, memory `ram` of 8192
 -- bytes from address 0 on that holds 0 where nothing was written, and one link of depth 2 between
 -- them. Nothing delays.
-use Rattle.std.specs.Prelude.{◌==◌, ◌<◌, ◌+◌, ◌*◌, ◌/◌, ◌^◌, ◌&&◌, ◌∷◌, [], ℕ, Bool, List, All, Option, Some, None, filter, max, sum_by}
+use Rattle.std.specs.Prelude.{◌==◌, ◌*◌, ◌/◌, ◌&&◌, ◌∷◌, [], ℕ, Bool, List, All, Option, Some, None, filter, max, sum_by}
 use Rattle.std.specs.List.{list_any, range_with_len}
 use Rattle.axi_beats.specs.declared.beat.Addr.{Addr}
 use Rattle.axi_link.specs.Acted.{opened}
