@@ -38,3 +38,14 @@ pub fn laws_of_trails()
     // And it asks as it should.
     ensures asks { ManagerAsks }
 {}
+
+/// What the data beats of a write are, where its burst is legal and the script has a byte for each
+/// valid one of it.
+pub fn laws_of_bursts()
+    // They write the bytes that the script strobes, each at its address and in burst order.
+    ensures bytes { DataWritesItsBytes }
+
+    // The strobes of each beat stand on its valid lanes.
+    ensures strobes { DataStrobesAreWithin }
+    ensures valid { DataStrobesValidLanes }
+{}
