@@ -5,12 +5,12 @@ pub mod AnsweredOrder
 pub mod BoundLemmas
 pub mod BuiltInPlan
 pub mod Choosing
+pub mod DataLemmas
 pub mod DeliveredLemmas
 pub mod DueLemmas
 pub mod EventLemmas
 pub mod ItemEvents
 pub mod KnownFacts
-pub mod LaneLemmas
 pub mod LegalPlan
 pub mod NetLemmas
 pub mod NetworkLemmas

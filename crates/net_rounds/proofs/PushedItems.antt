@@ -1,5 +1,5 @@
 -- What a script says of each of its transactions.
-use Rattle.std.proofs.Common.{◌≡◌, ◌<◌, ◌^◌, ℕ, List, Option, Some, length, get_or, subst}
+use Rattle.std.proofs.Common.{◌≡◌, ◌<◌, ◌^◌, ℕ, List, Option, length, get_or, subst}
 use Rattle.std.specs.Prelude.{All, IfSome, take}
 use Rattle.std.proofs.lemmas.Option.{slice_get-get_or}
 use Rattle.manager_end.specs.Script.{CanPush, IsScript, ScriptItem, sent_bytes}
