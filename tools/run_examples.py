@@ -6,7 +6,7 @@
 The input examples/NAME.txt is given to `run`, and examples/NAME.trace to `check`. What is written
 has to be examples/NAME.out to the byte, and its first word tells the exit status that is wanted.
 Where an input runs, its trace is asked for too: it stands before the same answers, and `check` has
-to find it legal. The last line says how many examples passed; the exit status is 1 where one failed.
+to find it legal. The last line says how many examples agreed; the exit status is 1 where one differs.
 """
 import pathlib
 import subprocess
@@ -44,7 +44,7 @@ def differs(what, found, wanted):
     return True
 
 
-def fails(program, path):
+def disagrees(program, path):
     """Whether a program does anything else with an example than its output has."""
     data, wanted = path.read_bytes(), expected(path.stem)
     words = ['run'] if path.suffix == '.txt' else ['check']
@@ -65,9 +65,9 @@ def main():
     if not programs or not inputs:
         print('usage: tools/run_examples.py PROGRAM ..' if inputs else 'there are no examples')
         return 2
-    failed = sum(fails(program, path) for program in programs for path in inputs)
-    print('examples: %d passed, %d failed' % (len(programs) * len(inputs) - failed, failed))
-    return 1 if failed else 0
+    differing = sum(disagrees(program, path) for program in programs for path in inputs)
+    print('examples: %d agreed, %d differ' % (len(programs) * len(inputs) - differing, differing))
+    return 1 if differing else 0
 
 
 sys.exit(main())
