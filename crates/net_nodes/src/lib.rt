@@ -4,5 +4,7 @@
 #![tactic(auto)]
 
 mod node;
+#[cfg(test)]
+mod tests;
 
 pub use node::{Node, crosses_threads};
