@@ -4,7 +4,7 @@
 ghost use Rattle.std.specs.Prelude.{ℕ, ◌≡◌, ◌==◌, ◌<◌, ◌≤◌, ◌-◌, ◌^◌, ◌||◌};
 ghost use Rattle.std.specs.Prelude.{All, AllPairs, Contains, IfOk, IfSome, IsTrue, length};
 ghost use Rattle.std.specs.Prelude.{option_copied, slice_get};
-ghost use Rattle.axi_beats.specs.Word.{IsBusWidth};
+ghost use Rattle.axi_beats.specs.Bus.{IsBusWidth};
 ghost use Rattle.axi_link.specs.Table.{head_of};
 ghost use Rattle.burst_address.specs.Bytes.{burst_bytes};
 ghost use Rattle.burst_address.specs.Legal.{IsLegal};
