@@ -21,7 +21,7 @@ returns-in-Err-Refused-clause-concludes g c =
 
 pub returns-in-Ok-clause-right : goal.returns-in-Ok-clause-right
 returns-in-Ok-clause-right g c =
-    λ there accepted. subst RunIsRight c.in-Ok.ensures.script (run-is-right c.in-Ok.script c.in-Ok.ensures.pushed c.in-Ok.ensures.suits)
+    λ there accepted. subst RunIsRight c.in-Ok.ensures.script (run-is-right c.in-Ok.script c.in-Ok.ensures.traffic)
 
 pub returns-in-Err-Refused-clause-right : goal.returns-in-Err-Refused-clause-right
 returns-in-Err-Refused-clause-right g c =
