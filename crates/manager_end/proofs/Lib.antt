@@ -4,6 +4,7 @@ pub mod AskLaws
 pub mod AskedLemmas
 pub mod BeatLemmas
 pub mod BurstLemmas
+pub mod DataLaws
 pub mod DirectionLemmas
 pub mod DueLemmas
 pub mod EntryLemmas
@@ -16,11 +17,13 @@ pub mod NumberLemmas
 pub mod OrderLaws
 pub mod PassedLemmas
 pub mod PlaceLemmas
+pub mod RowFacts
 pub mod RowLemmas
 pub mod ScriptLemmas
 pub mod SendingLemmas
 pub mod SentLemmas
 pub mod StepLemmas
+pub mod StrobeLemmas
 pub mod TrailLaws
 pub mod TrailLemmas
 pub mod TurnLemmas

@@ -23,5 +23,5 @@ pub use answer::Answer;
 pub use burst::beat_count;
 pub use entry::Entry;
 pub use manager::{Manager, crosses_threads};
-pub use manager_laws::{laws, laws_of_rounds, laws_of_trails, laws_of_words};
+pub use manager_laws::{laws, laws_of_bursts, laws_of_rounds, laws_of_trails, laws_of_words};
 pub use script::{Script, Txn, WriteByte};

@@ -1,10 +1,13 @@
 //! What holds of the manager's definitions alone.
 
+ghost use Rattle.manager_end.specs.BurstLaws.{DataStrobesAreWithin, DataStrobesValidLanes};
+ghost use Rattle.manager_end.specs.BurstLaws.{DataWritesItsBytes};
 ghost use Rattle.manager_end.specs.Laws.{DoneIsAnswered, ManagerMovesFit, ManagerBegins};
 ghost use Rattle.manager_end.specs.Laws.{ManagerStays, WordHasItsBytes, WordHasItsLanes, WordIsLegal};
 ghost use Rattle.manager_end.specs.Laws.{WordIsOneBeat};
 ghost use Rattle.manager_end.specs.ManagerOrder.{NotesStay};
 ghost use Rattle.manager_end.specs.ManagerTrail.{ManagerAsks, ManagerOpens, ManagerSteps};
+ghost use Rattle.manager_end.specs.RowLaws.{RowsAreDone};
 
 /// The laws of the manager's decision table.
 pub fn laws()
@@ -17,6 +20,9 @@ pub fn laws()
 
     // Where it is done, all is answered.
     ensures done { DoneIsAnswered }
+
+    // What a row of its table can do in a round is done in that round.
+    ensures rows { RowsAreDone }
 {}
 
 /// The law of the rounds that a manager notes, whatever its link brings.
@@ -41,4 +47,15 @@ pub fn laws_of_words()
     ensures bytes { WordHasItsBytes }
     ensures lanes { WordHasItsLanes }
     ensures data { WordIsOneBeat }
+{}
+
+/// What the data beats of a write are, where its burst is legal and the script has a byte for each
+/// valid one of it.
+pub fn laws_of_bursts()
+    // They write the bytes that the script strobes, each at its address and in burst order.
+    ensures bytes { DataWritesItsBytes }
+
+    // The strobes of each beat stand on its valid lanes.
+    ensures strobes { DataStrobesAreWithin }
+    ensures valid { DataStrobesValidLanes }
 {}

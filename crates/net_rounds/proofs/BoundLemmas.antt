@@ -1,25 +1,64 @@
--- The bound of a script of words: 12 rounds for each.
-use Rattle.std.proofs.Common.{◌≡◌, ◌+◌, ◌*◌, ◌/◌, ◌^◌, ◌∷◌, [], ℕ, suc, List, length, max, ap, ◌∙◌, zero-add, arith}
-use Rattle.std.specs.Prelude.{All, fold}
-use Rattle.std.specs.List.{AllByRecursion}
-use Rattle.std.proofs.lemmas.List.Elements.{recursion_from_All}
-use Rattle.axi_beats.specs.Word.{IsWholeWord}
+-- The bound of a script: on a bus of 4 bytes the effort of a request is the number of its beats.
+use Rattle.std.proofs.Common.{◌≡◌, ◌<◌, ◌≤◌, ◌+◌, ◌*◌, ◌/◌, ◌^◌, ℕ, List, take, get_or, max, true, ap, subst, ◌∙◌, arith}
+use Rattle.std.specs.Prelude.{All}
+use Rattle.std.proofs.Math.Nat.{pow-le-pow_right}
+use Rattle.std.proofs.lemmas.Bool.{ltb-true}
+use Rattle.std.proofs.lemmas.List.Sums.{fold_more, sum_by-le, sum_by-take-le}
+use Rattle.axi_beats.specs.declared.beat.Addr.{Addr}
+use Rattle.axi_beats.specs.declared.beat.Burst.{Burst}
+use Rattle.axi_beats.specs.declared.beat.Burst.TheVariants.{Fixed, Incr, Wrap}
+use Rattle.burst_address.proofs.Legality.{legal-length, legal-size, wrap_length}
+use Rattle.burst_address.specs.Formulas.{beats_of, size_of}
+use Rattle.burst_address.specs.Legal.{IsLegal, is_length_of}
+use Rattle.manager_end.proofs.ScriptLemmas.{script-short}
 use Rattle.manager_end.specs.Script.{ScriptItem}
-use Rattle.net_rounds.specs.BuiltIn.{bound, effort}
+use Rattle.manager_end.specs.declared.script.Txn.{Txn}
+use Rattle.net_rounds.proofs.ScriptLemmas.{IsAt}
+use Rattle.net_rounds.specs.BuiltIn.{IsTraffic, bound, effort}
 
-word-effort : (item : ScriptItem) → IsWholeWord 4 item.txn.request → 6 * effort item.txn.request * 2 ≡ 12
-word-effort item word = ap (λ len. 6 * ((len + 1) * max 1 (2 ^ item.txn.request.size / 4)) * 2) word.one_beat ∙ ap (λ bytes. 6 * ((0 + 1) * max 1 (bytes / 4)) * 2) word.wide
+-- no burst has more than 256 beats
+few-beats : (kind : Burst) (beats : ℕ) → is_length_of kind beats ≡ true → beats ≤ 256
+few-beats Fixed beats is = omega (arith, ltb-true beats 17 is)
+few-beats Incr beats is = omega (arith, ltb-true beats 257 is)
+few-beats Wrap beats is =
+    let power = wrap_length beats is in
+    let most = pow-le-pow_right {n = 2} (omega arith) {i = power.0} {j = 4} power.2 in
+    omega (arith, power.1, most)
 
--- the sum from the front on
-words-from :
-    (sum : ℕ) (script : List ScriptItem) → AllByRecursion (λ (item : ScriptItem). IsWholeWord 4 item.txn.request) script →
-    fold (λ (a : ℕ) (item : ScriptItem). a + 6 * effort item.txn.request * 2) sum script ≡ sum + 12 * length script
-words-from sum [] words = omega arith
-words-from sum (item ∷ script) words =
-    let first = word-effort item words.0 in
-    let rest = words-from (sum + 6 * effort item.txn.request * 2) script words.1 in
-    let all : (sum + 6 * effort item.txn.request * 2) + 12 * length script ≡ sum + 12 * suc (length script) = omega arith in
-    rest ∙ all
+pub legal-beats : (a : Addr) (bus : ℕ) → IsLegal a bus → beats_of a ≤ 256
+legal-beats a bus legal = few-beats a.burst (beats_of a) (legal-length a bus legal)
 
-pub bound-words : (script : List ScriptItem) → All (λ (item : ScriptItem). IsWholeWord 4 item.txn.request) script → bound script ≡ 12 * length script
-bound-words script words = words-from 0 script (recursion_from_All (λ (item : ScriptItem). IsWholeWord 4 item.txn.request) script words) ∙ zero-add (12 * length script)
+-- a beat is no wider than the bus
+pub legal-effort : (a : Addr) → IsLegal a 4 → effort a ≡ beats_of a
+legal-effort a legal =
+    let narrow = legal-size a 4 legal in
+    let one : max 1 (size_of a / 4) ≡ 1 = omega (arith, narrow) in
+    let all : beats_of a * 1 ≡ beats_of a = omega arith in
+    ap (λ words. beats_of a * words) one ∙ all
+
+few-rounds : (script : List ScriptItem) → All (λ (item : ScriptItem). IsLegal item.txn.request 4) script → All (λ (item : ScriptItem). 6 * effort item.txn.request * 2 ≤ 3072) script
+few-rounds script legal k d within =
+    let request = (get_or script k d).txn.request in
+    omega (arith, legal-effort request (legal k d within), legal-beats request 4 (legal k d within))
+
+pub bound-little : (script : List ScriptItem) → IsTraffic script → bound script < 2 ^ 62
+bound-little script traffic =
+    let most = sum_by-le (λ (item : ScriptItem). 6 * effort item.txn.request * 2) 3072 script (few-rounds script traffic.legal) in
+    let short = script-short script traffic.is_script in
+    omega (arith, most, short)
+
+pub bound-part : (script : List ScriptItem) (places : ℕ) → bound (take places script) ≤ bound script
+bound-part script places = sum_by-take-le (λ (item : ScriptItem). 6 * effort item.txn.request * 2) script places
+
+-- one more transaction
+pub bound-more : (script : List ScriptItem) (place : ℕ) (txn : Txn) → IsAt script place txn → bound (take (place + 1) script) ≡ bound (take place script) + 6 * effort txn.request * 2
+bound-more script place txn at =
+    fold_more (λ (a : ℕ) (item : ScriptItem). a + 6 * effort item.txn.request * 2) 0 script place at.item at.within
+    ∙ ap (λ (item : ScriptItem). bound (take place script) + 6 * effort item.txn.request * 2) at.item_is
+    ∙ ap (λ (t : Txn). bound (take place script) + 6 * effort t.request * 2) at.txn_is
+
+-- a transaction of a script of legal bursts is one
+pub legal-at : (script : List ScriptItem) (place : ℕ) (txn : Txn) → IsTraffic script → IsAt script place txn → IsLegal txn.request 4
+legal-at script place txn traffic at =
+    subst (λ (t : Txn). IsLegal t.request 4) at.txn_is
+    (subst (λ (item : ScriptItem). IsLegal item.txn.request 4) at.item_is (traffic.legal place at.item at.within))

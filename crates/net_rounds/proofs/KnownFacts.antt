@@ -3,7 +3,7 @@ use Rattle.std.proofs.Common.{◌≡◌, ◌<◌, ◌^◌, ◌∷◌, [], zero, 
 use Rattle.std.specs.Prelude.{All, AllPairs}
 use Rattle.std.proofs.lemmas.List.Elements.{All-cons, All-nil}
 use Rattle.std.proofs.lemmas.List.Kept.{AllPairs-cons}
-use Rattle.axi_beats.specs.Word.{IsWholeWord}
+use Rattle.burst_address.specs.Legal.{IsLegal}
 use Rattle.manager_end.specs.Script.{IsScript, ScriptItem}
 use Rattle.net_rounds.specs.BuiltIn.{built_in, touched_lines}
 use Rattle.net_rounds.specs.Due.{IsNumberedTraffic}
@@ -25,18 +25,12 @@ known-answers = refl
 
 -- ---- it is a script of the built-in network
 
-write-word : IsWholeWord 4 known_write.txn.request
-write-word = record { one_beat = refl; incrementing = refl; wide = refl; aligned = refl; small = lit< tt }
-
-read-word : IsWholeWord 4 known_read.txn.request
-read-word = record { one_beat = refl; incrementing = refl; wide = refl; aligned = refl; small = lit< tt }
-
 both : (P : ScriptItem → Type 0) → P known_write → P known_read → All P known_script
 both P first second = All-cons P known_write (known_read ∷ []) first (All-cons P known_read [] second (All-nil P))
 
 is-script : IsScript known_script
-is-script zero = record { start = write-word.small; legal = refl; bytes_sent = refl; after = refl; short = lit< tt }
-is-script (suc zero) = record { start = read-word.small; legal = refl; bytes_sent = refl; after = refl; short = lit< tt }
+is-script zero = record { start = lit< tt; legal = refl; bytes_sent = refl; after = refl; short = lit< tt }
+is-script (suc zero) = record { start = lit< tt; legal = refl; bytes_sent = refl; after = refl; short = lit< tt }
 is-script (suc (suc n)) = tt
 
 numbered : AllPairs (λ (a b : ScriptItem). a.txn.number < b.txn.number) known_script
@@ -47,7 +41,7 @@ numbered =
 
 known-traffic : IsNumberedTraffic known_script
 known-traffic = record {
-  traffic = record { is_script = is-script; words = both (λ (item : ScriptItem). IsWholeWord 4 item.txn.request) write-word read-word; inside = both (λ (item : ScriptItem). item.txn.request.addr < 8192) (omega arith) (omega arith) };
+  traffic = record { is_script = is-script; legal = both (λ (item : ScriptItem). IsLegal item.txn.request 4) refl refl };
   numbered = numbered;
   ids = both (λ (item : ScriptItem). item.txn.request.id < 2 ^ 4) (omega arith) (omega arith);
 }

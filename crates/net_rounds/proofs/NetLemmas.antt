@@ -3,26 +3,24 @@ use Rattle.std.proofs.Common.{◌≡◌, ◌<◌, ◌+◌, ◌∷◌, [], ℕ, s
 use Rattle.std.specs.Prelude.{All}
 use Rattle.std.proofs.lemmas.List.{take_at}
 use Rattle.std.proofs.lemmas.List.Elements.{All-from_recursion, All-nil}
-use Rattle.axi_beats.specs.Word.{IsWholeWord}
 use Rattle.axi_beats.specs.declared.beat.WBeat.{WBeat}
 use Rattle.axi_link.proofs.MovesLemmas.{fitting_moves}
 use Rattle.axi_link.specs.Acted.{Acted, opened}
 use Rattle.axi_link.specs.LinkView.{LinkView, empty_link}
 use Rattle.manager_end.proofs.ManagerLaws.{manager-begins, manager-fits}
-use Rattle.manager_end.proofs.WordLemmas.{words-legal}
 use Rattle.manager_end.specs.ManagerState.{IsManager, ManagerState, new_manager}
 use Rattle.manager_end.specs.ManagerTable.{manager_out}
 use Rattle.manager_end.specs.Script.{ScriptItem}
 use Rattle.memory_end.proofs.FitLemmas.{memory-fits}
 use Rattle.memory_end.proofs.StayLemmas.{new-is_memory}
-use Rattle.memory_end.specs.MemoryState.{AreLinesAmong, IsMemoryConfig, MemoryState, new_memory}
+use Rattle.memory_end.specs.MemoryState.{AreLinesAmong, IsMemoryConfig, IsRequest, MemoryState, new_memory}
 use Rattle.memory_end.specs.MemoryTable.{memory_out}
 use Rattle.net_nodes.specs.NodeTable.{CanNode, node_table}
 use Rattle.net_nodes.specs.declared.node.Node.{Node}
 use Rattle.net_nodes.specs.declared.node.Node.TheVariants.{Manager, Memory}
-use Rattle.net_rounds.proofs.BoundLemmas.{bound-words}
+use Rattle.net_rounds.proofs.BoundLemmas.{bound-little}
 use Rattle.net_rounds.proofs.NetworkLemmas.{after_rounds-built_in, built_in_pair, decide-network_of, network_of, pair_after-script}
-use Rattle.net_rounds.proofs.NotesLemmas.{AreFew, few-begins, notes-are}
+use Rattle.net_rounds.proofs.NotesLemmas.{FewNotes, few-begins, notes-are}
 use Rattle.net_rounds.proofs.Pair.{Pair, decided, moved, pair_after}
 use Rattle.net_rounds.proofs.PairLemmas.{PairHolds, can-manager, can-memory, pair-holds}
 use Rattle.net_rounds.proofs.TouchedLemmas.{touched-ascending, touched-kept}
@@ -38,16 +36,15 @@ ram-config = record { bus = refl; base = refl; size = refl; end = lit≤ tt }
 
 pub built_in-holds : (script : List ScriptItem) → IsTraffic script → PairHolds (built_in_pair script)
 built_in-holds script traffic =
-    let manager = manager-begins script 0 4 traffic.is_script refl (words-legal script 4 refl traffic.words) in
+    let manager = manager-begins script 0 4 traffic.is_script refl traffic.legal in
     record {
       manager = manager;
-      words = traffic.words;
       lower = refl;
       bus = refl;
       memory = new-is_memory ram 0 (touched_lines script) ram-config (touched-ascending script);
       upper = refl;
-      lines = touched-kept (new_manager script 0 4) manager traffic.words refl;
-      link = record { aw = All-nil (IsWholeWord 4); aw_lines = All-nil (AreLinesAmong ram (touched_lines script)); ar = All-nil (IsWholeWord 4); w = All-nil (λ (w : WBeat). w.strobe < 2 ^ 4) };
+      lines = touched-kept (new_manager script 0 4) manager;
+      link = record { aw = All-nil (IsRequest 4); aw_lines = All-nil (AreLinesAmong ram (touched_lines script)); ar = All-nil (IsRequest 4); w = All-nil (λ (w : WBeat). w.strobe < 2 ^ 4) };
       few = few-begins script 0 4;
     }
 
@@ -97,7 +94,7 @@ standing-network script true rounds = ap (after_decide (suc rounds)) (after_roun
 -- the manager of a pair is one, whether the nodes have decided or not
 record HasGoodManager (p : Pair) : Type 0 where
   manager : IsManager p.manager.state
-  few : All AreFew p.manager.state.answers
+  few : FewNotes p.manager.state
 
 standing-manager : (script : List ScriptItem) → IsTraffic script → (b : Bool) (rounds : ℕ) → HasGoodManager (standing_pair b rounds (built_in_pair script))
 standing-manager script traffic false rounds = let holds = rounds-hold script traffic rounds in record { manager = holds.manager; few = holds.few }
@@ -243,12 +240,10 @@ net-made script nodes links ends most m r l lines nodes_are m_is r_is lines_are 
     ∙ ap (made (Manager (opened (new_manager script 0 4)) ∷ Memory (opened (new_memory ram 0 (touched_lines script))) ∷ []) (empty_link 2 ∷ []) (record { upper = 0; lower = 1 } ∷ [])) most_is
 
 -- it stands at its opening state
-pub net-opens : (script : List ScriptItem) → IsTraffic script → length script < 2 ^ 32 → IsNet (record { network = built_in script; rounds = 0; decided = false; most = bound script })
+pub net-opens : (script : List ScriptItem) → IsTraffic script → IsNet (record { network = built_in script; rounds = 0; decided = false; most = bound script })
 unfolding built_in
-net-opens script traffic short =
-    let all = bound-words script traffic.words in
-    let little : bound script < 2 ^ 62 = omega arith in
-    record { stands = refl; traffic = traffic; counted = lit< tt; begun = λ never. absurd (cc); bounded = refl; little = little }
+net-opens script traffic =
+    record { stands = refl; traffic = traffic; counted = lit< tt; begun = λ never. absurd (cc); bounded = refl; little = bound-little script traffic }
 
 -- what a manager's node holds
 manager_in : Acted ManagerState → Node → Acted ManagerState

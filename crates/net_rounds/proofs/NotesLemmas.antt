@@ -1,32 +1,35 @@
 -- What a manager notes stays short, and once all is done every answer is there.
-use Rattle.std.proofs.Common.{◌≡◌, ◌<◌, ◌≤◌, ◌+◌, ◌-◌, ◌∷◌, [], ◌++◌, ℕ, suc, List, Option, Some, None, Bool, true, false, cond, length, get_or, refl, sym, ap, ◌∙◌, subst, arith, length-append}
+use Rattle.std.proofs.Common.{◌≡◌, ◌<◌, ◌≤◌, ◌+◌, ◌-◌, ◌*◌, ◌/◌, ◌∷◌, [], ℕ, suc, List, Some, Bool, true, false, cond, length, refl, sym, ap, ◌∙◌, subst, arith, length-append}
 use Rattle.std.specs.Prelude.{All, count_by, drop, fold, slice_get}
-use Rattle.std.proofs.Common.{inl, inr}
 use Rattle.std.specs.List.{AllByRecursion}
-use Rattle.std.proofs.lemmas.Bool.{cases_eq, eqb-true}
-use Rattle.std.proofs.lemmas.List.{get_or-set_other, get_or-set_same, length-set, length-take}
-use Rattle.std.proofs.lemmas.List.Elements.{All-from_recursion, All-map}
-use Rattle.axi_beats.specs.Word.{IsWholeWord}
-use Rattle.axi_beats.specs.declared.beat.BBeat.{BBeat}
-use Rattle.axi_beats.specs.declared.beat.RBeat.{RBeat}
+use Rattle.std.proofs.lemmas.Bool.{eqb-true, ltb-true}
+use Rattle.std.proofs.lemmas.List.{get_or-map, length-take}
+use Rattle.std.proofs.lemmas.List.Elements.{All-from_recursion}
+use Rattle.std.proofs.lemmas.List.FromFn.{length-range_with_len}
+use Rattle.std.proofs.lemmas.Option.{get_or_from_slice_get, same_Some, slice_get_within}
+use Rattle.std.proofs.Math.Nat.{pow-le-pow_right}
+use Rattle.axi_beats.specs.Word.{IsBusWidth}
+use Rattle.axi_beats.specs.declared.beat.Addr.{Addr}
+use Rattle.axi_beats.specs.declared.beat.Burst.{Burst}
+use Rattle.axi_beats.specs.declared.beat.Burst.TheVariants.{Fixed, Incr, Wrap}
 use Rattle.axi_beats.specs.declared.response.Resp.{Resp}
 use Rattle.axi_link.specs.LinkView.{LinkView}
-use Rattle.burst_address.proofs.Beats.{upper-below}
-use Rattle.burst_address.specs.Bytes.{bytes_before}
-use Rattle.burst_address.specs.Formulas.{beat_at, size_of}
-use Rattle.manager_end.specs.Answer.{AnswerView, answered_in, awaited_of, issued_in, noted, unanswered}
+use Rattle.burst_address.proofs.Beats.{incr-bytes}
+use Rattle.burst_address.proofs.Legality.{legal-length, legal-page, wrap_length}
+use Rattle.burst_address.specs.Bytes.{beat_bytes, burst_bytes, bytes_before}
+use Rattle.burst_address.specs.Formulas.{aligned, beats_of, size_of}
+use Rattle.burst_address.specs.Legal.{IsLegal, is_in_page, is_length_of}
+use Rattle.manager_end.specs.Answer.{AnswerView, answered_in, awaited_of, unanswered}
 use Rattle.manager_end.specs.Beats.{high_lane, low_lane, valid_lanes}
+use Rattle.manager_end.specs.ManagerOrder.{note_at}
 use Rattle.manager_end.specs.ManagerState.{IsDue, IsManager, ManagerState, due_bytes, due_resps, is_answered, is_done, new_manager}
-use Rattle.manager_end.specs.ManagerTable.{manager_ar, manager_aw, manager_b, manager_next, manager_r, note_issue, note_read, note_write, read_in}
+use Rattle.manager_end.specs.ManagerTable.{manager_next}
 use Rattle.manager_end.specs.Script.{ScriptItem}
-use Rattle.manager_end.specs.declared.entry.Entry.{Entry}
-use Rattle.manager_end.proofs.BurstLemmas.{bus-most}
-use Rattle.manager_end.proofs.DueLemmas.{read-is}
-use Rattle.manager_end.proofs.ManagerLaws.{after-b}
-use Rattle.manager_end.proofs.NoteLemmas.{b-taken, taken-waits}
+use Rattle.manager_end.proofs.BurstLemmas.{beat-within, bytes-most, lane-count, lane-order}
+use Rattle.manager_end.proofs.NoteLemmas.{b-taken, change-of, r-taken, taken-waits}
+use Rattle.manager_end.proofs.NoteLemmas.Change.{Issued, Kept, Read, Wrote}
 use Rattle.manager_end.proofs.NumberLemmas.{at-all}
-use Rattle.manager_end.proofs.RowLemmas.{r-found}
-use Rattle.manager_end.proofs.WaitingLemmas.{All-oldest}
+use Rattle.manager_end.proofs.ScriptLemmas.{script-item}
 use Rattle.net_rounds.specs.Notes.{AreNotes}
 
 -- ---- counting: where as many pass as there are, all pass
@@ -60,88 +63,126 @@ done-answered s m done =
 
 -- ---- what is noted stays short
 
--- at most two responses and 128 bytes: what comes for a transaction is one response, with a word's bytes
-pub record AreFew (a : AnswerView) : Type 0 where
-  pub responses : length a.resps ≤ 2
-  pub bytes : length a.bytes ≤ 128
+-- no more responses and bytes than are due of its transaction
+pub record AreFew (item : ScriptItem) (a : AnswerView) : Type 0 where
+  pub responses : length a.resps ≤ due_resps item.txn
+  pub bytes : length a.bytes ≤ due_bytes item.txn
 
-noted-all :
-    (P : AnswerView → Type 0) (change : AnswerView → AnswerView) (answers : List AnswerView) (place : ℕ) → All P answers →
-    (place < length answers → P (change (get_or answers place (unanswered 0)))) → All P (noted place change answers)
-noted-all P change answers place all changed k d lt =
-    let within : k < length answers = subst (λ (n : ℕ). k < n) (length-set answers place (change (get_or answers place (unanswered 0)))) lt in
-    elim (cases_eq k place) [
-      | inl same ↦
-          let there : place < length answers = subst (λ (n : ℕ). n < length answers) same within in
-          subst P (sym (ap (λ (n : ℕ). get_or (noted place change answers) n d) same ∙ get_or-set_same answers place _ d there)) (changed there)
-      | inr other ↦ subst P (sym (get_or-set_other answers place k _ d other)) (all k d within)
-    ]
+-- so it is of each transaction of a script
+abbrev pub FewNotes : ManagerState → Type 0
+FewNotes s = (place : ℕ) (item : ScriptItem) → slice_get s.script place ≡ Some item → AreFew item (note_at s place)
 
--- one more response, with bytes
-few-more : (round : ℕ) (resp : Resp) (bytes : List ℕ) (a : AnswerView) → length bytes ≤ 128 → length a.resps ≤ 1 → length a.bytes ≤ 0 → AreFew (answered_in round resp bytes a)
-few-more round resp bytes a most one none = record {
-  responses = omega (arith, length-append a.resps (resp ∷ []), one);
-  bytes = omega (arith, length-append a.bytes bytes, most, none);
+-- one more response, where it and its bytes are due
+more-few : (round : ℕ) (resp : Resp) (bytes : List ℕ) (item : ScriptItem) (a : AnswerView) → length a.resps < due_resps item.txn → length a.bytes + length bytes ≤ due_bytes item.txn → AreFew item (answered_in round resp bytes a)
+more-few round resp bytes item a more room = record {
+  responses = omega (arith, length-append a.resps (resp ∷ []), more);
+  bytes = omega (arith, length-append a.bytes bytes, room);
 }
 
--- of a write that waits nothing came
-write-fresh : (script : List ScriptItem) (place : ℕ) (a : AnswerView) → IsDue script true place a → (length a.resps ≤ 1) × (length a.bytes ≤ 0)
-write-fresh script place a due =
-    let one : a.due_resps ≡ 1 = due.due_resps ∙ ap (λ (b : Bool). cond b 1 (due.item.txn.request.len + 1)) due.direction in
-    let none : length a.bytes ≤ 0 = subst (λ (b : Bool). length a.bytes ≤ cond b 0 (length (bytes_before due.item.txn.request (length a.resps)))) due.direction due.bytes in
-    (omega (arith, one, due.more), none)
+-- the transaction of which answers are due is the one at its place
+due-item : (script : List ScriptItem) (write : Bool) (place : ℕ) (a : AnswerView) (item : ScriptItem) → slice_get script place ≡ Some item → (due : IsDue script write place a) → due.item ≡ item
+due-item script write place a item at due = same_Some due.item item (sym due.at ∙ at)
 
--- nor of a read of a word
-read-fresh : (script : List ScriptItem) (place : ℕ) (a : AnswerView) → (due : IsDue script false place a) → due.item.txn.request.len ≡ 0 → (length a.resps ≤ 1) × (length a.bytes ≤ 0)
-read-fresh script place a due single =
-    let one : a.due_resps ≡ due.item.txn.request.len + 1 = due.due_resps ∙ ap (λ (b : Bool). cond b 1 (due.item.txn.request.len + 1)) due.direction in
-    let came : length a.resps ≡ 0 = omega (arith, one, due.more, single) in
-    let bytes : length a.bytes ≤ length (bytes_before due.item.txn.request (length a.resps)) = subst (λ (b : Bool). length a.bytes ≤ cond b 0 (length (bytes_before due.item.txn.request (length a.resps)))) due.direction due.bytes in
-    (omega (arith, came), subst (λ (n : ℕ). length a.bytes ≤ length (bytes_before due.item.txn.request n)) came bytes)
+-- a response to a write
+write-few : (script : List ScriptItem) (round place : ℕ) (resp : Resp) (item : ScriptItem) (a : AnswerView) → slice_get script place ≡ Some item → IsDue script true place a → AreFew item a → AreFew item (answered_in round resp [] a)
+write-few script round place resp item a at due few =
+    let resps : a.due_resps ≡ due_resps item.txn = due.due_resps ∙ ap (λ (i : ScriptItem). due_resps i.txn) (due-item script true place a item at due) in
+    more-few round resp [] item a (omega (arith, resps, due.more)) (omega (arith, few.bytes))
 
-issue-few : (round : ℕ) (o : Option (ℕ × ScriptItem)) (answers : List AnswerView) → All AreFew answers → All AreFew (note_issue round o answers)
-issue-few round None answers all = all
-issue-few round (Some next) answers all =
-    noted-all AreFew (issued_in round) answers next.0 all (λ within.
-    let was = all next.0 (unanswered 0) within in
-    record { responses = was.responses; bytes = was.bytes })
+-- the bytes of the valid lanes are those of the beat, at most
+lanes-most : (bus n : ℕ) (request : Addr) (lanes : List ℕ) → IsBusWidth bus → IsLegal request bus → length (valid_lanes bus request n lanes) ≤ length (beat_bytes request n)
+lanes-most bus n request lanes wide legal =
+    let count = lane-count request bus n wide legal in
+    let order = lane-order request bus n wide legal in
+    let taken = length-take (high_lane bus request n + 1 - low_lane bus request n) (drop (low_lane bus request n) lanes) in
+    omega (arith, count, order, taken)
 
-module _ (round : ℕ) (links : List LinkView) (s : ManagerState) (counts : 0 < round) (m : IsManager s) (words : All (λ (item : ScriptItem). IsWholeWord s.bus item.txn.request) s.script) (all : All AreFew s.answers) where
-  write-few : (o : Option (Entry × BBeat)) → manager_b links s ≡ o → All AreFew (note_write round o s.answers)
-  write-few None is = all
-  write-few (Some x) is =
-      let fresh = write-fresh s.script x.0.place (get_or s.answers x.0.place (unanswered 0)) (taken-waits links s m true x.0 (b-taken links s m x is)) in
-      noted-all AreFew (answered_in round x.1.resp []) s.answers x.0.place all (λ within. few-more round x.1.resp [] (get_or s.answers x.0.place (unanswered 0)) (omega arith) fresh.0 fresh.1)
+-- a beat of a read
+read-few :
+    (script : List ScriptItem) (round place bus : ℕ) (resp : Resp) (lanes : List ℕ) (item : ScriptItem) (a : AnswerView) → IsBusWidth bus → IsLegal item.txn.request bus → slice_get script place ≡ Some item →
+    IsDue script false place a → AreFew item (answered_in round resp (valid_lanes bus item.txn.request (length a.resps) lanes) a)
+read-few script round place bus resp lanes item a wide legal at due =
+    let request = item.txn.request in
+    let n = length a.resps in
+    let same = due-item script false place a item at due in
+    let reads : item.txn.write ≡ false = ap (λ (i : ScriptItem). i.txn.write) (sym same) ∙ due.direction in
+    let resps : a.due_resps ≡ request.len + 1 = due.due_resps ∙ ap (λ (i : ScriptItem). due_resps i.txn) same ∙ ap (λ (w : Bool). cond w 1 (request.len + 1)) reads in
+    let came : length a.bytes ≤ length (bytes_before request n) =
+    subst (λ (w : Bool). length a.bytes ≤ cond w 0 (length (bytes_before request n))) reads
+    (subst (λ (i : ScriptItem). length a.bytes ≤ cond i.txn.write 0 (length (bytes_before i.txn.request n))) same due.bytes) in
+    let within = beat-within request n (omega (arith, resps, due.more)) in
+    let most = lanes-most bus n request lanes wide legal in
+    let room : length a.bytes + length (valid_lanes bus request n lanes) ≤ length (burst_bytes request) = omega (arith, came, within, most) in
+    more-few round resp (valid_lanes bus request n lanes) item a
+    (subst (λ (w : Bool). n < cond w 1 (request.len + 1)) (sym reads) (omega (arith, resps, due.more)))
+    (subst (λ (w : Bool). length a.bytes + length (valid_lanes bus request n lanes) ≤ cond w 0 (length (burst_bytes request))) (sym reads) room)
 
-  read-few : (o : Option (Entry × RBeat)) → manager_r links s ≡ o → All AreFew (note_write round (manager_b links s) s.answers) → All AreFew (note_read round s.bus s.script o (note_write round (manager_b links s) s.answers))
-  read-few None is written = written
-  read-few (Some x) is written =
-      let answers = note_write round (manager_b links s) s.answers in
-      let note = get_or (note_write round (manager_b links s) s.answers) x.0.place (unanswered 0) in
-      let due = All-oldest (λ p. IsDue s.script false p (get_or (note_write round (manager_b links s) s.answers) p (unanswered 0))) x.0.id s.read_entries _ x.0 (r-found links s x is) (after-b links s round counts m).other_waiting.due in
-      let word = at-all (λ (item : ScriptItem). IsWholeWord s.bus item.txn.request) s.script x.0.place due.item words due.at in
-      let fresh = read-fresh s.script x.0.place note due word.one_beat in
-      let taken = length-take (high_lane s.bus due.item.txn.request (length note.resps) + 1 - low_lane s.bus due.item.txn.request (length note.resps)) (drop (low_lane s.bus due.item.txn.request (length note.resps)) x.1.lanes) in
-      let most = bus-most s.bus m.bus_width in
-      let high = upper-below (size_of due.item.txn.request) s.bus (beat_at due.item.txn.request (length note.resps)) m.bus_width in
-      let short : length (valid_lanes s.bus due.item.txn.request (length note.resps) x.1.lanes) ≤ 128 = omega (arith, taken, most, high) in
-      noted-all AreFew (read_in round s.bus (slice_get s.script x.0.place) x.1) answers x.0.place written
-      (λ within. subst AreFew (sym (read-is s.script x.0.place round s.bus x.1 note due.item due.at)) (few-more round x.1.resp (valid_lanes s.bus due.item.txn.request (length note.resps) x.1.lanes) note short fresh.0 fresh.1))
-
-  -- a round keeps it
-  pub few-keeps : All AreFew (manager_next round links s).answers
-  few-keeps =
-      issue-few round (manager_ar links s) _ (issue-few round (manager_aw links s) _
-      (read-few (manager_r links s) refl (write-few (manager_b links s) refl)))
+-- a round keeps it
+pub few-keeps : (round : ℕ) (links : List LinkView) (s : ManagerState) → IsManager s → FewNotes s → FewNotes (manager_next round links s)
+few-keeps round links s m few place item at =
+    let was : AreFew item (note_at s place) = few place item at in
+    elim (change-of links s round place m) [
+      | Kept same ↦ subst (AreFew item) (sym same) was
+      | Wrote x is here same ↦
+          let due : IsDue s.script true place (note_at s place) = subst (λ (q : ℕ). IsDue s.script true q (note_at s q)) (sym here) (taken-waits links s m true x.0 (b-taken links s m x is)) in
+          subst (AreFew item) (sym same) (write-few s.script round place x.1.resp item (note_at s place) at due was)
+      | Read x is here other there same ↦
+          let due : IsDue s.script false place (note_at s place) = subst (λ (q : ℕ). IsDue s.script false q (note_at s q)) (sym here) (taken-waits links s m false x.0 (r-taken links s m x is)) in
+          let legal = at-all (λ (i : ScriptItem). IsLegal i.txn.request s.bus) s.script place other m.legal there in
+          let equal : other ≡ item = same_Some other item (sym there ∙ at) in
+          subst (AreFew item) (sym same) (subst (λ (i : ScriptItem). AreFew i (answered_in round x.1.resp (valid_lanes s.bus other.txn.request (length (note_at s place).resps) x.1.lanes) (note_at s place))) equal
+          (read-few s.script round place s.bus x.1.resp x.1.lanes other (note_at s place) m.bus_width legal there due))
+      | Issued write p is here same ↦ subst (AreFew item) (sym same) (record { responses = was.responses; bytes = was.bytes })
+    ]
 
 -- nothing is noted at first
-pub few-begins : (script : List ScriptItem) (lower bus : ℕ) → All AreFew (new_manager script lower bus).answers
-few-begins script lower bus =
-    All-map AreFew (λ (item : ScriptItem). awaited_of (due_resps item.txn) (due_bytes item.txn)) script (λ k d lt. record { responses = omega arith; bytes = omega arith })
+pub few-begins : (script : List ScriptItem) (lower bus : ℕ) → FewNotes (new_manager script lower bus)
+few-begins script lower bus place item at =
+    let new : ScriptItem → AnswerView = λ item. awaited_of (due_resps item.txn) (due_bytes item.txn) in
+    let within = slice_get_within script place item at in
+    let is : note_at (new_manager script lower bus) place ≡ new item = get_or-map new script place item (unanswered 0) within ∙ ap new (get_or_from_slice_get script place item item at) in
+    subst (AreFew item) (sym is) (record { responses = omega arith; bytes = omega arith })
 
-pub notes-are : (s : ManagerState) → IsManager s → All AreFew s.answers → AreNotes s
+-- ---- a burst has no more bytes than a page
+
+-- FIXED and WRAP have few beats
+sixteen-beats : (a : Addr) → IsLegal a 128 → beats_of a ≤ 16 → length (burst_bytes a) ≤ 4096
+sixteen-beats a legal few = omega (arith, bytes-most a (beats_of a) legal, few)
+
+page-most : (a : Addr) (kind : Burst) → IsLegal a 128 → a.burst ≡ kind → is_length_of kind (beats_of a) ≡ true → is_in_page kind (size_of a) (beats_of a) a.addr ≡ true → length (burst_bytes a) ≤ 4096
+page-most a Fixed legal is few page = sixteen-beats a legal (omega (arith, ltb-true (beats_of a) 17 few))
+page-most a Incr legal is few page =
+    let end : ℕ = aligned (size_of a) a.addr + beats_of a * size_of a in
+    let one : a.addr / 4096 ≡ (end - 1) / 4096 = eqb-true (a.addr / 4096) ((end - 1) / 4096) page in
+    let long : length (burst_bytes a) ≡ end - a.addr = ap length (incr-bytes a is) ∙ length-range_with_len a.addr (end - a.addr) in
+    omega (arith, one, long)
+page-most a Wrap legal is few page =
+    let power = wrap_length (beats_of a) few in
+    let most = pow-le-pow_right {n = 2} (omega arith) {i = power.0} {j = 4} power.2 in
+    sixteen-beats a legal (omega (arith, power.1, most))
+
+pub burst-most : (a : Addr) → IsLegal a 128 → length (burst_bytes a) ≤ 4096
+burst-most a legal = page-most a a.burst legal refl (legal-length a 128 legal) (legal-page a 128 legal)
+
+-- ---- so what is noted is short
+
+resps-most : (write : Bool) (len : ℕ) → cond write 1 (len + 1) ≤ len + 1
+resps-most true len = omega arith
+resps-most false len = omega arith
+
+bytes-due : (write : Bool) (n : ℕ) → n ≤ 4096 → cond write 0 n ≤ 4096
+bytes-due true n most = omega arith
+bytes-due false n most = most
+
+pub notes-are : (s : ManagerState) → IsManager s → FewNotes s → AreNotes s
 notes-are s m few = record {
   one_each = m.one_each;
-  short = λ k d lt. let a = few k d lt in record { responses = omega (arith, a.responses); bytes = omega (arith, a.bytes) };
+  short = λ place item a at noted.
+      let was : AreFew item a = subst (AreFew item) (get_or_from_slice_get s.answers place a (unanswered 0) noted) (few place item at) in
+      let can = script-item s.script place item m.is_script at in
+      record {
+        responses = omega (arith, was.responses, resps-most item.txn.write item.txn.request.len);
+        bytes = omega (arith, was.bytes, bytes-due item.txn.write (length (burst_bytes item.txn.request)) (burst-most item.txn.request can.legal));
+      };
   whole = done-answered s m;
 }

@@ -11,7 +11,6 @@ use Rattle.axi_trail.proofs.TrailFacts.{links_are_queues}
 use Rattle.axi_trail.specs.LinkContracts.{Answers, Asks}
 use Rattle.axi_trail.specs.Schedule.{Grows, Progress}
 use Rattle.axi_trail.specs.Trail.{Beats, IsLinkRun, joined, moved_above, moved_below}
-use Rattle.manager_end.proofs.WordLemmas.{words-legal}
 use Rattle.manager_end.specs.Answer.{AnswerView, unanswered}
 use Rattle.manager_end.specs.ManagerOrder.{IsAt, note_at}
 use Rattle.manager_end.specs.ManagerTable.{manager_out}
@@ -135,7 +134,7 @@ module _ (laws : NodeLaws) (script : List ScriptItem) (traffic : IsNumberedTraff
 
   nodes-keep : (n : ℕ) → NodesKeep script n
   nodes-keep zero = record {
-    manager = laws.manager_opens (plan_of script) script 0 4 traffic.traffic.is_script refl (words-legal script 4 refl traffic.traffic.words) (plan-of-script script traffic);
+    manager = laws.manager_opens (plan_of script) script 0 4 traffic.traffic.is_script refl traffic.traffic.legal (plan-of-script script traffic);
     memory = laws.memory_opens (plan_of script) ram 0 (touched_lines script) ram-config (touched-ascending script) (plan-suits script traffic);
   }
   nodes-keep (suc n) = let keeps = nodes-keep n in record { manager = manager-next n keeps; memory = memory-next n keeps }

@@ -1,13 +1,50 @@
--- One more transaction of a script, and one more line.
-use Rattle.std.proofs.Common.{◌≡◌, ◌<◌, ◌+◌, ◌∷◌, [], ◌++◌, ℕ, zero, suc, List, Option, Some, None, Bool, true, false, cond, length, take, filter, get_or, append-nil, refl, ap, ◌∙◌, arith}
-use Rattle.std.specs.Prelude.{◌||◌, option_map, slice_get, unwrap_or}
+-- One more beat of a burst, one more transaction of a script, and one more line.
+use Rattle.std.proofs.Common.{◌≡◌, ◌≢◌, ◌<◌, ◌+◌, ◌∷◌, [], ◌++◌, ℕ, List, Option, Some, None, Bool, true, false, cond, inl, inr, length, take, filter, get_or, append-nil, zero-add, refl, sym, ap, subst, ◌∙◌, eq-eqb}
+use Rattle.std.specs.Prelude.{◌==◌, ◌&&◌, ◌||◌, option_map, slice_get, slice_set, unwrap_or}
 use Rattle.std.specs.List.{list_any, range_with_len}
-use Rattle.std.proofs.lemmas.List.Folds.{list_any_at, list_any_more}
+use Rattle.std.proofs.Math.Bool.{or-false}
+use Rattle.std.proofs.lemmas.Bool.{cases_eq, ne_eqb, or_right}
+use Rattle.std.proofs.lemmas.List.{get_or-set_other, get_or-set_same}
+use Rattle.std.proofs.lemmas.List.Folds.{list_any-append, list_any_more}
 use Rattle.std.proofs.lemmas.List.Elements.{filter-append}
-use Rattle.std.proofs.lemmas.Option.{get_or_from_slice_get}
-use Rattle.manager_end.specs.Script.{ScriptItem}
+use Rattle.std.proofs.lemmas.Option.{get_or_from_slice_get, slice_get-get_or}
+use Rattle.axi_beats.specs.declared.beat.Addr.{Addr}
+use Rattle.burst_address.specs.Formulas.{beat_at, beats_of}
+use Rattle.manager_end.proofs.ScriptLemmas.{script-item}
+use Rattle.manager_end.specs.Script.{IsScript, ScriptItem}
 use Rattle.manager_end.specs.declared.script.Txn.{Txn}
-use Rattle.net_rounds.specs.BuiltIn.{is_touched_by, lines_below, touches_line}
+use Rattle.memory_end.proofs.ListLemmas.{range-more}
+use Rattle.memory_end.specs.MemoryState.{IsRequest}
+use Rattle.memory_end.specs.Store.{line_of}
+use Rattle.net_rounds.specs.BuiltIn.{is_touched_by, lines_below, reaches_line, touches_line}
+
+-- ---- one more beat of a burst
+
+-- it reaches the line, or one before it does
+pub reaches-more : (line : ℕ) (request : Addr) (beat : ℕ) → reaches_line line request (beat + 1) ≡ (reaches_line line request beat || (line_of (beat_at request beat) == line))
+reaches-more line request beat =
+    let here : ℕ → Bool = λ n. line_of (beat_at request n) == line in
+    ap (list_any here) (range-more 0 beat) ∙ list_any-append here (range_with_len 0 beat) ((0 + beat) ∷ [])
+    ∙ ap (λ b. reaches_line line request beat || b) (or-false (here (0 + beat)) ∙ ap here (zero-add beat))
+
+-- another line's flag stays
+pub flag-kept : (at line : ℕ) (was seen flag : Bool) → at ≢ line → flag ≡ (was || seen) → flag ≡ (was || (seen || (at == line)))
+flag-kept at line was seen flag other is =
+    is ∙ ap (λ b. was || b) (sym (or-false seen)) ∙ ap (λ b. was || (seen || b)) (sym (ne_eqb at line other))
+
+-- and the line's own one is set
+pub flag-marked :
+    (flags : List Bool) (at line : ℕ) (was seen : Bool) → at < length flags → get_or flags line false ≡ (was || seen) →
+    get_or (slice_set flags at true) line false ≡ (was || (seen || (at == line)))
+flag-marked flags at line was seen within is =
+    elim (cases_eq at line) [
+      | inl same ↦
+          ap (λ l. get_or (slice_set flags at true) l false) (sym same) ∙ get_or-set_same flags at true false within
+          ∙ sym (or_right was (seen || (at == line)) (or_right seen (at == line) (eq-eqb at line same)))
+      | inr other ↦ get_or-set_other flags at line true false (λ same. other (sym same)) ∙ flag-kept at line was seen (get_or flags line false) other is
+    ]
+
+-- ---- one more transaction of a script
 
 -- the transaction at a place, whose item is there
 pub record IsAt (script : List ScriptItem) (place : ℕ) (txn : Txn) : Type 0 where
@@ -30,26 +67,37 @@ at_place script place txn within is =
     ]
     in go (slice_get script place) refl is
 
--- it touches the line, so the script does
-pub touched-here : (script : List ScriptItem) (place line : ℕ) (txn : Txn) → IsAt script place txn → touches_line line txn ≡ true → list_any (is_touched_by line) script ≡ true
-touched-here script place line txn at touches =
-    list_any_at (is_touched_by line) script place at.item at.within (ap (is_touched_by line) at.item_is ∙ ap (touches_line line) at.txn_is ∙ touches)
+-- its request is one that a memory on the widest bus can do
+pub script-request : (script : List ScriptItem) (place : ℕ) (txn : Txn) → IsScript script → IsAt script place txn → IsRequest 128 txn.request
+script-request script place txn pushed at =
+    let found : slice_get script place ≡ Some at.item = slice_get-get_or script place at.item at.within ∙ ap (λ (item : ScriptItem). Some item) at.item_is in
+    let can = script-item script place at.item pushed found in
+    subst (λ (t : Txn). IsRequest 128 t.request) at.txn_is (record { legal = can.legal; small = can.start })
 
--- it doesn't, so no transaction up to it does
-pub untouched-more :
-    (script : List ScriptItem) (place line : ℕ) (txn : Txn) → IsAt script place txn → touches_line line txn ≡ false → list_any (is_touched_by line) (take place script) ≡ false →
-    list_any (is_touched_by line) (take (place + 1) script) ≡ false
-untouched-more script place line txn at touches before =
-    let here : is_touched_by line (get_or script place at.item) ≡ false = ap (is_touched_by line) at.item_is ∙ ap (touches_line line) at.txn_is ∙ touches in
-    list_any_more (is_touched_by line) script place at.item at.within ∙ ap (λ b. b || is_touched_by line (get_or script place at.item)) before ∙ here
+-- the flags of the transactions up to it: a write sets those of its lines
+pub touched-more :
+    (script : List ScriptItem) (place line : ℕ) (txn : Txn) → IsAt script place txn →
+    list_any (is_touched_by line) (take (place + 1) script) ≡ (list_any (is_touched_by line) (take place script) || touches_line line txn)
+touched-more script place line txn at =
+    list_any_more (is_touched_by line) script place at.item at.within
+    ∙ ap (λ b. list_any (is_touched_by line) (take place script) || b) (ap (is_touched_by line) at.item_is ∙ ap (touches_line line) at.txn_is)
 
-range-more : (a n : ℕ) → range_with_len a (suc n) ≡ range_with_len a n ++ (a + n) ∷ []
-range-more a zero =
-    let here : a ≡ a + 0 = omega arith in
-    ap (λ k. k ∷ []) here
-range-more a (suc n) =
-    let index : (a + 1) + n ≡ a + suc n = omega arith in
-    ap (λ ks. a ∷ ks) (range-more (a + 1) n) ∙ ap (λ k. a ∷ (range_with_len (a + 1) n ++ k ∷ [])) index
+pub touched-write :
+    (script : List ScriptItem) (place line : ℕ) (txn : Txn) → IsAt script place txn → txn.write ≡ true →
+    list_any (is_touched_by line) (take (place + 1) script) ≡ (list_any (is_touched_by line) (take place script) || reaches_line line txn.request (beats_of txn.request))
+touched-write script place line txn at write =
+    touched-more script place line txn at
+    ∙ ap (λ b. list_any (is_touched_by line) (take place script) || (b && reaches_line line txn.request (beats_of txn.request))) write
+
+pub touched-read :
+    (script : List ScriptItem) (place line : ℕ) (txn : Txn) → IsAt script place txn → txn.write ≡ false →
+    list_any (is_touched_by line) (take (place + 1) script) ≡ list_any (is_touched_by line) (take place script)
+touched-read script place line txn at read =
+    touched-more script place line txn at
+    ∙ ap (λ b. list_any (is_touched_by line) (take place script) || (b && reaches_line line txn.request (beats_of txn.request))) read
+    ∙ or-false (list_any (is_touched_by line) (take place script))
+
+-- ---- one more line
 
 -- one more line
 pub lines_below-more :
@@ -57,10 +105,8 @@ pub lines_below-more :
     lines_below (line + 1) script ≡ lines_below line script ++ cond (list_any (is_touched_by line) script) (line ∷ []) []
 lines_below-more line script =
     let test : ℕ → Bool = λ l. list_any (is_touched_by l) script in
-    let next : line + 1 ≡ suc line = omega arith in
-    let last : 0 + line ≡ line = omega arith in
-    ap (λ count. lines_below count script) next ∙ ap (filter test) (range-more 0 line) ∙ filter-append test (range_with_len 0 line) ((0 + line) ∷ [])
-    ∙ ap (λ l. lines_below line script ++ filter test (l ∷ [])) last
+    ap (filter test) (range-more 0 line) ∙ filter-append test (range_with_len 0 line) ((0 + line) ∷ [])
+    ∙ ap (λ l. lines_below line script ++ filter test (l ∷ [])) (zero-add line)
 
 -- a line that is touched is the next one that is kept
 pub line-kept : (line : ℕ) (script : List ScriptItem) → list_any (is_touched_by line) script ≡ true → lines_below (line + 1) script ≡ lines_below line script ++ line ∷ []

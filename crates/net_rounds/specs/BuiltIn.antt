@@ -1,7 +1,7 @@
 -- The built-in network: manager `m` on a bus of 4 bytes with IDs of 4 bits, memory `ram` of 8192
 -- bytes from address 0 on that holds 0 where nothing was written, and one link of depth 2 between
 -- them. Nothing delays.
-use Rattle.std.specs.Prelude.{◌==◌, ◌<◌, ◌+◌, ◌*◌, ◌/◌, ◌^◌, ◌&&◌, ◌∷◌, [], ℕ, Bool, List, All, Option, Some, None, filter, max, sum_by}
+use Rattle.std.specs.Prelude.{◌==◌, ◌*◌, ◌/◌, ◌&&◌, ◌∷◌, [], ℕ, Bool, List, All, Option, Some, None, filter, max, sum_by}
 use Rattle.std.specs.List.{list_any, range_with_len}
 use Rattle.axi_beats.specs.declared.beat.Addr.{Addr}
 use Rattle.axi_link.specs.Acted.{opened}
@@ -21,9 +21,13 @@ use Rattle.net_rounds.specs.Network.{Network}
 abbrev pub ram : MemoryConfig
 ram = record { base = 0; size = 8192; bus = 4; fill = 0 }
 
--- a transaction writes a beat on this line of 128 bytes: the bytes of a beat lie in one line
+-- one of the first beats of a burst lies on this line of 128 bytes: the bytes of a beat lie in one line
+abbrev pub reaches_line : ℕ → Addr → ℕ → Bool
+reaches_line line request beats = list_any (λ n. line_of (beat_at request n) == line) (range_with_len 0 beats)
+
+-- a transaction writes a beat on this line
 abbrev pub touches_line : ℕ → Txn → Bool
-touches_line line txn = txn.write && list_any (λ n. line_of (beat_at txn.request n) == line) (range_with_len 0 (beats_of txn.request))
+touches_line line txn = txn.write && reaches_line line txn.request (beats_of txn.request)
 
 abbrev pub is_touched_by : ℕ → ScriptItem → Bool
 is_touched_by line item = touches_line line item.txn

@@ -1,6 +1,6 @@
 -- What is due of the transactions of a script: their bytes, and their responses (Arm IHI 0022, data read and write
 -- structure, read and write response structure).
-use Rattle.std.specs.Prelude.{◌<◌, ◌^◌, ◌∷◌, [], ℕ, List, All, AllPairs, Option, Some, None, map, if◌then◌else◌}
+use Rattle.std.specs.Prelude.{◌<◌, ◌^◌, ◌∷◌, [], ℕ, List, All, AllPairs, Some, None, map, if◌then◌else◌}
 use Rattle.std.specs.List.{range_with_len}
 use Rattle.axi_beats.specs.declared.response.Resp.{Resp}
 use Rattle.axi_history.specs.Records.{Byte, Transaction}

@@ -1,6 +1,7 @@
 //! The most rounds of a run.
 
 ghost use Rattle.std.specs.Prelude.{◌≡◌};
+ghost use Rattle.burst_address.specs.Legal.{IsLegal};
 ghost use Rattle.net_rounds.specs.BuiltIn.{IsTraffic, bound, effort as effort_of};
 
 use axi_beats::Addr;
@@ -21,6 +22,7 @@ pub(crate) fn bound_of(script: &Script) -> u64
 
 /// The effort of a request: its beats, each counted once for every 4 bytes of its width.
 fn effort(request: &Addr) -> u64
+    requires { IsLegal request.now 4 }
     ensures { result ≡ effort_of request.now }
 {
     let words = ((1u64 << request.size) / 4).max(1);

@@ -1,7 +1,10 @@
 //! The lines of the memory that a script may write.
 
-ghost use Rattle.std.specs.Prelude.{◌≡◌, IfOk};
-ghost use Rattle.net_rounds.specs.BuiltIn.{touched_lines as lines_of_writes};
+ghost use Rattle.std.specs.Prelude.{◌≡◌, ◌<◌, ◌^◌, ◌||◌, ℕ, IfOk, false, slice_index_or};
+ghost use Rattle.std.specs.List.{list_any};
+ghost use Rattle.burst_address.specs.Formulas.{beats_of};
+ghost use Rattle.burst_address.specs.Legal.{IsLegal};
+ghost use Rattle.net_rounds.specs.BuiltIn.{is_touched_by, reaches_line, touched_lines as lines_of_writes};
 
 use axi_beats::Addr;
 use burst_address::beat_address;
@@ -27,6 +30,8 @@ pub fn touched_lines(alloc: Global, script: &Script) -> Result<Vec<u64>, AllocEr
 
 /// Which lines the writes of the script touch.
 fn mark_script(script: &Script) -> [bool; LINES]
+    ensures { (line : ℕ) → line < 64 →
+        slice_index_or result line false ≡ list_any (is_touched_by line) script.now }
 {
     let mut touched = [false; LINES];
     for place in 0..script.len() {
@@ -40,6 +45,11 @@ fn mark_script(script: &Script) -> [bool; LINES]
 
 /// Marks the lines on which the beats of a burst lie.
 fn mark_burst(touched: &mut [bool; LINES], request: &Addr)
+    requires start { request.now.addr < 2 ^ 63 }
+    requires legal { IsLegal request.now 128 }
+    ensures { (line : ℕ) → line < 64 →
+        slice_index_or touched.new line false
+        ≡ (slice_index_or touched.old line false || reaches_line line request.now (beats_of request.now)) }
 {
     for beat in 0..u32::from(request.len) + 1 {
         let line = (beat_address(request, beat) / 128) as usize;

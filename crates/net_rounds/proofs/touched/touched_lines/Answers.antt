@@ -1,17 +1,19 @@
-use Rattle.std.proofs.Common.{◌≡◌, ◌++◌, ◌∷◌, [], sym, ap, ◌∙◌, arith}
+use Rattle.std.proofs.Common.{◌≡◌, ◌<◌, ◌++◌, ◌∷◌, [], sym, ap, ◌∙◌, arith}
 use Rattle.net_rounds.proofs.ScriptLemmas.{line-kept, line-passed}
 use Rattle.net_rounds.specs.BuiltIn.{lines_below, touched_lines}
 use Rattle.net_rounds.proofs.touched.touched_lines.Goals as goal
-use Rattle.net_rounds.proofs.touched.touched_lines.Goals.{then-is_touched+in_ok-push, else-is_touched}
+use Rattle.net_rounds.proofs.touched.touched_lines.Goals.{then-touched-line+in_ok-push, else-touched-line}
 
 pub loop-line-preserved : goal.loop-line-preserved
 loop-line-preserved c =
-    elim c.if-is_touched.branch [
-      | then-is_touched+in_ok-push w ↦
-          let kept = line-kept c.loop-line.line c.args.script.now (sym c.is_touched.ensures ∙ w.if-is_touched.true) in
+    let low : c.loop-line.line < 64 = omega arith in
+    let flag = sym (c.mark_script-touched.ensures c.loop-line.line low) in
+    elim c.if-touched-line.branch [
+      | then-touched-line+in_ok-push w ↦
+          let kept = line-kept c.loop-line.line c.args.script.now (flag ∙ w.if-touched-line.true) in
           ap (λ v. v.items) w.lines-is ∙ w.in_ok-push.ensures.items ∙ ap (λ ls. ls ++ c.loop-line.line ∷ []) c.loop-line.invariant ∙ sym kept
-      | else-is_touched w ↦
-          let passed = line-passed c.loop-line.line c.args.script.now (sym c.is_touched.ensures ∙ w.if-is_touched.false) in
+      | else-touched-line w ↦
+          let passed = line-passed c.loop-line.line c.args.script.now (flag ∙ w.if-touched-line.false) in
           ap (λ v. v.items) w.lines-is ∙ c.loop-line.invariant ∙ sym passed
     ]
 
