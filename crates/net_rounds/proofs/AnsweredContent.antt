@@ -108,7 +108,7 @@ module _ (script : List ScriptItem) (run : RunFacts script) (n : ℕ) where
     own-response : (note script n place).resps ≡ response_of ram item
     own-response =
         let among = contains-at script place item at in
-        let own = due-response script run.traffic item among in
+        let own = due-response script run.traffic item among run.laws in
         elim (cases_Bool item.txn.write) [
           | inl writes ↦ written-responses writes ∙ ap (λ (b : Bool). (shares_of (plan_of script) b item.txn.number).responses) (sym writes) ∙ own
           | inr reads ↦ read-responses reads ∙ ap (λ (b : Bool). (shares_of (plan_of script) b item.txn.number).responses) (sym reads) ∙ own

@@ -1,30 +1,37 @@
 -- What is due of the plan's shares is what is due of the script's transactions: bytes and responses.
-use Rattle.std.proofs.Common.{◌≡◌, ◌<◌, ◌≤◌, ◌+◌, ◌∷◌, [], ℕ, suc, List, Option, Some, None, Bool, true, false, cond, length, take, drop, refl, sym, ap, ◌∙◌, inl, inr, arith}
-use Rattle.std.specs.Prelude.{Contains, filter, flat_map, map, slice_index, zip}
+use Rattle.std.proofs.Common.{◌≡◌, ◌<◌, ◌≤◌, ◌+◌, ◌++◌, ◌∷◌, [], ℕ, zero, suc, List, Option, Some, None, Bool, true, false, cond, length, take, drop, refl, sym, ap, ap₂, ◌∙◌, inl, inr, arith, add-one}
+use Rattle.std.specs.Prelude.{All, Contains, filter, flat_map, map}
 use Rattle.std.specs.List.{range_with_len}
 use Rattle.std.proofs.lemmas.Bool.{cases_Bool}
 use Rattle.std.proofs.lemmas.List.{append-nil, length-map, map-append, take-append-drop, take_all}
 use Rattle.std.proofs.lemmas.List.Concat.{flat_map-append}
-use Rattle.axi_beats.specs.Response.{worst_of}
-use Rattle.axi_beats.specs.declared.response.Resp.{Resp}
-use Rattle.axi_beats.specs.declared.response.Resp.TheVariants.{DecErr, Okay, SlvErr}
+use Rattle.std.proofs.lemmas.Slice.Zip.{length-zip}
 use Rattle.axi_beats.specs.declared.beat.WBeat.{WBeat}
+use Rattle.axi_beats.specs.declared.response.Resp.{Resp}
+use Rattle.axi_beats.specs.declared.response.Resp.TheVariants.{DecErr, Okay}
 use Rattle.axi_history.specs.Answered.{answered_bytes}
 use Rattle.axi_history.specs.Delivered.{IsBeginningOf, wanted}
 use Rattle.axi_history.specs.Records.{Byte, due}
 use Rattle.axi_trail.proofs.FilterFacts.{filter_map}
 use Rattle.axi_trail.specs.Schedule.{Share}
-use Rattle.burst_address.specs.Bytes.{beat_bytes, burst_bytes}
+use Rattle.burst_address.specs.Bytes.{beat_bytes, burst_bytes, bytes_before}
 use Rattle.burst_address.specs.Formulas.{beats_of}
-use Rattle.manager_end.specs.Beats.{data_of}
+use Rattle.burst_address.specs.Legal.{IsLegal}
+use Rattle.manager_end.proofs.ListLemmas.{filter-same}
+use Rattle.manager_end.specs.Beats.{data_beats as data_of_item}
 use Rattle.manager_end.specs.ManagerTrail.{shares_of}
 use Rattle.manager_end.specs.Script.{ScriptItem}
+use Rattle.memory_end.proofs.BurstFacts.{lanes-are_bytes, status-of_burst_bytes}
+use Rattle.memory_end.proofs.DueFacts.{due-reads, due-writes}
+use Rattle.memory_end.proofs.ListLemmas.{range-more}
 use Rattle.memory_end.specs.Accesses.{BeatOf, allowed_before, allowed_bytes, beats_of_parts, data_beats, due_reads, due_writes, filled_bytes, read_addresses}
-use Rattle.memory_end.specs.Beats.{Byte as MemoryByte, lane_address, strobed_lanes, strobed_status, valid_lanes, valid_status, written_bytes}
-use Rattle.memory_end.specs.Status.{is_okay, read_status, worst_among, write_status}
+use Rattle.memory_end.specs.Beats.{Byte as MemoryByte, lane_address, valid_lanes, valid_status, written_bytes}
+use Rattle.memory_end.specs.BurstBytes.{all_written_bytes, inside_of}
+use Rattle.memory_end.specs.Status.{is_inside, is_okay, read_status, worst_among, write_status}
 use Rattle.net_rounds.proofs.BuiltInPlan.{plan_of, read_share, write_share}
-use Rattle.net_rounds.proofs.LaneLemmas.{beat-lanes, burst-beat, strobed-lanes}
-use Rattle.net_rounds.proofs.PlanFacts.{IsTrafficItem, one-beat, part_of, share-own, traffic-item}
+use Rattle.net_rounds.proofs.DataLemmas.{data-inside, data-status, part-bytes, ram-memory}
+use Rattle.net_rounds.proofs.NodeLaws.{NodeLaws}
+use Rattle.net_rounds.proofs.PlanFacts.{IsTrafficItem, beat-count, beat_of, data-count, part-beats, part_of, share-own, traffic-item}
 use Rattle.net_rounds.specs.BuiltIn.{ram}
 use Rattle.net_rounds.specs.Due.{IsNumberedTraffic, bytes_of, response_of, strobed_bytes, transaction_of}
 
@@ -71,66 +78,49 @@ write_response item = worst_among (map (λ (byte : ℕ × ℕ). write_status ram
 abbrev read_response : ScriptItem → List Resp
 read_response item = map (λ (n : ℕ). worst_among (map (read_status ram) (beat_bytes item.txn.request n))) (range_with_len 0 (beats_of item.txn.request))
 
-worst-okay : (r : Resp) → worst_of r Okay ≡ r
-worst-okay Okay = refl
-worst-okay SlvErr = refl
-worst-okay DecErr = refl
+-- a byte has the status OKAY where it is in the memory
+okay-inside : (inside : Bool) → is_okay (cond inside Okay DecErr) ≡ inside
+okay-inside true = refl
+okay-inside false = refl
 
--- of a word
+-- what is made of each beat of a burst's first ones, byte by byte
+before-flat :
+    {Y : Type 0} (item : ScriptItem) (g : BeatOf → List Y) (h : ℕ → Y) → ((n : ℕ) → g (beat_of item n) ≡ map h (beat_bytes item.txn.request n)) → (count : ℕ) →
+    flat_map g (map (beat_of item) (range_with_len 0 count)) ≡ map h (bytes_before item.txn.request count)
+before-flat item g h each zero = refl
+before-flat item g h each (suc k) =
+    let first : 0 + k ≡ k = omega arith in
+    ap (λ n. flat_map g (map (beat_of item) (range_with_len 0 n))) (sym (add-one k))
+    ∙ ap (λ ns. flat_map g (map (beat_of item) ns)) (range-more 0 k)
+    ∙ ap (flat_map g) (map-append (beat_of item) (range_with_len 0 k) ((0 + k) ∷ []))
+    ∙ flat_map-append g (map (beat_of item) (range_with_len 0 k)) (beat_of item (0 + k) ∷ [])
+    ∙ ap₂ (λ front own. front ++ own) (before-flat item g h each k) (append-nil (g (beat_of item (0 + k))) ∙ ap (λ n. g (beat_of item n)) first ∙ each k)
+    ∙ sym (map-append h (bytes_before item.txn.request k) (beat_bytes item.txn.request k))
+
+-- ---- reads
+
 module _ (item : ScriptItem) (known : IsTrafficItem item) where
-  abbrev address_at : ℕ → ℕ
-  address_at lane = lane_address (part_of item) 0 4 lane
+  read-bytes : item.txn.write ≡ false → bytes_of ram item ≡ map read_byte (burst_bytes item.txn.request)
+  read-bytes direction = ap (λ b. cond b (map write_byte (strobed_bytes item)) (map read_byte (burst_bytes item.txn.request))) direction
 
-  -- a write has one beat of data, and a read is answered with one beat
-  one-data_beat : data_beats (write_share item) ≡ (record { request = part_of item; beat = 0 }, data_of item) ∷ []
-  one-data_beat = ap (λ beats. zip beats (data_of item ∷ [])) (one-beat item known)
-
-  burst-lanes : burst_bytes item.txn.request ≡ map address_at (valid_lanes (part_of item) 0 4)
-  burst-lanes = burst-beat item known ∙ beat-lanes item known
-
-  -- what all beats of a write write is what is due of it
-  all-writes : item.txn.write ≡ true → map shown_write (flat_map beat_writes (data_beats (write_share item))) ≡ map wanted (due (transaction_of ram 0 1 item))
-  all-writes direction =
-      let lanes = strobed_lanes 4 (data_of item) in
-      let at : ℕ → ℕ × ℕ = λ lane. (address_at lane, slice_index (data_of item).lanes lane) in
-      let kept : ℕ → Bool = λ lane. is_okay (write_status ram (address_at lane)) in
-      let beats : map shown_write (flat_map beat_writes (data_beats (write_share item))) ≡ map shown_write (written_bytes ram (part_of item) 0 (data_of item)) =
-      ap (λ beats. map shown_write (flat_map beat_writes beats)) one-data_beat ∙ ap (map shown_write) (append-nil (written_bytes ram (part_of item) 0 (data_of item))) in
-      let bytes : bytes_of ram item ≡ map (λ lane. write_byte (at lane)) lanes =
-      ap (λ b. cond b (map write_byte (strobed_bytes item)) (map read_byte (burst_bytes item.txn.request))) direction
-      ∙ ap (map write_byte) (strobed-lanes item known direction) ∙ map-map write_byte at lanes in
-      beats ∙ map-map shown_write _ (filter kept lanes)
-      ∙ sym (ap (λ all. map wanted (filter is_allowed all)) bytes ∙ filter-between is_allowed wanted (λ lane. write_byte (at lane)) lanes)
-
-  -- the bytes of a read are those of its lanes
-  read-bytes : item.txn.write ≡ false → bytes_of ram item ≡ map (λ lane. read_byte (address_at lane)) (valid_lanes (part_of item) 0 4)
-  read-bytes direction =
-      ap (λ b. cond b (map write_byte (strobed_bytes item)) (map read_byte (burst_bytes item.txn.request))) direction
-      ∙ ap (map read_byte) burst-lanes ∙ map-map read_byte address_at (valid_lanes (part_of item) 0 4)
+  part-legal : All (λ part. IsLegal part 4) (part_of item ∷ [])
+  part-legal zero d within = known.legal
+  part-legal (suc k) d within = absurd (omega (arith, within))
 
   -- what all beats of a read read is what is due of it
   all-reads : item.txn.write ≡ false → map shown_read (flat_map (read_addresses ram) (beats_of_parts (read_share item).parts)) ≡ map wanted (due (transaction_of ram 0 1 item))
   all-reads direction =
-      let lanes = valid_lanes (part_of item) 0 4 in
-      let kept : ℕ → Bool = λ lane. is_okay (read_status ram (address_at lane)) in
-      let beats : map shown_read (flat_map (read_addresses ram) (beats_of_parts (read_share item).parts)) ≡ map shown_read (map address_at (filter kept lanes)) =
-      ap (λ beats. map shown_read (flat_map (read_addresses ram) beats)) (one-beat item known) ∙ ap (map shown_read) (append-nil (map address_at (filter kept lanes))) in
-      beats ∙ map-map shown_read address_at (filter kept lanes)
-      ∙ sym (ap (λ all. map wanted (filter is_allowed all)) (read-bytes direction) ∙ filter-between is_allowed wanted (λ lane. read_byte (address_at lane)) lanes)
+      let beats = beats_of_parts (read_share item).parts in
+      let bytes = burst_bytes item.txn.request in
+      let inside : flat_map (read_addresses ram) beats ≡ filter (is_inside ram) bytes =
+      ap (flat_map (read_addresses ram)) (sym (take_all (length beats) beats (omega arith)))
+      ∙ due-reads ram (read_share item) ram-memory part-legal
+      ∙ append-nil (filter (is_inside ram) (burst_bytes (part_of item)))
+      ∙ ap (filter (is_inside ram)) (part-bytes item) in
+      ap (map shown_read) (inside ∙ filter-same (is_inside ram) (λ address. is_okay (read_status ram address)) bytes (λ k address at. sym (okay-inside (is_inside ram address))))
+      ∙ sym (ap (λ all. map wanted (filter is_allowed all)) (read-bytes direction) ∙ filter-between is_allowed wanted read_byte bytes)
 
-  -- the first data beats write the first bytes that are due, and all beats write all
-  pub writes-begin : item.txn.write ≡ true → (count : ℕ) → IsBeginningOf (map shown_write (due_writes ram (write_share item) count)) (map wanted (due (transaction_of ram 0 1 item)))
-  writes-begin direction count =
-      let front = flat-begins shown_write beat_writes count (data_beats (write_share item)) in
-      (front.0, sym (all-writes direction) ∙ front.1)
-
-  pub writes-whole : item.txn.write ≡ true → (count : ℕ) → length (beats_of_parts (write_share item).parts) ≤ count → map shown_write (due_writes ram (write_share item) count) ≡ map wanted (due (transaction_of ram 0 1 item))
-  writes-whole direction count all =
-      let one : length (data_beats (write_share item)) ≡ 1 = ap (λ beats. length beats) one-data_beat in
-      let beat : length (beats_of_parts (write_share item).parts) ≡ 1 = ap (λ beats. length beats) (one-beat item known) in
-      ap (λ beats. map shown_write (flat_map beat_writes beats)) (take_all count (data_beats (write_share item)) (omega (arith, all, one, beat))) ∙ all-writes direction
-
-  -- and the beats of a read
+  -- the first beats of a read read the first bytes that are due, and all beats read all
   pub reads-begin : item.txn.write ≡ false → (count : ℕ) → IsBeginningOf (map shown_read (due_reads ram (read_share item) count)) (map wanted (due (transaction_of ram 0 1 item)))
   reads-begin direction count =
       let front = flat-begins shown_read (read_addresses ram) count (beats_of_parts (read_share item).parts) in
@@ -141,31 +131,71 @@ module _ (item : ScriptItem) (known : IsTrafficItem item) where
       ap (λ beats. map shown_read (flat_map (read_addresses ram) beats)) (take_all count (beats_of_parts (read_share item).parts) all) ∙ all-reads direction
 
   -- which bytes of a read may be read
+  beat-allowed : (n : ℕ) → allowed_bytes ram (beat_of item n) ≡ map (λ address. is_okay (read_status ram address)) (beat_bytes item.txn.request n)
+  beat-allowed n =
+      let allowed : ℕ → Bool = λ address. is_okay (read_status ram address) in
+      sym (map-map allowed (λ lane. lane_address (part_of item) n 4 lane) (valid_lanes (part_of item) n 4))
+      ∙ ap (map allowed) (lanes-are_bytes (part_of item) 4 n refl known.legal)
+
   pub allowed-reads : item.txn.write ≡ false → (count : ℕ) → length (beats_of_parts (read_share item).parts) ≤ count → allowed_before ram (read_share item) count ≡ map is_allowed (bytes_of ram item)
   allowed-reads direction count all =
-      let lanes = valid_lanes (part_of item) 0 4 in
-      ap (flat_map (allowed_bytes ram)) (take_all count (beats_of_parts (read_share item).parts) all ∙ one-beat item known)
-      ∙ append-nil (map (λ lane. is_okay (read_status ram (address_at lane))) lanes)
-      ∙ sym (ap (map is_allowed) (read-bytes direction) ∙ map-map is_allowed (λ lane. read_byte (address_at lane)) lanes)
+      ap (flat_map (allowed_bytes ram)) (take_all count (beats_of_parts (read_share item).parts) all ∙ part-beats item)
+      ∙ before-flat item (allowed_bytes ram) (λ address. is_okay (read_status ram address)) beat-allowed (beats_of item.txn.request)
+      ∙ sym (ap (map is_allowed) (read-bytes direction) ∙ map-map is_allowed read_byte (burst_bytes item.txn.request))
 
-  -- the responses of its share are its own
-  write-responses : item.txn.write ≡ true → (write_share item).responses ≡ response_of ram item
-  write-responses direction =
-      let lanes = strobed_lanes 4 (data_of item) in
-      let at : ℕ → ℕ × ℕ = λ lane. (address_at lane, slice_index (data_of item).lanes lane) in
-      let own : map (λ lane. write_status ram (address_at lane)) lanes ≡ map (λ (byte : ℕ × ℕ). write_status ram byte.0) (strobed_bytes item) =
-      sym (ap (map (λ (byte : ℕ × ℕ). write_status ram byte.0)) (strobed-lanes item known direction) ∙ map-map (λ (byte : ℕ × ℕ). write_status ram byte.0) at lanes) in
-      ap (λ resp. resp ∷ []) (worst-okay (strobed_status ram (part_of item) 0 (data_of item)) ∙ ap worst_among own)
-      ∙ sym (ap (λ b. cond b (write_response item) (read_response item)) direction)
+  -- each beat's response is the worst status of its bytes
+  beat-statuses : (numbers : List ℕ) → map (λ n. valid_status ram (part_of item) n) numbers ≡ map (λ n. worst_among (map (read_status ram) (beat_bytes item.txn.request n))) numbers
+  beat-statuses [] = refl
+  beat-statuses (n ∷ numbers) = ap₂ (λ (own : Resp) (more : List Resp). own ∷ more) (status-of_burst_bytes ram (part_of item) n ram-memory known.legal) (beat-statuses numbers)
 
   read-responses : item.txn.write ≡ false → (read_share item).responses ≡ response_of ram item
   read-responses direction =
-      let own : valid_status ram (part_of item) 0 ≡ worst_among (map (read_status ram) (beat_bytes item.txn.request 0)) =
-      ap worst_among (sym (ap (map (read_status ram)) (beat-lanes item known) ∙ map-map (read_status ram) address_at (valid_lanes (part_of item) 0 4))) in
-      ap (map (λ (b : BeatOf). valid_status ram b.request b.beat)) (one-beat item known)
-      ∙ ap (λ resp. resp ∷ []) own
-      ∙ sym (ap (λ b. cond b (write_response item) (read_response item)) direction
-      ∙ ap (λ len. map (λ (n : ℕ). worst_among (map (read_status ram) (beat_bytes item.txn.request n))) (range_with_len 0 (len + 1))) known.word.one_beat)
+      let status : BeatOf → Resp = λ b. valid_status ram b.request b.beat in
+      let numbers = range_with_len 0 (beats_of item.txn.request) in
+      ap (map status) (part-beats item) ∙ map-map status (beat_of item) numbers ∙ beat-statuses numbers
+      ∙ sym (ap (λ b. cond b (write_response item) (read_response item)) direction)
+
+-- ---- writes
+
+module _ (laws : NodeLaws) (item : ScriptItem) (known : IsTrafficItem item) (direction : item.txn.write ≡ true) where
+  write-bytes : bytes_of ram item ≡ map write_byte (strobed_bytes item)
+  write-bytes = ap (λ b. cond b (map write_byte (strobed_bytes item)) (map read_byte (burst_bytes item.txn.request))) direction
+
+  -- there is no beat of data but for the beats of the request
+  few-data : length (data_beats (write_share item)) ≤ length (beats_of_parts (write_share item).parts)
+  few-data = omega (arith, length-zip (beats_of_parts (write_share item).parts) (flat_map (λ beats. beats) (write_share item).write_data))
+
+  -- what all beats of a write write is what is due of it
+  all-writes : map shown_write (flat_map beat_writes (data_beats (write_share item))) ≡ map wanted (due (transaction_of ram 0 1 item))
+  all-writes =
+      let share = write_share item in
+      let bytes = strobed_bytes item in
+      let inside : ℕ × ℕ → Bool = λ (byte : ℕ × ℕ). is_inside ram byte.0 in
+      let kept : ℕ × ℕ → Bool = λ (byte : ℕ × ℕ). is_okay (write_status ram byte.0) in
+      let written : flat_map beat_writes (data_beats share) ≡ inside_of ram bytes =
+      ap (flat_map beat_writes) (sym (take_all (length (beats_of_parts share.parts)) (data_beats share) few-data))
+      ∙ due-writes ram share (ap (λ count. count ∷ []) (data-count item))
+      ∙ append-nil (all_written_bytes ram (part_of item) 0 (data_of_item item 4))
+      ∙ data-inside laws item known direction in
+      ap (map shown_write) written
+      ∙ map-map shown_write (λ (byte : ℕ × ℕ). record { address = byte.0; value = byte.1 }) (filter inside bytes)
+      ∙ ap (map (λ (byte : ℕ × ℕ). (byte.0, Some byte.1))) (filter-same inside kept bytes (λ k byte at. sym (okay-inside (is_inside ram byte.0))))
+      ∙ sym (ap (λ all. map wanted (filter is_allowed all)) write-bytes ∙ filter-between is_allowed wanted write_byte bytes)
+
+  -- the first data beats write the first bytes that are due, and all beats write all
+  pub writes-begin : (count : ℕ) → IsBeginningOf (map shown_write (due_writes ram (write_share item) count)) (map wanted (due (transaction_of ram 0 1 item)))
+  writes-begin count =
+      let front = flat-begins shown_write beat_writes count (data_beats (write_share item)) in
+      (front.0, sym all-writes ∙ front.1)
+
+  pub writes-whole : (count : ℕ) → length (beats_of_parts (write_share item).parts) ≤ count → map shown_write (due_writes ram (write_share item) count) ≡ map wanted (due (transaction_of ram 0 1 item))
+  writes-whole count all = ap (λ beats. map shown_write (flat_map beat_writes beats)) (take_all count (data_beats (write_share item)) (omega (arith, all, few-data))) ∙ all-writes
+
+  -- its response is the worst status of what the script strobes
+  write-responses : (write_share item).responses ≡ response_of ram item
+  write-responses = ap (λ resp. resp ∷ []) (data-status laws item known direction) ∙ sym (ap (λ b. cond b (write_response item) (read_response item)) direction)
+
+-- ---- answers
 
 -- the bytes of an answer, where all values are there that are due
 pub filled-answered : (bytes : List Byte) (values : List ℕ) → length (filter is_allowed bytes) ≤ length values → filled_bytes (map is_allowed bytes) values ≡ answered_bytes bytes values
@@ -189,13 +219,13 @@ filled-answered (byte ∷ bytes) (value ∷ values) enough =
 
 module _ (script : List ScriptItem) (t : IsNumberedTraffic script) (item : ScriptItem) (among : Contains script item) where
   -- a transaction's responses in the plan are its own
-  pub due-response : (shares_of (plan_of script) item.txn.write item.txn.number).responses ≡ response_of ram item
-  due-response =
+  pub due-response : NodeLaws → (shares_of (plan_of script) item.txn.write item.txn.number).responses ≡ response_of ram item
+  due-response laws =
       let known = traffic-item script t item among in
       elim (cases_Bool item.txn.write) [
         | inl direction ↦
             ap (λ b. (cond b (plan_of script).writes (plan_of script).reads item.txn.number).responses) direction
-            ∙ ap (λ (s : Share). s.responses) (share-own script t item among true direction) ∙ write-responses item known direction
+            ∙ ap (λ (s : Share). s.responses) (share-own script t item among true direction) ∙ write-responses laws item known direction
         | inr direction ↦
             ap (λ b. (cond b (plan_of script).writes (plan_of script).reads item.txn.number).responses) direction
             ∙ ap (λ (s : Share). s.responses) (share-own script t item among false direction) ∙ read-responses item known direction
@@ -203,10 +233,7 @@ module _ (script : List ScriptItem) (t : IsNumberedTraffic script) (item : Scrip
 
   -- a read has as many beats in the plan as its request asks for
   pub beats-asked : item.txn.write ≡ false → length (beats_of_parts ((plan_of script).reads item.txn.number).parts) ≡ suc item.txn.request.len
-  beats-asked direction =
-      let known = traffic-item script t item among in
-      ap (λ (s : Share). length (beats_of_parts s.parts)) (share-own script t item among false direction)
-      ∙ ap (λ (beats : List BeatOf). length beats) (one-beat item known) ∙ sym (ap suc known.word.one_beat)
+  beats-asked direction = ap (λ (s : Share). length (beats_of_parts s.parts)) (share-own script t item among false direction) ∙ beat-count item
 
   -- what is answered for a read of which all values are there
   pub due-bytes-read :
@@ -215,8 +242,7 @@ module _ (script : List ScriptItem) (t : IsNumberedTraffic script) (item : Scrip
   due-bytes-read direction count enough values all =
       let known = traffic-item script t item among in
       let own = share-own script t item among false direction in
-      let one : length (beats_of_parts (read_share item).parts) ≡ 1 = ap (λ (beats : List BeatOf). length beats) (one-beat item known) in
-      let beats : length (beats_of_parts (read_share item).parts) ≤ count = omega (arith, enough, one) in
+      let beats : length (beats_of_parts (read_share item).parts) ≤ count = omega (arith, enough, beat-count item) in
       let due_now = due_reads ram (read_share item) count in
       let read : length due_now ≡ length (filter is_allowed (bytes_of ram item)) =
       sym (length-map due_now shown_read) ∙ ap (λ xs. length xs) (reads-whole item known direction count beats) ∙ length-map (filter is_allowed (bytes_of ram item)) wanted in

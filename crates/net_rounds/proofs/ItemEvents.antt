@@ -94,7 +94,7 @@ module _ (script : List ScriptItem) (facts : RunFacts script) (n : ℕ) where
     item-begins =
         let Begins : List (ℕ × Option ℕ) → Type 0 = λ front. IsBeginningOf front (map wanted (due (transaction_of ram 0 1 item))) in
         elim (cases_Bool item.txn.write) [
-          | inl direction ↦ subst Begins (sym (item-writes direction)) (writes-begin item known direction (written_beats item.txn.number))
+          | inl direction ↦ subst Begins (sym (item-writes direction)) (writes-begin facts.laws item known direction (written_beats item.txn.number))
           | inr direction ↦ subst Begins (sym (item-reads direction)) (reads-begin item known direction (read_beats item.txn.number))
         ]
 
@@ -144,7 +144,7 @@ module _ (script : List ScriptItem) (facts : RunFacts script) (n : ℕ) where
     item-whole : (place : ℕ) → IsAt (pair_at script n).manager.state place item → 0 < (note script n place).answered → map shown (events_of item.txn.number (run_events script n)) ≡ map wanted (due (transaction_of ram 0 1 item))
     item-whole place at answered =
         elim (cases_Bool item.txn.write) [
-          | inl direction ↦ item-writes direction ∙ writes-whole item known direction (written_beats item.txn.number) (write-all place at direction answered)
+          | inl direction ↦ item-writes direction ∙ writes-whole facts.laws item known direction (written_beats item.txn.number) (write-all place at direction answered)
           | inr direction ↦ item-reads direction ∙ reads-whole item known direction (read_beats item.txn.number) (read-all place at direction answered)
         ]
 

@@ -5,12 +5,12 @@ pub mod AnsweredOrder
 pub mod BoundLemmas
 pub mod BuiltInPlan
 pub mod Choosing
+pub mod DataLemmas
 pub mod DeliveredLemmas
 pub mod DueLemmas
 pub mod EventLemmas
 pub mod ItemEvents
 pub mod KnownFacts
-pub mod LaneLemmas
 pub mod NetLemmas
 pub mod NetworkLemmas
 pub mod NodeLaws
@@ -22,6 +22,7 @@ pub mod Pair
 pub mod PairLemmas
 pub mod PlanFacts
 pub mod PortsLegal
+pub mod PushedItems
 pub mod RunAnswered
 pub mod RunFacts
 pub mod RunHistory

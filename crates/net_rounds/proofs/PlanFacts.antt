@@ -1,41 +1,40 @@
 -- The plan of the built-in network's link is that of its script, for the manager above it and for the memory below it.
-use Rattle.std.proofs.Common.{◌≡◌, ◌≢◌, ◌<◌, ◌+◌, ◌==◌, ◌&&◌, ◌^◌, ◌++◌, ◌∷◌, [], ℕ, zero, suc, List, Bool, true, false, cond, length, get_or, refl, sym, ap, ap₂, ◌-◌, ◌∙◌, subst, inl, inr, eq-eqb, arith}
+use Rattle.std.proofs.Common.{◌≡◌, ◌≢◌, ◌<◌, ◌≤◌, ◌+◌, ◌-◌, ◌==◌, ◌&&◌, ◌^◌, ◌∷◌, [], ℕ, zero, suc, List, Bool, true, false, cond, length, get_or, refl, sym, ap, ap₂, ◌∙◌, subst, inl, inr, eq-eqb, arith, add-one, append-nil}
 use Rattle.std.specs.Prelude.{◌⊎◌, All, AllPairs, Contains, map, not, zip, if◌then◌else◌}
 use Rattle.std.specs.Bool.{beq}
 use Rattle.std.specs.List.{range_with_len}
 use Rattle.std.proofs.lemmas.Bool.{and_from, and_parts, cases_Bool, cases_order, eqb-true, false≢true, true≢false}
-use Rattle.std.proofs.lemmas.List.{get_or_default}
+use Rattle.std.proofs.lemmas.List.{get_or_default, length-map}
 use Rattle.std.proofs.lemmas.List.Elements.{All-contains, All-contains_itself}
-use Rattle.axi_beats.specs.Word.{IsWholeWord}
+use Rattle.std.proofs.lemmas.List.FromFn.{length-range_with_len}
 use Rattle.axi_beats.specs.declared.beat.Addr.{Addr}
 use Rattle.axi_beats.specs.declared.beat.WBeat.{WBeat}
 use Rattle.axi_trail.specs.LinkContracts.{without_id}
 use Rattle.axi_trail.specs.Schedule.{SameChain, Share, Span}
-use Rattle.axi_beats.specs.declared.beat.Burst.{Burst}
-use Rattle.burst_address.specs.Formulas.{address_of, beats_of as burst_beats, lower_lane, size_of, upper_lane}
-use Rattle.manager_end.specs.Beats.{request_of}
-use Rattle.manager_end.proofs.WordLemmas.{word-data, word-sent, word-spans}
+use Rattle.burst_address.specs.Legal.{IsLegal}
+use Rattle.manager_end.specs.Beats.{data_beat, data_beats, high_lane, low_lane, request_of}
 use Rattle.manager_end.specs.ManagerTrail.{HasItem, IsItsOwn, IsPlanOf, shares_of}
 use Rattle.manager_end.specs.Script.{ScriptItem, sent_bytes}
+use Rattle.memory_end.proofs.BeatLemmas.{lanes-ordered}
 use Rattle.memory_end.specs.Accesses.{BeatOf, beats_of_parts, burst_status, span_of}
-use Rattle.memory_end.specs.Beats.{beat_address, beats_of, first_lane, lane_count, valid_status}
+use Rattle.memory_end.specs.Beats.{beats_of, valid_status}
 use Rattle.memory_end.specs.MemoryTrail.{Suits}
 use Rattle.net_rounds.proofs.BuiltInPlan.{no_share, plan_of, read_share, share_at, share_of, write_share}
-use Rattle.net_rounds.proofs.PairLemmas.{script-sent}
+use Rattle.net_rounds.proofs.PushedItems.{script-sent, script-starts}
 use Rattle.net_rounds.specs.BuiltIn.{ram}
 use Rattle.net_rounds.specs.Due.{IsNumberedTraffic}
 
 -- What is known of each transaction of the traffic.
 pub record IsTrafficItem (item : ScriptItem) : Type 0 where
-  pub word : IsWholeWord 4 item.txn.request
-  pub inside : item.txn.request.addr < 8192
+  pub legal : IsLegal item.txn.request 4
+  pub start : item.txn.request.addr < 2 ^ 63
   pub sent : length item.bytes ≡ sent_bytes item.txn
   pub id_fits : item.txn.request.id < 2 ^ 4
 
 pub traffic-items : (script : List ScriptItem) → IsNumberedTraffic script → All IsTrafficItem script
 traffic-items script t k d within = record {
-  word = t.traffic.words k d within;
-  inside = t.traffic.inside k d within;
+  legal = t.traffic.legal k d within;
+  start = script-starts script t.traffic.is_script k d within;
   sent = script-sent script t.traffic.is_script k d within;
   id_fits = t.ids k d within;
 }
@@ -174,47 +173,58 @@ module _ (script : List ScriptItem) (t : IsNumberedTraffic script) (item : Scrip
 abbrev pub part_of : ScriptItem → Addr
 part_of item = without_id (request_of item)
 
--- a whole word has one beat
-pub one-beat : (item : ScriptItem) → IsTrafficItem item → beats_of_parts (part_of item ∷ []) ≡ record { request = part_of item; beat = 0 } ∷ []
-one-beat item known = ap (λ len. map (λ n. record { request = part_of item; beat = n }) (range_with_len 0 (len + 1)) ++ []) known.word.one_beat
+-- and a beat of it
+abbrev pub beat_of : ScriptItem → ℕ → BeatOf
+beat_of item n = record { request = part_of item; beat = n }
 
--- its one beat is at its address, and has all lanes
-pub word-at : (item : ScriptItem) → IsTrafficItem item → beat_address (part_of item) 0 ≡ item.txn.request.addr
-word-at item known = ap (λ (kind : Burst). address_of kind (size_of (part_of item)) (burst_beats (part_of item)) item.txn.request.addr 0) known.word.incrementing
+-- the beats of a request that is sent in one part
+pub part-beats : (item : ScriptItem) → beats_of_parts (part_of item ∷ []) ≡ map (beat_of item) (range_with_len 0 (beats_of item.txn.request))
+part-beats item = append-nil (map (beat_of item) (range_with_len 0 (beats_of item.txn.request)))
 
-pub first-lane : (item : ScriptItem) → IsTrafficItem item → first_lane (part_of item) 0 4 ≡ 0
-first-lane item known = ap (lower_lane 4) (word-at item known) ∙ known.word.aligned
+pub beat-count : (item : ScriptItem) → length (beats_of_parts (part_of item ∷ [])) ≡ suc item.txn.request.len
+beat-count item =
+    ap length (part-beats item) ∙ length-map (range_with_len 0 (beats_of item.txn.request)) (beat_of item)
+    ∙ length-range_with_len 0 (beats_of item.txn.request) ∙ add-one item.txn.request.len
 
-pub all-lanes : (item : ScriptItem) → IsTrafficItem item → lane_count (part_of item) 0 4 ≡ 4
-all-lanes item known =
-    let last : upper_lane 4 4 item.txn.request.addr ≡ 3 = omega (arith, known.word.aligned) in
-    ap₂ (λ (size address : ℕ). upper_lane size 4 address - first_lane (part_of item) 0 4 + 1) known.word.wide (word-at item known)
-    ∙ ap₂ (λ (high low : ℕ). high - low + 1) last (first-lane item known)
+-- its data has as many
+pub data-count : (item : ScriptItem) → length (data_beats item 4) ≡ beats_of item.txn.request
+data-count item =
+    length-map (range_with_len 0 (beats_of item.txn.request)) (data_beat item 4) ∙ length-range_with_len 0 (beats_of item.txn.request)
 
--- lanes from the lowest to the highest one
+-- the memory counts the valid lanes, and the manager ends at the highest one
 abbrev span : ℕ → ℕ → Span
 span low high = record { low = low; high = high }
 
-word-span : (item : ScriptItem) → IsTrafficItem item → span_of ram (record { request = part_of item; beat = 0 }) ≡ record { low = 0; high = 3 }
-word-span item known = ap₂ (λ (first count : ℕ). span first (first + count - 1)) (first-lane item known) (all-lanes item known)
+beat-span : (item : ScriptItem) → IsTrafficItem item → (n : ℕ) → span_of ram (beat_of item n) ≡ span (low_lane 4 item.txn.request n) (high_lane 4 item.txn.request n)
+beat-span item known n =
+    counted (low_lane 4 item.txn.request n) (high_lane 4 item.txn.request n) (lanes-ordered item.txn.request n 4 refl known.legal)
+  where
+    counted : (low high : ℕ) → low ≤ high → span low (low + (high - low + 1) - 1) ≡ span low high
+    counted low high ordered = let last : low + (high - low + 1) - 1 ≡ high = omega arith in ap (span low) last
+
+beat-spans :
+    (item : ScriptItem) → IsTrafficItem item → (numbers : List ℕ) →
+    map (span_of ram) (map (beat_of item) numbers) ≡ map (λ n. span (low_lane 4 item.txn.request n) (high_lane 4 item.txn.request n)) numbers
+beat-spans item known [] = refl
+beat-spans item known (n ∷ numbers) = ap₂ (λ (one : Span) (more : List Span). one ∷ more) (beat-span item known n) (beat-spans item known numbers)
 
 -- the plan has each transaction as it is
-has-write : (script : List ScriptItem) (item : ScriptItem) → IsTrafficItem item → item.txn.write ≡ true → (plan_of script).writes item.txn.number ≡ write_share item → item.txn.request.id < 2 ^ 4 → HasItem (plan_of script) 4 item
-has-write script item known direction own fits = record {
+has-write : (script : List ScriptItem) (item : ScriptItem) → IsTrafficItem item → item.txn.write ≡ true → (plan_of script).writes item.txn.number ≡ write_share item → HasItem (plan_of script) 4 item
+has-write script item known direction own = record {
   parts = ap (λ b. ((if b then (plan_of script).writes else (plan_of script).reads) item.txn.number).parts) direction ∙ ap (λ (s : Share). s.parts) own;
-  write_data = λ is. ap (λ (s : Share). s.write_data) own ∙ ap (λ (beats : List WBeat). beats ∷ []) (sym (word-data item 4 known.word (word-sent item 4 known.word direction known.sent)));
+  write_data = λ is. ap (λ (s : Share). s.write_data) own;
   lanes = λ is. absurd (true≢false (sym direction ∙ is));
-  id_fits = fits;
+  id_fits = known.id_fits;
 }
 
-has-read : (script : List ScriptItem) (item : ScriptItem) → IsTrafficItem item → item.txn.write ≡ false → (plan_of script).reads item.txn.number ≡ read_share item → item.txn.request.id < 2 ^ 4 → HasItem (plan_of script) 4 item
-has-read script item known direction own fits = record {
+has-read : (script : List ScriptItem) (item : ScriptItem) → IsTrafficItem item → item.txn.write ≡ false → (plan_of script).reads item.txn.number ≡ read_share item → HasItem (plan_of script) 4 item
+has-read script item known direction own = record {
   parts = ap (λ b. ((if b then (plan_of script).writes else (plan_of script).reads) item.txn.number).parts) direction ∙ ap (λ (s : Share). s.parts) own;
   write_data = λ is. absurd (true≢false (sym is ∙ direction));
   lanes = λ is.
-      ap (λ (s : Share). s.lanes) own ∙ ap (map (span_of ram)) (one-beat item known) ∙ ap (λ (s : Span). s ∷ []) (word-span item known)
-      ∙ sym (word-spans item.txn.request 4 known.word (omega arith));
-  id_fits = fits;
+      ap (λ (s : Share). s.lanes) own ∙ ap (map (span_of ram)) (part-beats item)
+      ∙ beat-spans item known (range_with_len 0 (beats_of item.txn.request));
+  id_fits = known.id_fits;
 }
 
 -- a share of the chain of a transaction's is that of another one of its direction and ID
@@ -257,8 +267,8 @@ plan-of-script script t = record {
       let among = All-contains_itself script k d within in
       let known = traffic-items script t k d within in
       elim (cases_Bool item.txn.write) [
-        | inl direction ↦ has-write script item known direction (share-own script t item among true direction) known.id_fits
-        | inr direction ↦ has-read script item known direction (share-own script t item among false direction) known.id_fits
+        | inl direction ↦ has-write script item known direction (share-own script t item among true direction)
+        | inr direction ↦ has-read script item known direction (share-own script t item among false direction)
       ];
   chains = λ k d within number same.
       let item = get_or script k d in
@@ -274,13 +284,13 @@ pub record SuitsReads (reads : Share) : Type 0 where
   pub responses : reads.responses ≡ map (λ (b : BeatOf). valid_status ram b.request b.beat) (beats_of_parts reads.parts)
   pub lanes : reads.lanes ≡ map (span_of ram) (beats_of_parts reads.parts)
 
-write-suits : (item : ScriptItem) → IsTrafficItem item → SuitsWrites (write_share item)
-write-suits item known = record { write_data = ap (λ len. (len + 1) ∷ []) (sym known.word.one_beat); responses = refl }
+write-suits : (item : ScriptItem) → SuitsWrites (write_share item)
+write-suits item = record { write_data = ap (λ count. count ∷ []) (data-count item); responses = refl }
 
-writes-suit : (script : List ScriptItem) → IsNumberedTraffic script → (number : ℕ) → SuitsWrites (share_at true script number)
-writes-suit script t number = elim (share-cases true script number) [
+writes-suit : (script : List ScriptItem) (number : ℕ) → SuitsWrites (share_at true script number)
+writes-suit script number = elim (share-cases true script number) [
   | inl none ↦ subst SuitsWrites (sym none) (record { write_data = refl; responses = refl })
-  | inr has ↦ subst SuitsWrites (sym has.share) (write-suits has.item (traffic-item script t has.item has.among))
+  | inr has ↦ subst SuitsWrites (sym has.share) (write-suits has.item)
 ]
 
 reads-suit : (script : List ScriptItem) (number : ℕ) → SuitsReads (share_at false script number)
@@ -292,6 +302,6 @@ reads-suit script number = elim (share-cases false script number) [
 -- and for the memory
 pub plan-suits : (script : List ScriptItem) → IsNumberedTraffic script → Suits ram (plan_of script)
 plan-suits script t number =
-    let writes = writes-suit script t number in
+    let writes = writes-suit script number in
     let reads = reads-suit script number in
     record { write_data = writes.write_data; responses = writes.responses; read_responses = reads.responses; lanes = reads.lanes }

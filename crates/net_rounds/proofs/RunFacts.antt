@@ -36,6 +36,7 @@ pub record IsAskedFor (script : List ScriptItem) (n : ℕ) (a : Access) : Type 0
   pub issued : 0 < (note script n place).issued
 
 pub record RunFacts (script : List ScriptItem) : Type 0 where
+  pub laws : NodeLaws
   pub traffic : IsNumberedTraffic script
   -- after every round
   pub keeps : (n : ℕ) → RunKeeps script n
@@ -133,6 +134,7 @@ module _ (laws : NodeLaws) (script : List ScriptItem) (traffic : IsNumberedTraff
 
   pub run-facts : RunFacts script
   run-facts = record {
+    laws = laws;
     traffic = traffic;
     keeps = keeps-of;
     config = config-stays laws script traffic;
