@@ -11,6 +11,7 @@ pub mod DueLemmas
 pub mod EventLemmas
 pub mod ItemEvents
 pub mod KnownFacts
+pub mod LegalPlan
 pub mod NetLemmas
 pub mod NetworkLemmas
 pub mod NodeLaws
