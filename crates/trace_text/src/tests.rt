@@ -1,6 +1,14 @@
-// Trace lines worked by hand.
+// Trace lines and answer lines worked by hand.
 
-use crate::{LineBuffer, read_trace_line, render_round};
+ghost use Rattle.std.specs.Prelude.{◌≡◌, ◌<◌, IfOk, length};
+
+use crate::{LineBuffer, read_trace_line, render_answers, render_round};
+use axi_beats::{Addr, Burst, Lanes, NoMemory, RBeat, Resp};
+use axi_link::{Link, Out, set_put};
+use burst_address::legal;
+use manager_end::{Manager, Script, Txn};
+use std::alloc::Global;
+use std::process::Abort;
 use std::test::Fail;
 
 #[test]
@@ -68,4 +76,108 @@ fn other_lines_are_refused(rt: HostRuntime) {
     for line in lines {
         assert!(rt; read_trace_line(line).is_err(), "at {line}");
     }
+}
+
+/// A manager on a bus of 4 bytes that reads once.
+fn reader(rt: &impl Abort, alloc: Global, request: Addr) -> Result<Manager, NoMemory>
+    ensures lower { IfOk result (λ manager. manager.state.lower ≡ 0) }
+    ensures count { IfOk result (λ manager. length manager.state.script ≡ 1) }
+{
+    assert!(rt; request.addr < 1 << 63);
+    assert!(rt; legal(&request, 4).is_ok());
+    assert!(rt; legal(&request, 128).is_ok());
+    let mut script = Script::new(alloc);
+    let txn = Txn {
+        number: 7,
+        write: false,
+        request,
+        after: 0,
+    };
+    script.push(txn, &[])?;
+    Manager::new(alloc, script, 0, 4, &[0], &[0])
+}
+
+/// Decides a round in which the link below offers this data beat.
+fn decide(
+    manager: &mut Manager,
+    alloc: Global,
+    round: u64,
+    beat: Option<RBeat>,
+) -> Result<(), NoMemory>
+    requires counted { 0 < round }
+    requires lower { manager.old.state.lower ≡ 0 }
+    ensures lower { manager.new.state.lower ≡ manager.old.state.lower }
+    ensures script { manager.new.state.script ≡ manager.old.state.script }
+{
+    let mut link = Link::new(alloc, 2)?;
+    let mut lower = Out::default();
+    set_put(&mut lower.r_put, 0, beat.as_ref());
+    link.commit(0, &Out::default(), &lower);
+    let links = [link];
+    manager.decide(round, &links);
+    Ok(())
+}
+
+/// A data beat with ID 3 that has `first` and each lane's number, added up, on its lanes.
+fn data(first: u8, resp: Resp) -> Option<RBeat> {
+    let mut lanes = Lanes::zero();
+    for lane in 0..128 {
+        lanes.set(lane, first.wrapping_add(lane));
+    }
+    Some(RBeat {
+        id: 3,
+        lanes,
+        resp,
+        ..RBeat::default()
+    })
+}
+
+/// Writes the line of a read of two beats, which is issued in round 1 and answered in rounds 2 and 3.
+fn render_read(
+    rt: &impl Abort,
+    alloc: Global,
+    line: &mut LineBuffer,
+    request: Addr,
+) -> Result<(), NoMemory> {
+    let mut manager = reader(rt, alloc, request)?;
+    decide(&mut manager, alloc, 1, None)?;
+    decide(&mut manager, alloc, 2, data(0x10, Resp::Okay))?;
+    decide(&mut manager, alloc, 3, data(0x20, Resp::SlvErr))?;
+    let txn = manager.script().txn(0);
+    let answer = manager.answer(0).expect(rt, "it is answered");
+    assert!(rt; txn.request.addr < 1 << 63);
+    assert!(rt; legal(&txn.request, 128).is_ok());
+    assert!(rt; answer.beats() <= u32::from(txn.request.len) + 1);
+    assert!(rt; answer.bytes().len() <= 4096);
+    render_answers(line, "m", txn, answer);
+    Ok(())
+}
+
+#[test]
+fn each_beat_of_a_read_shows_its_valid_bytes(rt: HostRuntime) -> Result<(), Fail> {
+    let mut line = LineBuffer::new(rt.alloc())?;
+    let unaligned = Addr {
+        id: 3,
+        addr: 0x11,
+        len: 1,
+        size: 2,
+        burst: Burst::Incr,
+        ..Addr::default()
+    };
+    render_read(&rt, rt.alloc(), &mut line, unaligned)?;
+    assert_eq!(rt;
+        line.bytes(),
+        b"7 read m 1 3 okay:111213 slverr:20212223\n".as_slice()
+    );
+
+    let fixed = Addr {
+        burst: Burst::Fixed,
+        ..unaligned
+    };
+    render_read(&rt, rt.alloc(), &mut line, fixed)?;
+    assert_eq!(rt;
+        line.bytes(),
+        b"7 read m 1 3 okay:111213 slverr:212223\n".as_slice()
+    );
+    Ok(())
 }
