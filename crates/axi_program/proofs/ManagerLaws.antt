@@ -1,16 +1,15 @@
 -- Lines say the same of each manager that is the built-in one, wherever its name lies.
 use Rattle.std.proofs.Common.{◌≡◌, ℕ, ◌+◌, ◌^◌, List, [], ◌∷◌, Option, Some, None, Bool, true, false, cond, nat_lt, refl, sym, ap, ap₂, ◌∙◌}
-use Rattle.std.specs.Prelude.{is_some, option_map, option_and_then}
-use Rattle.std.specs.List.{cons_option, position, slice_get}
+use Rattle.std.specs.Prelude.{is_some, option_map}
+use Rattle.std.specs.List.{cons_option}
 use Rattle.std.specs.Option.{option_or}
 use Rattle.std.specs.Str.{bytes_eq}
 use Rattle.burst_address.specs.Legal.{broken_rule}
-use Rattle.burst_address.specs.declared.rule.BurstRule.{BurstRule}
-use Rattle.traffic.specs.Faults.{burst_fault, fault_by, least, least_fault, line_fault, request_of}
+use Rattle.traffic.specs.Faults.{burst_fault, fault_by, least, least_fault, request_of}
 use Rattle.traffic.specs.Line.{Access, Line, Passed, Waits, Asks, line_of}
 use Rattle.traffic.specs.Orders.{Order, Holds, Issues, is_too_much, issued, order_by, order_of, orders_of}
-use Rattle.traffic.specs.Ports.{is_named, place_of, port_of}
-use Rattle.traffic.specs.Traffic.{TrafficItem, items_after, refusal_of, traffic_of}
+use Rattle.traffic.specs.Ports.{place_of, port_of}
+use Rattle.traffic.specs.Traffic.{items_after, refusal_of, traffic_of}
 use Rattle.traffic.specs.declared.fault.TrafficFault.{TrafficFault}
 use Rattle.traffic.specs.declared.fault.TrafficFault.TheVariants.{BadId, IllegalBurst, TooMuchTraffic, UnknownManager}
 use Rattle.traffic.specs.declared.port.ManagerPort.{ManagerPort}

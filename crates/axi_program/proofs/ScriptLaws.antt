@@ -1,6 +1,6 @@
 -- The script of traffic that is all of the built-in manager.
-use Rattle.std.proofs.Common.{◌≡◌, ℕ, ◌+◌, ◌^◌, ◌-◌, ◌<◌, ◌≤◌, ◌∙◌, ◌==◌, zero, suc, Bool, true, false, cond, ◌||◌, List, [], ◌∷◌, ◌++◌, Option, Some, None, length, take, min, get_or, inl, inr, refl, subst, sym, ap, ap₂, arith, append_assoc, append-nil, IsTrue}
-use Rattle.std.specs.Prelude.{All, AllPairs, IfSome, ◌⊎◌, map, option_map, slice_get, unwrap_or}
+use Rattle.std.proofs.Common.{◌≡◌, ℕ, ◌+◌, ◌^◌, ◌-◌, ◌<◌, ◌≤◌, ◌∙◌, ◌==◌, zero, suc, Bool, true, false, ◌||◌, List, [], ◌∷◌, ◌++◌, Option, Some, None, length, take, get_or, inl, inr, refl, subst, sym, ap, ap₂, arith, append_assoc, append-nil, IsTrue}
+use Rattle.std.specs.Prelude.{All, IfSome, ◌⊎◌, option_map, slice_get, unwrap_or}
 use Rattle.std.specs.List.{take-map}
 use Rattle.std.proofs.lemmas.Bool.{eq-eqb}
 use Rattle.std.proofs.lemmas.List.{length-map, length-take, map-append, take_more}
@@ -146,10 +146,10 @@ module _ (items : List TrafficItem) (k : ℕ) (txn : Txn) (bytes : List WriteByt
       (item : TrafficItem) × (slice_get items k ≡ Some item) × (script_item item ≡ record { txn = txn; bytes = bytes })) [
         | None ↦ λ found none sent. absurd (cc)
         | Some item ↦ λ found same sends. (
-            item,
-            found,
-            ap₂ (λ (t : Txn) (b : List WriteByte). record { txn = t; bytes = b }) (ap (λ (t : Option Txn). unwrap_or t txn) same) (ap (λ (b : Option (List WriteByte)). unwrap_or b bytes) sends),
-          )
+          item,
+          found,
+          ap₂ (λ (t : Txn) (b : List WriteByte). record { txn = t; bytes = b }) (ap (λ (t : Option Txn). unwrap_or t txn) same) (ap (λ (b : Option (List WriteByte)). unwrap_or b bytes) sends),
+        )
       ]
       in go (slice_get items k) refl
       (ap (λ (n : ℕ). option_map (λ (item : TrafficItem). item.txn) (slice_get items n)) (sym at) ∙ is)

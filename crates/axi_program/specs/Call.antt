@@ -1,11 +1,11 @@
 -- What the top call says by its status.
-use Rattle.std.specs.Prelude.{◌≡◌, ◌≢◌, ◌<◌, ℕ, [], List, Bool, true, false, Option, Some, None, ◌⊎◌, IfSome, length}
+use Rattle.std.specs.Prelude.{◌≡◌, ◌<◌, ℕ, [], List, Option, Some, None, ◌⊎◌, IfSome, length}
 use Rattle.manager_end.specs.Script.{ScriptItem}
 use Rattle.net_rounds.specs.Ports.{PortsLegal}
 use Rattle.net_rounds.specs.Right.{IsRight}
 use Rattle.axi_program.specs.Document.{input_limit, refusal_of, script_of_input}
 use Rattle.axi_program.specs.Faults.{Rose}
-use Rattle.axi_program.specs.Outcome.{Concludes, Outcome, input_outcome, status_of}
+use Rattle.axi_program.specs.Outcome.{Concludes, input_outcome, status_of}
 use Rattle.axi_program.specs.declared.status.Status.{Status}
 use Rattle.axi_program.specs.declared.words.Command.{Command}
 use Rattle.axi_program.specs.declared.words.Command.TheVariants.{Check, Run}

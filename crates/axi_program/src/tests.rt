@@ -239,10 +239,28 @@ fn compare_spaces(
 #[test]
 fn long_inputs_are_refused(rt: HostRuntime) -> Result<(), Fail> {
     let too_long = Refusal::input_too_long();
-    compare_spaces(&rt, "run", 16_777_217, too_long, b"refused 1 InputTooLong\n")?;
-    compare_spaces(&rt, "check", 16_777_217, too_long, b"refused 1 InputTooLong\n")?;
+    compare_spaces(
+        &rt,
+        "run",
+        16_777_217,
+        too_long,
+        b"refused 1 InputTooLong\n",
+    )?;
+    compare_spaces(
+        &rt,
+        "check",
+        16_777_217,
+        too_long,
+        b"refused 1 InputTooLong\n",
+    )?;
     let no_separator = Refusal::no_separator();
-    compare_spaces(&rt, "run", 16_777_216, no_separator, b"refused 3 NoSeparator\n")
+    compare_spaces(
+        &rt,
+        "run",
+        16_777_216,
+        no_separator,
+        b"refused 3 NoSeparator\n",
+    )
 }
 
 #[test]

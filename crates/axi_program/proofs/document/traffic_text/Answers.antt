@@ -1,4 +1,4 @@
-use Rattle.std.proofs.Common.{◌≡◌, List, ℕ, Option, Some, None, true, false, sym, ap, ◌∙◌}
+use Rattle.std.proofs.Common.{◌≡◌, Some, None, true, false, sym, ap, ◌∙◌}
 use Rattle.std.proofs.lemmas.Str.{is_utf8-from_IsUtf8}
 use Rattle.plain_text.specs.Separator.{cut}
 use Rattle.axi_program.proofs.DocumentLaws.{behind-short, front-separator, lines-behind, no-text, none-separator, refusal-late, refusal-no_separator, refusal-not_text, refusal-traffic, some-separator}

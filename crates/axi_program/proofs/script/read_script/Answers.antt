@@ -1,5 +1,4 @@
-use Rattle.std.proofs.Common.{◌≡◌, List, ℕ, Option, None, sym, ap, subst, ◌∙◌}
-use Rattle.manager_end.specs.Script.{IsScript, ScriptItem}
+use Rattle.std.proofs.Common.{Option, sym, ap, subst, ◌∙◌}
 use Rattle.net_rounds.specs.Due.{IsNumberedTraffic}
 use Rattle.plain_text.specs.Lines.{lines}
 use Rattle.traffic.specs.Traffic.{IsRefusal}

@@ -1,4 +1,4 @@
-use Rattle.std.proofs.Common.{◌≡◌, ◌+◌, List, [], ◌∷◌, ◌++◌, refl, sym, ap, subst, ◌∙◌}
+use Rattle.std.proofs.Common.{◌+◌, List, [], ◌∷◌, ◌++◌, refl, sym, ap, subst, ◌∙◌}
 use Rattle.manager_end.specs.Script.{CanPush, ScriptItem}
 use Rattle.axi_program.proofs.ScriptLaws.{next-can-push, script-more}
 use Rattle.axi_program.proofs.script.script_of.Goals as goal

@@ -1,4 +1,4 @@
-use Rattle.std.proofs.Common.{◌≡◌, Err, ℕ, List, Option, Some, None, sym, ap, subst, ◌∙◌}
+use Rattle.std.proofs.Common.{◌≡◌, Err, Some, sym, ap, subst, ◌∙◌}
 use Rattle.std.specs.Prelude.{map, string_bytes}
 use Rattle.axi_program.proofs.CallLaws.{complete-by, never-usage, over-outcome, tells-by}
 use Rattle.axi_program.specs.Call.{Tells}
@@ -6,7 +6,6 @@ use Rattle.axi_program.specs.Outcome.{Concludes, Refuses}
 use Rattle.axi_program.specs.Refusals.{input_too_long}
 use Rattle.axi_program.specs.Words.{command_of}
 use Rattle.axi_program.specs.declared.status.Refusal.{Refusal}
-use Rattle.axi_program.specs.declared.words.Command.{Command}
 use Rattle.axi_program.proofs.top.axinet.Goals as goal
 use Rattle.axi_program.proofs.top.axinet.Given as given
 

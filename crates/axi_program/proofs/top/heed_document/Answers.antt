@@ -1,10 +1,8 @@
-use Rattle.std.proofs.Common.{◌≡◌, None, sym, subst, ◌∙◌}
-use Rattle.manager_end.specs.Script.{ScriptItem}
-use Rattle.std.specs.Prelude.{List}
+use Rattle.std.proofs.Common.{subst}
 use Rattle.axi_program.proofs.CallLaws.{outcome-refuses, outcome-runs}
 use Rattle.axi_program.proofs.RightLaws.{never-accepted, run-is-right}
 use Rattle.axi_program.specs.Call.{RunIsRight}
-use Rattle.axi_program.specs.Document.{TellsRefusal, refusal_of}
+use Rattle.axi_program.specs.Document.{TellsRefusal}
 use Rattle.axi_program.specs.declared.document.DocumentFault.{DocumentFault}
 use Rattle.axi_program.specs.Outcome.{Concludes, Outcome}
 use Rattle.axi_program.proofs.top.heed_document.Goals as goal
