@@ -1,14 +1,13 @@
 -- What the top call's parts tell of the whole.
 use Rattle.std.proofs.Common.{◌≡◌, ◌<◌, ◌≤◌, ℕ, List, [], Option, Some, None, Bool, true, false, cond, not, length, refl, sym, ap, ◌∙◌, subst, inl, inr}
 use Rattle.std.specs.Prelude.{IfSome, ◌⊎◌}
-use Rattle.std.specs.Io.KnownBytes.{Appends}
 use Rattle.manager_end.specs.Script.{ScriptItem}
 use Rattle.axi_program.proofs.DocumentLaws.{refusal-over}
 use Rattle.axi_program.specs.Call.{Came, IsComplete, IsReadWhole, ReadsWhole, Tells}
-use Rattle.axi_program.specs.Document.{refusal_of, script_of_input}
+use Rattle.axi_program.specs.Document.{input_limit, refusal_of, script_of_input}
 use Rattle.axi_program.specs.Faults.{Rose}
-use Rattle.axi_program.specs.Outcome.{Concludes, Outcome, Refuses, check_outcome, document_outcome, input_outcome, limit_of, outcome_by, outcome_of, refusal_over, run_outcome, status_of}
-use Rattle.axi_program.specs.Refusals.{input_too_long, not_built, not_text}
+use Rattle.axi_program.specs.Outcome.{Concludes, Outcome, Refuses, check_outcome, document_outcome, input_outcome, outcome_by, outcome_of, run_outcome, status_of}
+use Rattle.axi_program.specs.Refusals.{input_too_long, not_text}
 use Rattle.std.proofs.lemmas.Bool.{le-ltb, lt-ltb}
 use Rattle.std.specs.Str.{is_utf8}
 use Rattle.trace_check.specs.Verdicts.{verdict_of}
@@ -40,19 +39,19 @@ unfolding input_outcome
 checks input = refl
 
 -- a text of a size that is taken comes to the verdict on it, and one that isn't UTF-8 is refused
-pub check-judges : (input : List ℕ) → length input ≤ limit_of Check → is_utf8 input ≡ true → outcome_of (verdict_of input) ≡ check_outcome input
+pub check-judges : (input : List ℕ) → length input ≤ input_limit → is_utf8 input ≡ true → outcome_of (verdict_of input) ≡ check_outcome input
 unfolding check_outcome
-check-judges input within text = rw (le-ltb (limit_of Check) (length input) within, text) refl
+check-judges input within text = rw (le-ltb input_limit (length input) within, text) refl
 
-pub check-refuses : (input : List ℕ) → length input ≤ limit_of Check → is_utf8 input ≡ false → Refuses not_text ≡ check_outcome input
+pub check-refuses : (input : List ℕ) → length input ≤ input_limit → is_utf8 input ≡ false → Refuses not_text ≡ check_outcome input
 unfolding check_outcome
-check-refuses input within no_text = rw (le-ltb (limit_of Check) (length input) within, no_text) refl
+check-refuses input within no_text = rw (le-ltb input_limit (length input) within, no_text) refl
 
 -- an input over the size is refused for it
-pub outcome-over : (command : Command) (input : List ℕ) → limit_of command < length input → Refuses (refusal_over command) ≡ input_outcome command input
+pub outcome-over : (command : Command) (input : List ℕ) → input_limit < length input → Refuses input_too_long ≡ input_outcome command input
 unfolding input_outcome check_outcome
-outcome-over (Run trace) input over = outcome-refuses trace input (not_built 0) (refusal-over input over)
-outcome-over Check input over = ap (λ (b : Bool). cond b (Refuses input_too_long) (cond (not (is_utf8 input)) (Refuses not_text) (outcome_of (verdict_of input)))) (sym (lt-ltb (limit_of Check) (length input) over))
+outcome-over (Run trace) input over = outcome-refuses trace input input_too_long (refusal-over input over)
+outcome-over Check input over = ap (λ (b : Bool). cond b (Refuses input_too_long) (cond (not (is_utf8 input)) (Refuses not_text) (outcome_of (verdict_of input)))) (sym (lt-ltb input_limit (length input) over))
 
 module _ {X : Type 0} where
   -- what holds of each that may be there holds also of one more
@@ -77,8 +76,8 @@ module _ {S K : Type 0} (command : Option Command) (left : S → Option (List �
         λ o. elim o as (λ o. IsWhole o (left source') text → IfSome o (λ input. input_outcome asked text ≡ input_outcome asked input)) [ None ↦ λ w. tt | Some input ↦ λ w. ap (input_outcome asked) w.0 ]
         in go (left source) whole
 
-    pub over-outcome : IsOver (limit_of asked) (left source) → IfSome (left source) (λ input. Refuses (refusal_over asked) ≡ input_outcome asked input)
-    over-outcome over = map-some (left source) (λ input. limit_of asked < length input) (λ input. Refuses (refusal_over asked) ≡ input_outcome asked input) (λ input w. outcome-over asked input w) over
+    pub over-outcome : IsOver input_limit (left source) → IfSome (left source) (λ input. Refuses input_too_long ≡ input_outcome asked input)
+    over-outcome over = map-some (left source) (λ input. input_limit < length input) (λ input. Refuses input_too_long ≡ input_outcome asked input) (λ input w. outcome-over asked input w) over
 
     -- a call that concludes tells what it has to
     pub tells-by :
@@ -119,21 +118,18 @@ module _ {S K : Type 0} (command : Option Command) (left : S → Option (List �
   complete-by NoMemory tells used reads writes = inl refl
   complete-by Unfinished tells used reads writes = inr (complete-came Unfinished (λ outcome c. c.0) tells)
 
-module _ {S : Type 0} (command : Option Command) (left : S → Option (List ℕ)) (source source' : S) (asked : Command) (named : command ≡ Some asked) where
-  -- what is said of the input of the command
-  read-by : IfSome (left source) (λ input. (left source' ≡ Some []) ⊎ (limit_of asked < length input)) → IsReadWhole command left source source'
-  read-by read = subst (λ (o : Option Command). IfSome o (λ a. IfSome (left source) (λ input. (left source' ≡ Some []) ⊎ (limit_of a < length input)))) (sym named) read
-
-  pub whole-read : (text : List ℕ) → IsWhole (left source) (left source') text → IsReadWhole command left source source'
+module _ {S : Type 0} (left : S → Option (List ℕ)) (source source' : S) where
+  -- the source was read to its end, or its input is over the size
+  pub whole-read : (text : List ℕ) → IsWhole (left source) (left source') text → IsReadWhole left source source'
   whole-read text whole =
-      let go : (o : Option (List ℕ)) → IsWhole o (left source') text → IfSome o (λ input. (left source' ≡ Some []) ⊎ (limit_of asked < length input)) =
-      λ o. elim o as (λ o. IsWhole o (left source') text → IfSome o (λ input. (left source' ≡ Some []) ⊎ (limit_of asked < length input))) [ None ↦ λ w. tt | Some input ↦ λ w. inl w.1 ]
-      in read-by (go (left source) whole)
+      let go : (o : Option (List ℕ)) → IsWhole o (left source') text → IfSome o (λ input. (left source' ≡ Some []) ⊎ (input_limit < length input)) =
+      λ o. elim o as (λ o. IsWhole o (left source') text → IfSome o (λ input. (left source' ≡ Some []) ⊎ (input_limit < length input))) [ None ↦ λ w. tt | Some input ↦ λ w. inl w.1 ]
+      in go (left source) whole
 
-  pub over-read : IsOver (limit_of asked) (left source) → IsReadWhole command left source source'
-  over-read over = read-by (map-some (left source) (λ input. limit_of asked < length input) (λ input. (left source' ≡ Some []) ⊎ (limit_of asked < length input)) (λ input w. inr w) over)
+  pub over-read : IsOver input_limit (left source) → IsReadWhole left source source'
+  over-read over = map-some (left source) (λ input. input_limit < length input) (λ input. (left source' ≡ Some []) ⊎ (input_limit < length input)) (λ input w. inr w) over
 
-  pub reads-by : (status : Status) → IsReadWhole command left source source' → ReadsWhole command left source source' status
+  pub reads-by : (status : Status) → IsReadWhole left source source' → ReadsWhole left source source' status
   reads-by Done read = read
   reads-by Usage read = tt
   reads-by (Refused refusal) read = read

@@ -1,22 +1,45 @@
 -- Known values of what is written, worked by hand.
-use Rattle.std.proofs.Common.{◌≡◌, [], ◌∷◌, true, false, refl}
+use Rattle.std.proofs.Common.{◌≡◌, ℕ, [], ◌∷◌, true, false, refl}
 use Rattle.std.specs.Prelude.{codes, map}
 use Rattle.std.specs.Fmt.{digits}
+use Rattle.axi_beats.specs.declared.beat.Addr.{Addr}
+use Rattle.axi_beats.specs.declared.beat.Burst.TheVariants.{Incr}
 use Rattle.axi_beats.specs.declared.response.Resp.TheVariants.{Okay, SlvErr, DecErr}
+use Rattle.burst_address.specs.declared.rule.BurstRule.TheVariants.{Page}
+use Rattle.manager_end.specs.declared.script.WriteByte.{WriteByte}
 use Rattle.plain_text.specs.Printing.{pairs}
-use Rattle.axi_program.specs.Refusals.{no_separator, not_built}
+use Rattle.axi_program.specs.Refusals.{bad_id, bad_line, bad_trace_line, illegal_burst, input_too_long, no_separator, not_built, not_text, too_much_traffic, unknown_manager}
 use Rattle.axi_program.specs.Text.{refusal_line, rounds_line, run_text}
 use Rattle.trace_text.specs.AnswerLine.{answer_line}
-use Rattle.axi_program.specs.Traffic.{request_for, strobed}
 
-refusal_lines : map refusal_line (no_separator ∷ not_built 0 ∷ not_built 17 ∷ []) ≡ codes "refused 3 NoSeparator\n" ∷ codes "refused 23 NotBuilt 0\n" ∷ codes "refused 23 NotBuilt 17\n" ∷ []
+refusal_lines :
+    map refusal_line
+    (input_too_long ∷ not_text ∷ no_separator ∷ bad_line 3 ∷ unknown_manager 1 ∷ bad_id 1 ∷ illegal_burst 1 Page ∷ too_much_traffic ∷ bad_trace_line 9 ∷ not_built 0 ∷ [])
+    ≡ codes "refused 1 InputTooLong\n"
+    ∷ codes "refused 2 NotText\n"
+    ∷ codes "refused 3 NoSeparator\n"
+    ∷ codes "refused 17 BadLine 3\n"
+    ∷ codes "refused 18 UnknownManager 1\n"
+    ∷ codes "refused 19 BadId 1\n"
+    ∷ codes "refused 20 IllegalBurst 1 4\n"
+    ∷ codes "refused 21 TooMuchTraffic\n"
+    ∷ codes "refused 22 BadTraceLine 9\n"
+    ∷ codes "refused 23 NotBuilt 0\n"
+    ∷ []
 unfolding refusal_line digits
 refusal_lines = refl
+
+-- a request for so many words of 4 bytes
+abbrev words_at : ℕ → ℕ → ℕ → Addr
+words_at id addr last = record { id = id; addr = addr; len = last; size = 2; burst = Incr; tag = record { txn = 0; low = 0; high = 0 } }
+
+abbrev strobed : ℕ → WriteByte
+strobed byte = record { value = byte; strobed = true }
 
 two_beats :
     answer_line
     (codes "cpu")
-    (record { number = 12; write = false; request = request_for (record { id = 0; addr = 0 }); after = 0 })
+    (record { number = 12; write = false; request = words_at 0 0 1; after = 0 })
     (record { issued = 3; answered = 10; resps = Okay ∷ DecErr ∷ []; bytes = 0 ∷ 10 ∷ 175 ∷ 255 ∷ 1 ∷ 2 ∷ 3 ∷ 4 ∷ []; due_resps = 2; due_bytes = 8 })
     ≡ codes "12 read cpu 3 10 okay:000aafff decerr:01020304\n"
 unfolding answer_line digits pairs
@@ -25,10 +48,10 @@ two_beats = refl
 a_run :
     run_text
     (record {
-      txn = record { number = 1; write = true; request = request_for (record { id = 1; addr = 16 }); after = 0 };
+      txn = record { number = 1; write = true; request = words_at 1 16 0; after = 0 };
       bytes = map strobed (17 ∷ 34 ∷ 51 ∷ 68 ∷ []);
     }
-    ∷ record { txn = record { number = 2; write = false; request = request_for (record { id = 2; addr = 16 }); after = 1 }; bytes = [] }
+    ∷ record { txn = record { number = 2; write = false; request = words_at 2 16 0; after = 1 }; bytes = [] }
     ∷ [])
     (record { issued = 1; answered = 5; resps = SlvErr ∷ []; bytes = []; due_resps = 1; due_bytes = 0 }
     ∷ record { issued = 6; answered = 9; resps = Okay ∷ []; bytes = 17 ∷ 34 ∷ 51 ∷ 68 ∷ []; due_resps = 1; due_bytes = 4 }

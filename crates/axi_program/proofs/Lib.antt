@@ -2,10 +2,10 @@ mod KnownInputs
 mod KnownTexts
 pub mod CallLaws
 pub mod DocumentLaws
+pub mod ManagerLaws
 pub mod RightLaws
 pub mod RunLaws
 pub mod ScriptLaws
 pub mod TextLaws
 pub mod TraceLaws
-pub mod TrafficLaws
 pub mod TransferLemmas

@@ -1,14 +1,13 @@
 -- The lines of a run, one after the other.
-use Rattle.std.proofs.Common.{◌≡◌, ◌<◌, ◌≤◌, ◌+◌, ◌^◌, ◌-◌, ◌∷◌, [], ◌++◌, ℕ, zero, suc, List, Option, Some, None, Bool, true, false, cond, min, length, take, drop, get_or, refl, sym, ap, ◌∙◌, subst, arith, append_assoc, append-nil, length-append, IsTrue}
+use Rattle.std.proofs.Common.{◌≡◌, ◌<◌, ◌≤◌, ◌+◌, ◌^◌, ◌∷◌, [], ◌++◌, ℕ, zero, suc, List, Option, Some, None, Bool, true, false, cond, length, take, get_or, refl, sym, ap, ◌∙◌, subst, arith, append_assoc, append-nil, length-append}
 use Rattle.std.specs.Prelude.{All, Err, IfSome, Ok, OnErr, OnOk, Result, option_map, slice_get, unwrap_or}
 use Rattle.std.specs.Option.{option_map_or}
 use Rattle.std.specs.Io.KnownBytes.{Appends}
 use Rattle.std.proofs.KnownBytes.{Appends-trans}
-use Rattle.std.proofs.lemmas.List.{take-append-le, take_all}
-use Rattle.std.proofs.lemmas.Option.{get_or_from_slice_get, slice_get-get_or, slice_get_within}
+use Rattle.std.proofs.lemmas.List.{take-append-le}
+use Rattle.std.proofs.lemmas.Option.{slice_get-get_or}
 use Rattle.std.proofs.Math.Seq.{take-append-add}
-use Rattle.burst_address.proofs.Legality.{legal-size}
-use Rattle.burst_address.proofs.Numbers.{exponent_below}
+use Rattle.burst_address.specs.Legal.{IsLegal}
 use Rattle.manager_end.specs.Answer.{AnswerView}
 use Rattle.manager_end.specs.ManagerState.{ManagerState, answered_one, is_answered}
 use Rattle.manager_end.specs.Script.{CanPush, IsScript, ScriptItem}
@@ -17,7 +16,7 @@ use Rattle.net_rounds.proofs.NetworkLemmas.{after_rounds-built_in, built_in_pair
 use Rattle.net_rounds.specs.BuiltIn.{bound, built_in, first_manager, script_of}
 use Rattle.net_rounds.specs.NetView.{NetView}
 use Rattle.net_rounds.specs.Network.{Network, after_rounds, is_finished}
-use Rattle.net_rounds.specs.Notes.{IsShort}
+use Rattle.net_rounds.specs.Notes.{AreNotes}
 use Rattle.net_rounds.specs.Run.{run_length}
 use Rattle.axi_program.proofs.TextLaws.{answer_lines-next}
 use Rattle.axi_program.specs.Faults.{Rose}
@@ -38,13 +37,14 @@ item-at script place txn told =
     ]
     in go (slice_get script place) refl told
 
-pub size-at : (script : List ScriptItem) (place : ℕ) (txn : Txn) → IsScript script → option_map (λ (item : ScriptItem). item.txn) (slice_get script place) ≡ Some txn → txn.request.size ≤ 7
-size-at script place txn pushed told =
+-- its burst is legal on the widest bus
+pub burst-at :
+    (script : List ScriptItem) (place : ℕ) (txn : Txn) → IsScript script → option_map (λ (item : ScriptItem). item.txn) (slice_get script place) ≡ Some txn →
+    (txn.request.addr < 2 ^ 63) × IsLegal txn.request 128
+burst-at script place txn pushed told =
     let at = item-at script place txn told in
     let can : CanPush (take place script) (at.0).txn (at.0).bytes = subst (λ (o : Option ScriptItem). IfSome o (λ item. CanPush (take place script) item.txn item.bytes)) at.1 (pushed place) in
-    let below = exponent_below (at.0).txn.request.size (legal-size (at.0).txn.request 128 can.legal) in
-    let small : (at.0).txn.request.size ≤ 7 = omega (arith, below) in
-    subst (λ (t : Txn). t.request.size ≤ 7) at.2 small
+    subst (λ (t : Txn). (t.request.addr < 2 ^ 63) × IsLegal t.request 128) at.2 (can.start, can.legal)
 
 -- an answer that came is what is noted
 pub noted-at : (o : Option AnswerView) (a : AnswerView) → answered_one o ≡ Some a → o ≡ Some a
@@ -53,8 +53,14 @@ noted-at (Some b) a came =
     let go : (has : Bool) → cond has (Some b) None ≡ Some a → Some b ≡ Some a = λ has. elim has as (λ has. cond has (Some b) None ≡ Some a → Some b ≡ Some a) [ true ↦ λ same. same | false ↦ λ none. absurd (cc) ]
     in go (is_answered b) came
 
-pub short-at : (answers : List AnswerView) (place : ℕ) (a : AnswerView) → All IsShort answers → slice_get answers place ≡ Some a → IsShort a
-short-at answers place a short is = subst IsShort (get_or_from_slice_get answers place a a is) (short place a (slice_get_within answers place a is))
+-- its answer is no longer than that of its burst
+pub short-at :
+    (s : ManagerState) (place : ℕ) (txn : Txn) (a : AnswerView) → AreNotes s → option_map (λ (item : ScriptItem). item.txn) (slice_get s.script place) ≡ Some txn → slice_get s.answers place ≡ Some a →
+    (length a.resps ≤ txn.request.len + 1) × (length a.bytes ≤ 4096)
+short-at s place txn a notes told is =
+    let at = item-at s.script place txn told in
+    let short = notes.short place at.0 a at.1 is in
+    subst (λ (t : Txn). (length a.resps ≤ t.request.len + 1) × (length a.bytes ≤ 4096)) at.2 (short.responses, short.bytes)
 
 -- where all answers came, none is missing
 pub not-missing : (answers : List AnswerView) (place : ℕ) → All (λ (a : AnswerView). is_answered a ≡ true) answers → place < length answers → answered_one (slice_get answers place) ≡ None → ⊥

@@ -1,11 +1,11 @@
 -- What the top call says by its status.
-use Rattle.std.specs.Prelude.{◌≡◌, ◌≢◌, ◌<◌, ℕ, [], List, Bool, true, false, Option, Some, None, ◌⊎◌, IfSome, length}
+use Rattle.std.specs.Prelude.{◌≡◌, ◌<◌, ℕ, [], List, Option, Some, None, ◌⊎◌, IfSome, length}
 use Rattle.manager_end.specs.Script.{ScriptItem}
 use Rattle.net_rounds.specs.Ports.{PortsLegal}
 use Rattle.net_rounds.specs.Right.{IsRight}
-use Rattle.axi_program.specs.Document.{refusal_of, script_of_input}
+use Rattle.axi_program.specs.Document.{input_limit, refusal_of, script_of_input}
 use Rattle.axi_program.specs.Faults.{Rose}
-use Rattle.axi_program.specs.Outcome.{Concludes, Outcome, input_outcome, limit_of, status_of}
+use Rattle.axi_program.specs.Outcome.{Concludes, input_outcome, status_of}
 use Rattle.axi_program.specs.declared.status.Status.{Status}
 use Rattle.axi_program.specs.declared.words.Command.{Command}
 use Rattle.axi_program.specs.declared.words.Command.TheVariants.{Check, Run}
@@ -28,10 +28,10 @@ module _ {S K : Type 0} (command : Option Command) (left : S → Option (List �
   Tells NoMemory = sink' ≡ sink
   Tells Unfinished = Came Unfinished
 
-module _ {S : Type 0} (command : Option Command) (left : S → Option (List ℕ)) (source source' : S) where
+module _ {S : Type 0} (left : S → Option (List ℕ)) (source source' : S) where
   -- the source was read to its end, save where the input is over the size
   abbrev pub IsReadWhole : Type 0
-  IsReadWhole = IfSome command (λ asked. IfSome (left source) (λ input. (left source' ≡ Some []) ⊎ (limit_of asked < length input)))
+  IsReadWhole = IfSome (left source) (λ input. (left source' ≡ Some []) ⊎ (input_limit < length input))
 
   -- so it was where the status tells what the input comes to
   abbrev pub ReadsWhole : Status → Type 0

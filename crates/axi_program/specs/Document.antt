@@ -1,40 +1,47 @@
 -- What an input is: a first line `%%`, and after it the traffic for the built-in network.
-use Rattle.std.specs.Prelude.{◌≡◌, ℕ, ◌||◌, nat_lt, not, Bool, List, length, drop, Option, Some, option_map, if◌then◌else◌}
-use Rattle.std.specs.List.{list_any}
+use Rattle.std.specs.Prelude.{◌≡◌, ℕ, nat_lt, not, List, length, drop, Option, None, Some, option_and_then, if◌then◌else◌}
+use Rattle.std.specs.Str.{is_utf8}
 use Rattle.manager_end.specs.Script.{ScriptItem}
 use Rattle.plain_text.specs.Lines.{lines}
 use Rattle.plain_text.specs.Separator.{has_separator, begins_with_separator}
-use Rattle.axi_program.specs.Refusals.{no_separator, not_built}
-use Rattle.axi_program.specs.Traffic.{first_bad, script_of}
+use Rattle.axi_program.specs.Refusals.{input_too_long, no_separator, not_built, not_text, traffic_refusal}
+use Rattle.axi_program.specs.Traffic.{fault_of, script_of_lines}
 use Rattle.axi_program.specs.declared.document.DocumentFault.{DocumentFault}
 use Rattle.axi_program.specs.declared.document.DocumentFault.TheVariants.{Refused, NoMemory}
 use Rattle.axi_program.specs.declared.status.Refusal.{Refusal}
 
--- a byte isn't ASCII
-abbrev pub has_wide_byte : List ℕ → Bool
-has_wide_byte input = list_any (λ byte. nat_lt 127 byte) input
+-- the most bytes that an input may have
+abbrev pub input_limit : ℕ
+input_limit = 16777216
 
--- more bytes than are taken, or a byte that isn't ASCII
-abbrev pub is_out_of_reach : List ℕ → Bool
-is_out_of_reach input = nat_lt 65536 (length input) || has_wide_byte input
+-- the lines after the first one, which are the traffic where the first one is the separator; they are numbered from 1
+abbrev pub traffic_lines : List ℕ → List (List ℕ)
+traffic_lines input = drop 1 (lines input)
 
--- the lines after the first one, which are the traffic where the first one is the separator
-abbrev pub traffic_of : List ℕ → List (List ℕ)
-traffic_of input = drop 1 (lines input)
+-- why the input is refused by its lines, where it is: the first of these causes that holds
+abbrev pub refusal_by_lines : List ℕ → Option Refusal
+refusal_by_lines input =
+    if not (has_separator (lines input)) then Some no_separator
+    else if not (begins_with_separator (lines input)) then Some (not_built 0)
+    else option_and_then traffic_refusal (fault_of (traffic_lines input))
 
--- Why the input is refused, where it is: the first of these causes that holds. Traffic lines are numbered from 1.
+-- why the input is refused, where it is: the first of these causes that holds
 abbrev pub refusal_of : List ℕ → Option Refusal
 refusal_of input =
-    if is_out_of_reach input then Some (not_built 0)
-    else if not (has_separator (lines input)) then Some no_separator
-    else if not (begins_with_separator (lines input)) then Some (not_built 0)
-    else option_map not_built (first_bad 1 (traffic_of input))
+    if nat_lt input_limit (length input) then Some input_too_long
+    else if not (is_utf8 input) then Some not_text
+    else refusal_by_lines input
 
 -- the script that the input gives the manager
 abbrev pub script_of_input : List ℕ → List ScriptItem
-script_of_input input = script_of (traffic_of input)
+script_of_input input = script_of_lines (traffic_lines input)
 
--- a fault that is a refusal is the input's
+-- the fault of an input that is refused for this, or for which memory is wanting
+abbrev pub document_fault : Option Refusal → DocumentFault
+document_fault None = NoMemory
+document_fault (Some refusal) = Refused refusal
+
+-- a fault that is a refusal is the input's; memory is wanting only for an input that isn't refused
 abbrev pub TellsRefusal : List ℕ → DocumentFault → Type 0
 TellsRefusal input (Refused refusal) = refusal_of input ≡ Some refusal
-TellsRefusal input NoMemory = Unit {0}
+TellsRefusal input NoMemory = refusal_of input ≡ None

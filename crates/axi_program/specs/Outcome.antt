@@ -8,7 +8,7 @@ use Rattle.net_rounds.specs.BuiltIn.{bound, built_in, first_manager, script_of}
 use Rattle.net_rounds.specs.NetView.{NetView}
 use Rattle.net_rounds.specs.Network.{Network, after_rounds, is_finished}
 use Rattle.net_rounds.specs.Run.{run_length}
-use Rattle.axi_program.specs.Document.{refusal_of, script_of_input}
+use Rattle.axi_program.specs.Document.{input_limit, refusal_of, script_of_input}
 use Rattle.axi_program.specs.Refusals.{bad_trace_line, input_too_long, not_built, not_text}
 use Rattle.trace_check.specs.Verdicts.{verdict_of}
 use Rattle.trace_check.specs.declared.verdict.PortFault.{PortFault}
@@ -73,22 +73,12 @@ outcome_of (Broken fault) = Breaks fault
 outcome_of (BadTraceLine line) = Refuses (bad_trace_line line)
 outcome_of (NotBuilt line) = Refuses (not_built line)
 
--- the most bytes that an input may have
-abbrev pub limit_of : Command → ℕ
-limit_of (Run trace) = 65536
-limit_of Check = 16777216
-
 -- what an input comes to that is to be judged as a trace
 unfoldable pub check_outcome : List ℕ → Outcome
 check_outcome input =
-    if nat_lt (limit_of Check) (length input) then Refuses input_too_long
+    if nat_lt input_limit (length input) then Refuses input_too_long
     else if not (is_utf8 input) then Refuses not_text
     else outcome_of (verdict_of input)
-
--- why an input of more bytes is refused
-abbrev pub refusal_over : Command → Refusal
-refusal_over (Run trace) = not_built 0
-refusal_over Check = input_too_long
 
 -- what an input comes to that is to be run
 unfoldable pub document_outcome : Bool → List ℕ → Outcome

@@ -1,5 +1,5 @@
 -- What the program writes: the line of a refusal, and the lines of a run.
-use Rattle.std.specs.Prelude.{ℕ, ◌==◌, ◌||◌, List, [], ◌++◌, if◌then◌else◌, codes}
+use Rattle.std.specs.Prelude.{ℕ, ◌==◌, ◌||◌, Bool, List, [], ◌++◌, if◌then◌else◌, codes}
 use Rattle.std.specs.List.{flat_map, zip}
 use Rattle.std.specs.Fmt.{decimal}
 use Rattle.manager_end.specs.Answer.{AnswerView}
@@ -17,17 +17,31 @@ cause_name code =
     if code == 1 then codes "InputTooLong"
     else if code == 2 then codes "NotText"
     else if code == 3 then codes "NoSeparator"
+    else if code == 17 then codes "BadLine"
+    else if code == 18 then codes "UnknownManager"
+    else if code == 19 then codes "BadId"
+    else if code == 20 then codes "IllegalBurst"
+    else if code == 21 then codes "TooMuchTraffic"
     else if code == 22 then codes "BadTraceLine"
     else if code == 23 then codes "NotBuilt"
     else []
 
+-- these causes name a place
+abbrev pub names_place : ℕ → Bool
+names_place code = code == 17 || code == 18 || code == 19 || code == 20 || code == 22 || code == 23
+
 -- the place of a refusal, where its cause names one
 abbrev pub place_text : Refusal → List ℕ
-place_text refusal = if refusal.code == 22 || refusal.code == 23 then codes " " ++ decimal refusal.place else []
+place_text refusal = if names_place refusal.code then codes " " ++ decimal refusal.place else []
 
--- `refused <code> <name>`, and the place where one is named
+-- the broken rule, where the cause is one
+abbrev pub rule_text : Refusal → List ℕ
+rule_text refusal = if refusal.code == 20 then codes " " ++ decimal refusal.rule else []
+
+-- `refused <code> <name>`, the place where one is named, and the rule that is broken
 unfoldable pub refusal_line : Refusal → List ℕ
-refusal_line refusal = codes "refused " ++ decimal refusal.code ++ codes " " ++ cause_name refusal.code ++ place_text refusal ++ codes "\n"
+refusal_line refusal =
+    codes "refused " ++ decimal refusal.code ++ codes " " ++ cause_name refusal.code ++ place_text refusal ++ rule_text refusal ++ codes "\n"
 
 -- ---- a trace that is judged
 

@@ -1,5 +1,5 @@
 -- The words of the command line.
-use Rattle.std.specs.Prelude.{ℕ, [], ◌∷◌, List, Bool, true, false, Option, None, Some, if◌then◌else◌, codes}
+use Rattle.std.specs.Prelude.{ℕ, [], ◌∷◌, List, true, false, Option, None, Some, if◌then◌else◌, codes}
 use Rattle.std.specs.Str.{bytes_eq}
 use Rattle.axi_program.specs.declared.words.Command.{Command}
 use Rattle.axi_program.specs.declared.words.Command.TheVariants.{Check, Run}

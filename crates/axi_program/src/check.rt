@@ -4,6 +4,7 @@ ghost use Rattle.std.specs.Prelude.{◌≤◌, length};
 ghost use Rattle.axi_program.specs.Outcome.{Concludes, Answers, Breaks, check_outcome, outcome_of};
 ghost use Rattle.axi_program.specs.Text.{broken_line, legal_line};
 
+use crate::document::INPUT_LIMIT;
 use crate::outside::sink::Sink;
 use crate::outside::write_all::write_piece;
 use crate::refuse::refuse;
@@ -13,12 +14,9 @@ use plain_text::line_buffer::LineBuffer;
 use std::alloc::Global;
 use trace_check::{PortFault, Verdict, judge};
 
-/// The most bytes that a trace may have.
-pub const TRACE_LIMIT: usize = 16_777_216;
-
 /// Judges an input as a trace and writes the line of its verdict, or refuses it.
 pub fn check<K: Sink>(alloc: Global, input: &[u8], sink: &mut K) -> Status
-    requires { length input.now ≤ TRACE_LIMIT }
+    requires { length input.now ≤ INPUT_LIMIT }
     ensures concludes { Concludes K.written K.faults (check_outcome input.now) sink.old sink.new result }
     ensures count { K.faults sink.old ≤ K.faults sink.new }
 {

@@ -1,22 +1,21 @@
 //! The whole input: a first line `%%`, and after it the traffic for the built-in network.
 
-ghost use Rattle.std.specs.Prelude.{◌≡◌, ◌≤◌, length, option_map, IfOk, IfErr, IfSome, IfNone, None, Some, ◌<◌};
-ghost use Rattle.manager_end.specs.Script.{IsScript};
+ghost use Rattle.std.specs.Prelude.{◌≡◌, ◌≤◌, length, option_and_then, IfOk, IfErr, None, Some};
+ghost use Rattle.net_rounds.specs.Due.{IsNumberedTraffic};
 ghost use Rattle.plain_text.specs.Lines.{lines};
-ghost use Rattle.plain_text.specs.Separator.{has_separator};
-ghost use Rattle.axi_program.specs.Document.{has_wide_byte, refusal_of, script_of_input, traffic_of, TellsRefusal};
-ghost use Rattle.axi_program.specs.Refusals.{not_built};
-ghost use Rattle.axi_program.specs.Traffic.{first_bad, IsNetworkScript};
+ghost use Rattle.axi_program.specs.Document.{document_fault, refusal_of, script_of_input, traffic_lines, TellsRefusal};
+ghost use Rattle.axi_program.specs.Refusals.{traffic_refusal};
+ghost use Rattle.axi_program.specs.Traffic.{fault_of};
 
+use crate::script::read_script;
 use crate::status::Refusal;
-use crate::traffic::{TrafficFault, read_traffic};
 use manager_end::Script;
-use plain_text::lines::next_line;
-use plain_text::separator::{begins_with_separator, cut_at_separator};
+use plain_text::separator::cut_text;
 use std::alloc::Global;
+use traffic::TrafficFault;
 
-/// The most bytes that an input may have.
-pub const INPUT_LIMIT: usize = 65_536;
+/// The most bytes that an input may have, be it a document or a trace.
+pub const INPUT_LIMIT: usize = 16_777_216;
 
 /// Why an input gives no script.
 #[derive(Debug, Clone, Copy, PartialEq, Eq)]
@@ -27,57 +26,65 @@ pub enum DocumentFault {
     NoMemory,
 }
 
-/// The script that the input gives the manager, or why the input is refused. An input of more bytes than
-/// `INPUT_LIMIT` is refused before it is read.
+/// The script that the input gives the manager.
+///
+/// Time is linear in the input's length, and memory is that of the transactions.
+///
+/// # Errors
+///
+/// Of the causes for which the input is refused the first one: it is no text, it has no line `%%`,
+/// that line isn't its first one, or a line of its traffic is refused or all of them. Memory is wanting
+/// only where it isn't refused.
 pub fn read_document(alloc: Global, input: &[u8]) -> Result<Script, DocumentFault>
     requires { length input.now ≤ INPUT_LIMIT }
     ensures accepted { IfOk result (λ _. refusal_of input.now ≡ None) }
     ensures script { IfOk result (λ script. script ≡ script_of_input input.now) }
-    ensures suits { IfOk result IsNetworkScript }
-    ensures pushed { IfOk result IsScript }
-    ensures short { IfOk result (λ script. length script ≤ length input.now) }
+    ensures traffic { IfOk result IsNumberedTraffic }
     ensures refused { IfErr result (TellsRefusal input.now) }
 {
-    if let Some(refusal) = layout_refusal(input) {
-        return Err(DocumentFault::Refused(refusal));
-    }
-    let (_separator, traffic) = next_line(input);
-    match read_traffic(alloc, traffic) {
+    let text = match traffic_text(input) {
+        Ok(text) => text,
+        Err(refusal) => return Err(DocumentFault::Refused(refusal)),
+    };
+    match read_script(alloc, text) {
         Ok(script) => Ok(script),
-        Err(TrafficFault::BadLine(line)) => Err(DocumentFault::Refused(Refusal::not_built(line))),
-        Err(TrafficFault::NoMemory) => Err(DocumentFault::NoMemory),
+        Err(fault) => Err(document_fault(fault)),
     }
 }
 
-// Why the input is refused before its traffic is read.
-fn layout_refusal(input: &[u8]) -> Option<Refusal>
+// The text of the traffic, or why the input is refused before its traffic is read.
+fn traffic_text(input: &[u8]) -> Result<&str, Refusal>
     requires { length input.now ≤ INPUT_LIMIT }
-    ensures refused { IfSome result (λ refusal. refusal_of input.now ≡ Some refusal) }
-    ensures traffic { IfNone result (refusal_of input.now ≡ option_map not_built (first_bad 1 (traffic_of input.now))) }
-    ensures some { IfNone result (0 < length input.now) }
+    ensures lines { IfOk result (λ text. lines text.now ≡ traffic_lines input.now) }
+    ensures short { IfOk result (λ text. length text.now ≤ length input.now) }
+    ensures reached { IfOk result (λ _. refusal_of input.now ≡ option_and_then traffic_refusal (fault_of (traffic_lines input.now))) }
+    ensures refused { IfErr result (λ refusal. refusal_of input.now ≡ Some refusal) }
 {
-    if has_wide_byte(input) {
-        return Some(Refusal::not_built(0));
+    let text = match str::from_utf8(input) {
+        Ok(text) => text,
+        Err(_) => return Err(Refusal::not_text()),
+    };
+    match cut_text(text) {
+        Some((before, traffic)) if before.is_empty() => Ok(traffic),
+        Some(_) => Err(Refusal::not_built(0)),
+        None => Err(Refusal::no_separator()),
     }
-    if !has_separator(input) {
-        return Some(Refusal::no_separator());
-    }
-    if !begins_with_separator(input) {
-        return Some(Refusal::not_built(0));
-    }
-    None
 }
 
-// Whether a byte isn't ASCII.
-fn has_wide_byte(input: &[u8]) -> bool
-    ensures { result ≡ has_wide_byte input.now }
+// What a document's fault is whose traffic has this one.
+fn document_fault(fault: TrafficFault) -> DocumentFault
+    ensures { result ≡ document_fault (traffic_refusal fault) }
 {
-    input.iter().any(|byte| *byte > 127)
-}
-
-// Whether one of the lines is the separator.
-fn has_separator(input: &[u8]) -> bool
-    ensures { result ≡ has_separator (lines input.now) }
-{
-    cut_at_separator(input).is_some()
+    match fault {
+        TrafficFault::BadLine(line) => DocumentFault::Refused(Refusal::bad_line(line)),
+        TrafficFault::UnknownManager(line) => {
+            DocumentFault::Refused(Refusal::unknown_manager(line))
+        }
+        TrafficFault::BadId(line) => DocumentFault::Refused(Refusal::bad_id(line)),
+        TrafficFault::IllegalBurst { line, rule } => {
+            DocumentFault::Refused(Refusal::illegal_burst(line, rule))
+        }
+        TrafficFault::TooMuchTraffic => DocumentFault::Refused(Refusal::too_much_traffic()),
+        TrafficFault::NoMemory => DocumentFault::NoMemory,
+    }
 }

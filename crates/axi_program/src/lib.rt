@@ -2,9 +2,9 @@
 //!
 //! `outside` has the source that the input comes from, the sink that the text goes to, and the gate that the parts
 //! of a phase pass, each with what it promises and with the implementations that stand in memory and over the
-//! runtime's streams. `status` has the answers of the top call.
+//! runtime's streams; two never fail. `status` has the answers of the top call.
 //!
-//! `words` has the commands. `document` reads a document, and its lines by `traffic`, to the manager's script;
+//! `words` has the commands. `document` reads a document, and `script` its traffic lines to the manager's script;
 //! `run` runs it, with the lines of its `trace` where they are asked for. `check` judges a trace. `texts` writes what
 //! the program says, and `refuse` the line of a refusal. `top` is the call that puts them together.
 #![tactic(auto)]
@@ -16,6 +16,7 @@ mod document;
 mod outside;
 mod refuse;
 mod run;
+mod script;
 mod status;
 #[cfg(test)]
 mod tests;
@@ -24,7 +25,6 @@ mod top;
 mod trace;
 #[cfg(test)]
 mod trace_tests;
-mod traffic;
 mod words;
 
 pub use document::{DocumentFault, INPUT_LIMIT, read_document};
@@ -35,9 +35,9 @@ pub use outside::read_all::{InputFault, read_all};
 pub use outside::sink::Sink;
 pub use outside::source::{Failed, Source};
 pub use outside::standard::{StdinSource, StdoutSink};
+pub use outside::sure::{SureSink, SureSource};
 pub use outside::write_all::write_piece;
 pub use status::{Refusal, Status};
 pub use texts::{render_broken, render_legal, render_refusal, render_rounds};
 pub use top::axinet;
-pub use traffic::{Access, TrafficFault, TrafficLine, read_line, read_traffic};
 pub use words::{Command, command_of};

@@ -8,6 +8,7 @@ pub mod read_all;
 pub mod sink;
 pub mod source;
 pub mod standard;
+pub mod sure;
 #[cfg(test)]
 mod tests;
 pub mod write_all;

@@ -16,6 +16,7 @@ ghost use Rattle.axi_program.specs.Transfers.{AppendsPrefix};
 use crate::outside::sink::Sink;
 use crate::outside::source::Failed;
 use crate::outside::write_all::write_piece;
+use crate::script::MANAGER;
 use crate::status::Status;
 use crate::texts::render_rounds;
 use crate::trace::run_traced;
@@ -24,9 +25,6 @@ use net_rounds::Net;
 use plain_text::line_buffer::LineBuffer;
 use std::alloc::Global;
 use trace_text::render_answers;
-
-/// The name of the built-in manager.
-const MANAGER: &str = "m";
 
 /// Runs a script on the built-in network and writes the run's text, with the trace before it where
 /// one is asked for. All memory is taken before the first round, so none is wanting after the first

@@ -1,9 +1,10 @@
 //! What the top call answers.
 
 ghost use Rattle.std.specs.Prelude.{◌≡◌};
-ghost use Rattle.axi_program.specs.Refusals.{bad_trace_line, input_too_long, no_separator, not_built, not_text};
+ghost use Rattle.axi_program.specs.Refusals.{bad_id, bad_line, bad_trace_line, illegal_burst, input_too_long, no_separator, not_built, not_text, rule_number, too_much_traffic, unknown_manager};
 ghost use Rattle.axi_program.specs.Status.{exit_code};
 
+use burst_address::BurstRule;
 use trace_check::PortFault;
 
 /// Why an input is refused.
@@ -27,10 +28,26 @@ impl Refusal {
     /// The code of an input none of whose lines is `%%`.
     pub const NO_SEPARATOR: u8 = 3;
 
+    /// The code of a line of traffic that is of none of the forms.
+    pub const BAD_LINE: u8 = 17;
+
+    /// The code of a line of traffic that names no manager.
+    pub const UNKNOWN_MANAGER: u8 = 18;
+
+    /// The code of a line of traffic whose ID is too large for its manager.
+    pub const BAD_ID: u8 = 19;
+
+    /// The code of a line of traffic whose burst breaks a rule.
+    pub const ILLEGAL_BURST: u8 = 20;
+
+    /// The code of traffic of more transactions or beats than are taken.
+    pub const TOO_MUCH_TRAFFIC: u8 = 21;
+
     /// The code of a line that is none that a trace may have there.
     pub const BAD_TRACE_LINE: u8 = 22;
 
-    /// The code of an input, or of a line of traffic, that isn't of a form that is read yet.
+    /// The code of an input before whose first line `%%` something stands, and of a trace line of a port
+    /// that isn't read yet.
     pub const NOT_BUILT: u8 = 23;
 
     /// The input has more bytes than are taken.
@@ -50,6 +67,61 @@ impl Refusal {
     {
         Refusal {
             code: Refusal::NOT_TEXT,
+            place: 0,
+            rule: 0,
+        }
+    }
+
+    /// The line of traffic with this number is of none of the forms.
+    pub fn bad_line(line: u32) -> Refusal
+        ensures { result ≡ bad_line line }
+    {
+        Refusal {
+            code: Refusal::BAD_LINE,
+            place: line,
+            rule: 0,
+        }
+    }
+
+    /// The line of traffic with this number names no manager.
+    pub fn unknown_manager(line: u32) -> Refusal
+        ensures { result ≡ unknown_manager line }
+    {
+        Refusal {
+            code: Refusal::UNKNOWN_MANAGER,
+            place: line,
+            rule: 0,
+        }
+    }
+
+    /// The line of traffic with this number has too large an ID for its manager.
+    pub fn bad_id(line: u32) -> Refusal
+        ensures { result ≡ bad_id line }
+    {
+        Refusal {
+            code: Refusal::BAD_ID,
+            place: line,
+            rule: 0,
+        }
+    }
+
+    /// The line of traffic with this number asks for a burst whose first broken rule is this one.
+    pub fn illegal_burst(line: u32, rule: BurstRule) -> Refusal
+        ensures { result ≡ illegal_burst line rule }
+    {
+        Refusal {
+            code: Refusal::ILLEGAL_BURST,
+            place: line,
+            rule: rule_number(rule),
+        }
+    }
+
+    /// The traffic has more transactions or beats than are taken.
+    pub fn too_much_traffic() -> Refusal
+        ensures { result ≡ too_much_traffic }
+    {
+        Refusal {
+            code: Refusal::TOO_MUCH_TRAFFIC,
             place: 0,
             rule: 0,
         }
@@ -77,7 +149,8 @@ impl Refusal {
         }
     }
 
-    /// The line of traffic with this number isn't of a form that is read yet, or for place 0 the input.
+    /// The trace line with this number is of a port that isn't read yet, or for place 0 something stands
+    /// before the input's first line `%%`.
     pub fn not_built(place: u32) -> Refusal
         ensures { result ≡ not_built place }
     {
@@ -86,6 +159,18 @@ impl Refusal {
             place,
             rule: 0,
         }
+    }
+}
+
+// The number of a rule that a burst can break.
+fn rule_number(rule: BurstRule) -> u8
+    ensures { result ≡ rule_number rule }
+{
+    match rule {
+        BurstRule::Size => 1,
+        BurstRule::Length => 2,
+        BurstRule::WrapAlign => 3,
+        BurstRule::Page => 4,
     }
 }
 

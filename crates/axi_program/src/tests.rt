@@ -1,28 +1,12 @@
-//! Known inputs, and what is written of them.
+//! Known documents: what the top call answers of each, and what it writes.
 
 use super::*;
-use plain_text::line_buffer::LineBuffer;
+use burst_address::BurstRule;
+use std::alloc::Global;
 use std::process::Abort;
 use std::test::Fail;
 
-#[test]
-fn inputs_are_read_or_refused(rt: HostRuntime) -> Result<(), Fail> {
-    let alloc = rt.alloc();
-    let mut line = LineBuffer::new(alloc)?;
-    match read_document(alloc, b"%%\nwait m\nread m 02 0x1f 4 incr 1\n") {
-        Err(DocumentFault::Refused(refusal)) => render_refusal(&mut line, &refusal),
-        _ => render_rounds(&mut line, 0),
-    }
-    assert_eq!(rt; line.bytes(), b"refused 23 NotBuilt 2\n".as_slice());
-    match read_document(alloc, b"%%\n\twrite m 1 0x10 4 incr 0aF03344\n#\nwait m\n") {
-        Ok(script) => render_rounds(&mut line, u64::from(script.len())),
-        Err(_) => {}
-    }
-    assert_eq!(rt; line.bytes(), b"rounds 1\n".as_slice());
-    Ok(())
-}
-
-/// An input of the program, what the top call answers of it, and what it writes.
+/// An input, what the top call answers of it, and what it writes.
 #[derive(Clone, Copy)]
 struct Row {
     input: &'static [u8],
@@ -30,58 +14,264 @@ struct Row {
     written: &'static [u8],
 }
 
-fn a_write_and_a_read() -> Row {
+fn done(input: &'static [u8], written: &'static [u8]) -> Row {
     Row {
-        input: b"%%\nwrite m 1 0x10 4 incr 11223344\nwait m\nread m 2 0x10 4 incr 1\n",
+        input,
         status: Status::Done,
-        written: b"1 write m 1 5 okay\n2 read m 6 9 okay:11223344\nrounds 9\n",
+        written,
     }
 }
 
-fn no_traffic() -> Row {
+fn refused(input: &'static [u8], refusal: Refusal, written: &'static [u8]) -> Row {
     Row {
-        input: b"%%",
-        status: Status::Done,
-        written: b"rounds 0\n",
+        input,
+        status: Status::Refused(refusal),
+        written,
     }
 }
 
-fn a_longer_burst() -> Row {
-    Row {
-        input: b"%%\nread m 1 0x10 4 incr 2\n",
-        status: Status::Refused(Refusal::not_built(1)),
-        written: b"refused 23 NotBuilt 1\n",
+/// The words of the command line, where there is one after the program's name.
+fn words_of(alloc: Global, command: Option<&str>) -> Result<Vec<String>, Fail> {
+    let mut words = Vec::new(alloc);
+    words.push(String::from_str(alloc, "axinet")?)?;
+    if let Some(command) = command {
+        words.push(String::from_str(alloc, command)?)?;
     }
+    Ok(words)
 }
 
-fn no_separator() -> Row {
-    Row {
-        input: b"read m 1 0x10 4 incr 1\n",
-        status: Status::Refused(Refusal::no_separator()),
-        written: b"refused 3 NoSeparator\n",
-    }
+/// What the top call answers of an input that is to be run, and all that it writes.
+fn run_input(
+    rt: &(impl Alloc<A = Global> + Abort),
+    input: &[u8],
+    sink: &mut MemorySink,
+) -> Result<Status, Fail> {
+    let alloc = rt.alloc();
+    let mut source = MemorySource::new(input.to_vec(alloc)?, Vec::new(alloc), 50);
+    let words = words_of(alloc, Some("run"))?;
+    Ok(axinet(alloc, &words, &mut source, sink, &OpenGate))
 }
 
 /// Fails where the top call answers or writes anything else than a row has.
-fn compare(rt: &(impl Alloc<A = std::alloc::Global> + Abort), row: &Row) -> Result<(), Fail> {
+fn compare(rt: &(impl Alloc<A = Global> + Abort), row: &Row) -> Result<(), Fail> {
     let alloc = rt.alloc();
-    let mut source = MemorySource::new(row.input.to_vec(alloc)?, Vec::new(alloc), 5);
-    let mut sink = MemorySink::new(alloc, 100, Vec::new(alloc), 7)?;
-    let mut words = Vec::new(alloc);
-    words.push(String::from_str(alloc, "axinet")?)?;
-    let usage = axinet(alloc, &words, &mut source, &mut sink, &OpenGate);
-    assert_eq!(rt; usage, Status::Usage);
-    words.push(String::from_str(alloc, "run")?)?;
-    let status = axinet(alloc, &words, &mut source, &mut sink, &OpenGate);
-    assert_eq!(rt; status, row.status);
+    let mut sink = MemorySink::new(alloc, 200, Vec::new(alloc), 70)?;
+    assert_eq!(rt; run_input(rt, row.input, &mut sink)?, row.status);
     assert_eq!(rt; sink.bytes(), row.written);
     Ok(())
 }
 
+/// The same of a row that has only the end of what is written.
+fn compare_end(rt: &(impl Alloc<A = Global> + Abort), row: &Row) -> Result<(), Fail> {
+    let alloc = rt.alloc();
+    let mut sink = MemorySink::new(alloc, 5000, Vec::new(alloc), 5000)?;
+    assert_eq!(rt; run_input(rt, row.input, &mut sink)?, row.status);
+    assert!(rt; sink.bytes().ends_with(row.written));
+    Ok(())
+}
+
+fn no_traffic() -> Row {
+    done(b"%%", b"rounds 0\n")
+}
+
+// The write wraps at 0x40 and goes on at 0x30.
+fn a_wrapping_write() -> Row {
+    done(
+        b"%%\nwrite m 0 0x38 4 wrap 01010101 02020202 03030303 04040404\nwait m\nread m 0 0x30 4 incr 4\n",
+        b"1 write m 1 8 okay\n2 read m 9 15 okay:03030303 okay:04040404 okay:01010101 okay:02020202\nrounds 15\n",
+    )
+}
+
+fn an_unaligned_burst() -> Row {
+    done(
+        b"%%\nwrite m 0 0x1003 4 incr aa b0b1b2b3 c0c1c2c3\nwait m\nread m 0 0x1003 4 incr 3\n",
+        b"1 write m 1 7 okay\n2 read m 8 13 okay:aa okay:b0b1b2b3 okay:c0c1c2c3\nrounds 13\n",
+    )
+}
+
+fn the_end_of_a_page() -> Row {
+    done(
+        b"%%\nwrite m 0 0xffc 4 incr 00000000\n",
+        b"1 write m 1 5 okay\nrounds 5\n",
+    )
+}
+
+fn a_write_without_strobes() -> Row {
+    done(
+        b"%%\nwrite m 0 0x10 4 incr --------\nwait m\nread m 0 0x10 4 incr 1\n",
+        b"1 write m 1 5 okay\n2 read m 6 9 okay:00000000\nrounds 9\n",
+    )
+}
+
+fn past_the_memory() -> Row {
+    done(
+        b"%%\r\n# past the end\r\n\r\n\tread m 0 0x9000 4 incr 1\r\nwait m\r\nwrite m 1 0x9000 4 incr 01020304\r\n",
+        b"1 read m 1 4 decerr:00000000\n2 write m 5 9 decerr\nrounds 9\n",
+    )
+}
+
+fn sixteen_beats() -> Row {
+    done(b"%%\nread m 0 0x0 4 fixed 16", b"rounds 19\n")
+}
+
+fn most_beats() -> Row {
+    done(b"%%\nread m 0 0x0 4 incr 256", b"rounds 259\n")
+}
+
 #[test]
-fn the_top_call_answers(rt: HostRuntime) -> Result<(), Fail> {
-    compare(&rt, &a_write_and_a_read())?;
+fn documents_are_run(rt: HostRuntime) -> Result<(), Fail> {
     compare(&rt, &no_traffic())?;
-    compare(&rt, &a_longer_burst())?;
-    compare(&rt, &no_separator())
+    compare(&rt, &a_wrapping_write())?;
+    compare(&rt, &an_unaligned_burst())?;
+    compare(&rt, &the_end_of_a_page())?;
+    compare(&rt, &a_write_without_strobes())?;
+    compare(&rt, &past_the_memory())?;
+    compare_end(&rt, &sixteen_beats())?;
+    compare_end(&rt, &most_beats())
+}
+
+fn two_pages() -> Row {
+    refused(
+        b"%%\nwrite m 0 0xffc 4 incr 00000000 00000000\n",
+        Refusal::illegal_burst(1, BurstRule::Page),
+        b"refused 20 IllegalBurst 1 4\n",
+    )
+}
+
+fn seventeen_fixed_beats() -> Row {
+    refused(
+        b"%%\nread m 0 0x0 4 fixed 17\n",
+        Refusal::illegal_burst(1, BurstRule::Length),
+        b"refused 20 IllegalBurst 1 2\n",
+    )
+}
+
+fn too_many_beats() -> Row {
+    refused(
+        b"%%\nread m 0 0x0 4 incr 257\n",
+        Refusal::illegal_burst(1, BurstRule::Length),
+        b"refused 20 IllegalBurst 1 2\n",
+    )
+}
+
+fn a_large_id() -> Row {
+    refused(
+        b"%%\nread m 16 0x0 4 incr 1\n",
+        Refusal::bad_id(1),
+        b"refused 19 BadId 1\n",
+    )
+}
+
+fn an_unknown_manager() -> Row {
+    refused(
+        b"%%\nwait z\n",
+        Refusal::unknown_manager(1),
+        b"refused 18 UnknownManager 1\n",
+    )
+}
+
+fn a_pair_too_many() -> Row {
+    refused(
+        b"%%\nwrite m 0 0x1 4 incr 00000000\n",
+        Refusal::bad_line(1),
+        b"refused 17 BadLine 1\n",
+    )
+}
+
+fn a_bad_line_after_a_large_id() -> Row {
+    refused(
+        b"%%\nread m 16 0x0 4 incr 1\nwait\n",
+        Refusal::bad_line(2),
+        b"refused 17 BadLine 2\n",
+    )
+}
+
+fn a_late_separator() -> Row {
+    refused(
+        b"\n%%\nwait\n",
+        Refusal::not_built(0),
+        b"refused 23 NotBuilt 0\n",
+    )
+}
+
+fn no_bytes() -> Row {
+    refused(b"", Refusal::no_separator(), b"refused 3 NoSeparator\n")
+}
+
+fn no_text() -> Row {
+    refused(b"\xff", Refusal::not_text(), b"refused 2 NotText\n")
+}
+
+#[test]
+fn documents_are_refused(rt: HostRuntime) -> Result<(), Fail> {
+    compare(&rt, &two_pages())?;
+    compare(&rt, &seventeen_fixed_beats())?;
+    compare(&rt, &too_many_beats())?;
+    compare(&rt, &a_large_id())?;
+    compare(&rt, &an_unknown_manager())?;
+    compare(&rt, &a_pair_too_many())?;
+    compare(&rt, &a_bad_line_after_a_large_id())?;
+    compare(&rt, &a_late_separator())?;
+    compare(&rt, &no_bytes())?;
+    compare(&rt, &no_text())
+}
+
+/// Fails where so many spaces aren't refused so.
+fn compare_spaces(
+    rt: &(impl Alloc<A = Global> + Abort),
+    command: &str,
+    count: usize,
+    refusal: Refusal,
+    written: &[u8],
+) -> Result<(), Fail> {
+    let alloc = rt.alloc();
+    let words = words_of(alloc, Some(command))?;
+    let mut bytes = Vec::new(alloc);
+    bytes.resize(count, b' ')?;
+    let mut source = SureSource::new(bytes);
+    let mut sink = MemorySink::new(alloc, 100, Vec::new(alloc), 100)?;
+    let status = axinet(alloc, &words, &mut source, &mut sink, &OpenGate);
+    assert_eq!(rt; status, Status::Refused(refusal));
+    assert_eq!(rt; sink.bytes(), written);
+    Ok(())
+}
+
+#[test]
+fn long_inputs_are_refused(rt: HostRuntime) -> Result<(), Fail> {
+    let too_long = Refusal::input_too_long();
+    compare_spaces(
+        &rt,
+        "run",
+        16_777_217,
+        too_long,
+        b"refused 1 InputTooLong\n",
+    )?;
+    compare_spaces(
+        &rt,
+        "check",
+        16_777_217,
+        too_long,
+        b"refused 1 InputTooLong\n",
+    )?;
+    let no_separator = Refusal::no_separator();
+    compare_spaces(
+        &rt,
+        "run",
+        16_777_216,
+        no_separator,
+        b"refused 3 NoSeparator\n",
+    )
+}
+
+#[test]
+fn nothing_fails_between_a_sure_source_and_a_sure_sink(rt: HostRuntime) -> Result<(), Fail> {
+    let alloc = rt.alloc();
+    let input = a_wrapping_write().input;
+    for (command, status) in [(None, Status::Usage), (Some("run"), Status::Done)] {
+        let words = words_of(alloc, command)?;
+        let mut source = SureSource::new(input.to_vec(alloc)?);
+        let answer = axinet(alloc, &words, &mut source, &mut SureSink::new(), &OpenGate);
+        assert_eq!(rt; answer, status);
+    }
+    Ok(())
 }

@@ -3,13 +3,14 @@
 //! Each call replaces the bytes of a line buffer by one line with its line feed, and takes no memory.
 
 ghost use Rattle.std.specs.Prelude.{◌≡◌, ◌≤◌, ◌+◌, ◌++◌, length};
-ghost use Rattle.axi_program.specs.Text.{broken_line, cause_name, channel_name, legal_line, place_text, refusal_line, rounds_line};
+ghost use Rattle.axi_program.specs.Text.{broken_line, cause_name, channel_name, legal_line, names_place, place_text, refusal_line, rounds_line, rule_text};
 
 use crate::status::Refusal;
 use plain_text::line_buffer::LineBuffer;
 use trace_check::PortFault;
 
-/// Writes the line of a refusal: its code, the name of its cause, and the place where the cause names one.
+/// Writes the line of a refusal: its code, the name of its cause, the place where the cause names one, and the rule
+/// where the cause is a broken one.
 #[tactic(auto, unfolding(crate::specs::Text::refusal_line))]
 pub fn render_refusal(line: &mut LineBuffer, refusal: &Refusal)
     ensures { line.new ≡ refusal_line refusal.now }
@@ -20,6 +21,7 @@ pub fn render_refusal(line: &mut LineBuffer, refusal: &Refusal)
     line.push(b" ");
     line.push(cause_name(refusal.code).as_bytes());
     push_place(line, refusal);
+    push_rule(line, refusal);
     line.push(b"\n");
 }
 
@@ -29,21 +31,53 @@ fn push_place(line: &mut LineBuffer, refusal: &Refusal)
     ensures text { line.new ≡ line.old ++ place_text refusal.now }
     ensures room { length line.new ≤ length line.old + 21 }
 {
-    if refusal.code == Refusal::BAD_TRACE_LINE || refusal.code == Refusal::NOT_BUILT {
+    if names_place(refusal.code) {
         line.push(b" ");
         line.push_decimal(u64::from(refusal.place));
+    }
+}
+
+// Whether a cause names a place.
+fn names_place(code: u8) -> bool
+    ensures { result ≡ names_place code }
+{
+    matches!(
+        code,
+        Refusal::BAD_LINE
+            | Refusal::UNKNOWN_MANAGER
+            | Refusal::BAD_ID
+            | Refusal::ILLEGAL_BURST
+            | Refusal::BAD_TRACE_LINE
+            | Refusal::NOT_BUILT
+    )
+}
+
+// Writes the rule of a refusal, where its cause is a broken rule.
+fn push_rule(line: &mut LineBuffer, refusal: &Refusal)
+    requires { length line.old ≤ 200 }
+    ensures text { line.new ≡ line.old ++ rule_text refusal.now }
+    ensures room { length line.new ≤ length line.old + 21 }
+{
+    if refusal.code == Refusal::ILLEGAL_BURST {
+        line.push(b" ");
+        line.push_decimal(u64::from(refusal.rule));
     }
 }
 
 // The name of a cause.
 fn cause_name(code: u8) -> &'static str
     ensures name { result.now ≡ cause_name code }
-    ensures short { length result.now ≤ 12 }
+    ensures short { length result.now ≤ 14 }
 {
     match code {
         Refusal::INPUT_TOO_LONG => "InputTooLong",
         Refusal::NOT_TEXT => "NotText",
         Refusal::NO_SEPARATOR => "NoSeparator",
+        Refusal::BAD_LINE => "BadLine",
+        Refusal::UNKNOWN_MANAGER => "UnknownManager",
+        Refusal::BAD_ID => "BadId",
+        Refusal::ILLEGAL_BURST => "IllegalBurst",
+        Refusal::TOO_MUCH_TRAFFIC => "TooMuchTraffic",
         Refusal::BAD_TRACE_LINE => "BadTraceLine",
         Refusal::NOT_BUILT => "NotBuilt",
         _ => "",

@@ -4,10 +4,10 @@ ghost use Rattle.std.specs.Prelude.{◌≡◌, ◌≢◌, ◌≤◌, map, string
 ghost use Rattle.axi_program.specs.Call.{IsComplete, IsRightRun, ReadsWhole, Tells};
 ghost use Rattle.axi_program.specs.Document.{refusal_of};
 ghost use Rattle.axi_program.specs.Faults.{Rose};
-ghost use Rattle.axi_program.specs.Outcome.{Concludes, document_outcome, input_outcome, limit_of as limit_by, refusal_over};
+ghost use Rattle.axi_program.specs.Outcome.{Concludes, document_outcome, input_outcome};
 ghost use Rattle.axi_program.specs.Words.{command_of as command_by};
 
-use crate::check::{TRACE_LIMIT, check};
+use crate::check::check;
 use crate::document::{DocumentFault, INPUT_LIMIT, read_document};
 use crate::outside::gate::Gate;
 use crate::outside::read_all::{InputFault, read_all};
@@ -39,7 +39,7 @@ pub fn axinet<S: Source, K: Sink, G: Gate>(
 
     // What each status says: which cause it had, and what was written.
     ensures tells { Tells (command_by (map string_bytes words.now)) S.left S.faults K.written K.faults source.old source.new sink.old sink.new result }
-    ensures reads_whole { ReadsWhole (command_by (map string_bytes words.now)) S.left source.old source.new result }
+    ensures reads_whole { ReadsWhole S.left source.old source.new result }
 
     // The run of a document that isn't refused is right, after any number of rounds: each byte that
     // may be accessed is accessed once, in burst order, at the subordinate that the address names;
@@ -61,37 +61,17 @@ pub fn axinet<S: Source, K: Sink, G: Gate>(
         Some(command) => command,
         None => return Status::Usage,
     };
-    match read_all(alloc, source, limit_of(command)) {
+    match read_all(alloc, source, INPUT_LIMIT) {
         Ok(input) => heed(alloc, command, &input, sink),
-        Err(InputFault::TooLong) => refuse(alloc, too_long(command), sink),
+        Err(InputFault::TooLong) => refuse(alloc, Refusal::input_too_long(), sink),
         Err(InputFault::ReadFault) => Status::ReadFault,
         Err(InputFault::NoMemory) => Status::NoMemory,
     }
 }
 
-/// The most bytes that an input of the command may have.
-fn limit_of(command: Command) -> usize
-    ensures { result ≡ limit_by command }
-{
-    match command {
-        Command::Run { .. } => INPUT_LIMIT,
-        Command::Check => TRACE_LIMIT,
-    }
-}
-
-/// Why an input is refused that has more.
-fn too_long(command: Command) -> Refusal
-    ensures { result ≡ refusal_over command }
-{
-    match command {
-        Command::Run { .. } => Refusal::not_built(0),
-        Command::Check => Refusal::input_too_long(),
-    }
-}
-
 /// Does what the command says with an input, or refuses it.
 fn heed<K: Sink>(alloc: Global, command: Command, input: &[u8], sink: &mut K) -> Status
-    requires { length input.now ≤ limit_by command }
+    requires { length input.now ≤ INPUT_LIMIT }
     ensures concludes { Concludes K.written K.faults (input_outcome command input.now) sink.old sink.new result }
     ensures right { result ≢ Status.NoMemory → IsRightRun command input.now }
     ensures count { K.faults sink.old ≤ K.faults sink.new }

@@ -80,7 +80,8 @@ impl Source for MemorySource {
     }
 }
 
-fn copy_front(to: &mut [u8], from: &[u8], count: usize)
+/// Copies so many bytes to the front of a buffer.
+pub fn copy_front(to: &mut [u8], from: &[u8], count: usize)
     requires room { count ≤ length to.old }
     requires there { count ≤ length from.now }
     ensures { to.new ≡ take count from.now ++ drop count to.old }

@@ -1,18 +1,10 @@
-use Rattle.std.proofs.Common.{◌≡◌, ◌≤◌, ℕ, List, Bool, true, false, length, refl, sym, ap, subst, ◌∙◌}
-use Rattle.std.specs.Prelude.{IsUtf8}
-use Rattle.std.specs.Str.{is_utf8}
-use Rattle.std.proofs.lemmas.Str.{IsUtf8-from_is_utf8, is_utf8-from_IsUtf8}
+use Rattle.std.proofs.Common.{ap, subst, ◌∙◌}
+use Rattle.std.proofs.lemmas.Str.{is_utf8-from_IsUtf8}
 use Rattle.axi_program.proofs.CallLaws.{check-judges, check-refuses}
+use Rattle.axi_program.proofs.DocumentLaws.{no-text}
 use Rattle.axi_program.specs.Outcome.{Concludes, Outcome, Refuses, outcome_of}
-use Rattle.trace_check.specs.declared.verdict.Verdict.{Verdict}
 use Rattle.trace_check.specs.Verdicts.{verdict_of}
 use Rattle.axi_program.proofs.check.check.Goals as goal
-
--- what isn't UTF-8 doesn't pass the test for it
-no-text : (bytes : List ℕ) → ¬ IsUtf8 bytes → is_utf8 bytes ≡ false
-no-text bytes never =
-    let go : (b : Bool) → is_utf8 bytes ≡ b → b ≡ false = λ b. elim b as (λ b. is_utf8 bytes ≡ b → b ≡ false) [ true ↦ λ is. absurd (never (IsUtf8-from_is_utf8 bytes is)) | false ↦ λ is. refl ]
-    in go (is_utf8 bytes) refl
 
 pub returns-in-Err-clause-concludes : goal.returns-in-Err-clause-concludes
 returns-in-Err-clause-concludes g c =

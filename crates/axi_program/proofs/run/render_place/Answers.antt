@@ -1,10 +1,9 @@
-use Rattle.std.proofs.Common.{◌≡◌, ◌<◌, ◌≤◌, length, sym, ap, subst, ◌∙◌}
-use Rattle.manager_end.specs.ManagerState.{answered_one}
+use Rattle.std.proofs.Common.{◌≡◌, ◌<◌, length, sym, ap, subst, ◌∙◌}
 use Rattle.manager_end.specs.Script.{ScriptItem}
 use Rattle.manager_end.specs.declared.script.Txn.{Txn}
-use Rattle.std.specs.Prelude.{Option, Some, option_map, slice_get}
+use Rattle.std.specs.Prelude.{Some, option_map, slice_get}
 use Rattle.std.specs.Option.{option_copied}
-use Rattle.axi_program.proofs.RunLaws.{item-at, line_at-is, not-missing, noted-at, short-at, size-at}
+use Rattle.axi_program.proofs.RunLaws.{burst-at, item-at, line_at-is, not-missing, noted-at, short-at}
 use Rattle.trace_text.specs.AnswerLine.{answer_line}
 use Rattle.axi_program.specs.Traffic.{manager_name}
 use Rattle.axi_program.proofs.run.render_place.Goals as goal
@@ -18,14 +17,17 @@ told c = ap (λ script. option_map (λ (item : ScriptItem). item.txn) (slice_get
 noted : (c : goal.After-txn) → slice_get c.args.manager.now.state.answers c.args.place ≡ Some c.in-Some.answer.now
 noted c = noted-at _ _ (sym c.answer.ensures ∙ ap option_copied c.in-Some.is)
 
-pub render_answers-requires-clause-width : goal.render_answers-requires-clause-width
-render_answers-requires-clause-width c = size-at c.args.manager.now.state.script c.args.place c.txn.result.now c.requires.script (told c)
+pub render_answers-requires-clause-start : goal.render_answers-requires-clause-start
+render_answers-requires-clause-start c = (burst-at c.args.manager.now.state.script c.args.place c.txn.result.now c.requires.script (told c)).0
+
+pub render_answers-requires-clause-legal : goal.render_answers-requires-clause-legal
+render_answers-requires-clause-legal c = (burst-at c.args.manager.now.state.script c.args.place c.txn.result.now c.requires.script (told c)).1
 
 pub render_answers-requires-clause-beats : goal.render_answers-requires-clause-beats
-render_answers-requires-clause-beats c = (short-at c.args.manager.now.state.answers c.args.place _ c.requires.notes.short (noted c)).responses
+render_answers-requires-clause-beats c = (short-at c.args.manager.now.state c.args.place c.txn.result.now c.in-Some.answer.now c.requires.notes (told c) (noted c)).0
 
 pub render_answers-requires-clause-bytes : goal.render_answers-requires-clause-bytes
-render_answers-requires-clause-bytes c = (short-at c.args.manager.now.state.answers c.args.place _ c.requires.notes.short (noted c)).bytes
+render_answers-requires-clause-bytes c = (short-at c.args.manager.now.state c.args.place c.txn.result.now c.in-Some.answer.now c.requires.notes (told c) (noted c)).1
 
 pub unreachable-requires : goal.unreachable-requires
 unreachable-requires c =

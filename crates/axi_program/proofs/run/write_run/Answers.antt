@@ -1,4 +1,4 @@
-use Rattle.std.proofs.Common.{◌≡◌, ◌++◌, [], ℕ, List, append-nil, sym}
+use Rattle.std.proofs.Common.{◌++◌, [], append-nil, sym}
 use Rattle.axi_program.proofs.RunLaws.{on-err-map, prefix-later}
 use Rattle.axi_program.specs.Outcome.{parting, text_of_net}
 use Rattle.axi_program.specs.Transfers.{AppendsPrefix}

@@ -1,12 +1,11 @@
-use Rattle.std.proofs.Common.{◌≡◌, Err, ℕ, List, Option, Some, None, sym, ap, subst, ◌∙◌}
+use Rattle.std.proofs.Common.{◌≡◌, Err, Some, sym, ap, subst, ◌∙◌}
 use Rattle.std.specs.Prelude.{map, string_bytes}
 use Rattle.axi_program.proofs.CallLaws.{complete-by, never-usage, over-outcome, tells-by}
 use Rattle.axi_program.specs.Call.{Tells}
-use Rattle.axi_program.specs.Outcome.{Concludes, Refuses, limit_of, refusal_over}
-use Rattle.axi_program.specs.Transfers.{IsOver}
+use Rattle.axi_program.specs.Outcome.{Concludes, Refuses}
+use Rattle.axi_program.specs.Refusals.{input_too_long}
 use Rattle.axi_program.specs.Words.{command_of}
 use Rattle.axi_program.specs.declared.status.Refusal.{Refusal}
-use Rattle.axi_program.specs.declared.words.Command.{Command}
 use Rattle.axi_program.proofs.top.axinet.Goals as goal
 use Rattle.axi_program.proofs.top.axinet.Given as given
 
@@ -15,17 +14,16 @@ named : (g : given.Over) (c : goal.After-refuse g) → command_of (map string_by
 named g c = sym c.command_of.ensures ∙ c.in-Some.is
 
 -- an input over the size is refused, and only its line is written
-concludes-over : (g : given.Over) (c : goal.After-refuse g) → Concludes g.K.Sink.written g.K.Sink.faults (Refuses (refusal_over c.in-Some.command)) c.args.sink.now c.refuse.new.sink c.refuse.result
-concludes-over g c = subst (λ (r : Refusal). Concludes g.K.Sink.written g.K.Sink.faults (Refuses r) c.args.sink.now c.refuse.new.sink c.refuse.result) c.too_long.ensures c.refuse.ensures.concludes
+concludes-over : (g : given.Over) (c : goal.After-refuse g) → Concludes g.K.Sink.written g.K.Sink.faults (Refuses input_too_long) c.args.sink.now c.refuse.new.sink c.refuse.result
+concludes-over g c = subst (λ (r : Refusal). Concludes g.K.Sink.written g.K.Sink.faults (Refuses r) c.args.sink.now c.refuse.new.sink c.refuse.result) c.input_too_long.ensures c.refuse.ensures.concludes
 
 tells-over :
     (g : given.Over) (c : goal.After-refuse g) →
     Tells (command_of (map string_bytes c.args.words.now)) g.S.Source.left g.S.Source.faults g.K.Sink.written g.K.Sink.faults c.args.source.now c.read_all.new.source c.args.sink.now c.refuse.new.sink c.refuse.result
 tells-over g c =
     let asked = command_of (map string_bytes c.args.words.now) in
-    let over : IsOver (limit_of c.in-Some.command) (g.S.Source.left c.args.source.now) =
-    subst (λ (limit : ℕ). IsOver limit (g.S.Source.left c.args.source.now)) c.limit_of.ensures (c.in-Err-TooLong.ensures.too_long (ap Err c.in-Err-TooLong.field-0-is)) in
-    tells-by asked g.S.Source.left g.S.Source.faults g.K.Sink.written g.K.Sink.faults c.args.source.now c.read_all.new.source c.args.sink.now c.refuse.new.sink c.in-Some.command (named g c) (Refuses (refusal_over c.in-Some.command)) c.refuse.result
+    let over = c.in-Err-TooLong.ensures.too_long (ap Err c.in-Err-TooLong.field-0-is) in
+    tells-by asked g.S.Source.left g.S.Source.faults g.K.Sink.written g.K.Sink.faults c.args.source.now c.read_all.new.source c.args.sink.now c.refuse.new.sink c.in-Some.command (named g c) (Refuses input_too_long) c.refuse.result
     (over-outcome asked g.S.Source.left g.S.Source.faults g.K.Sink.written g.K.Sink.faults c.args.source.now c.read_all.new.source c.args.sink.now c.refuse.new.sink c.in-Some.command (named g c) over)
     (concludes-over g c)
 
@@ -37,5 +35,5 @@ returns-in-Err-TooLong-clause-complete g c =
     let asked = command_of (map string_bytes c.args.words.now) in
     λ reads writes.
     complete-by asked g.S.Source.left g.S.Source.faults g.K.Sink.written g.K.Sink.faults c.args.source.now c.read_all.new.source c.args.sink.now c.refuse.new.sink c.refuse.result (tells-over g c)
-    (λ used. absurd (never-usage asked g.S.Source.left g.S.Source.faults g.K.Sink.written g.K.Sink.faults c.args.source.now c.read_all.new.source c.args.sink.now c.refuse.new.sink (Refuses (refusal_over c.in-Some.command)) c.refuse.result (concludes-over g c) used))
+    (λ used. absurd (never-usage asked g.S.Source.left g.S.Source.faults g.K.Sink.written g.K.Sink.faults c.args.source.now c.read_all.new.source c.args.sink.now c.refuse.new.sink (Refuses input_too_long) c.refuse.result (concludes-over g c) used))
     reads writes

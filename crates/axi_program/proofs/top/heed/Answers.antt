@@ -1,4 +1,4 @@
-use Rattle.std.proofs.Common.{◌≡◌, sym, ap, subst, ◌∙◌}
+use Rattle.std.proofs.Common.{sym, ap, subst, ◌∙◌}
 use Rattle.axi_program.proofs.CallLaws.{checks, runs}
 use Rattle.axi_program.specs.Call.{IsRightRun}
 use Rattle.axi_program.specs.Outcome.{Concludes, Outcome, input_outcome}

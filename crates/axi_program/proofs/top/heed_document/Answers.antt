@@ -1,10 +1,8 @@
-use Rattle.std.proofs.Common.{◌≡◌, None, sym, subst, ◌∙◌}
-use Rattle.manager_end.specs.Script.{ScriptItem}
-use Rattle.std.specs.Prelude.{List}
+use Rattle.std.proofs.Common.{subst}
 use Rattle.axi_program.proofs.CallLaws.{outcome-refuses, outcome-runs}
 use Rattle.axi_program.proofs.RightLaws.{never-accepted, run-is-right}
 use Rattle.axi_program.specs.Call.{RunIsRight}
-use Rattle.axi_program.specs.Document.{TellsRefusal, refusal_of}
+use Rattle.axi_program.specs.Document.{TellsRefusal}
 use Rattle.axi_program.specs.declared.document.DocumentFault.{DocumentFault}
 use Rattle.axi_program.specs.Outcome.{Concludes, Outcome}
 use Rattle.axi_program.proofs.top.heed_document.Goals as goal
@@ -21,7 +19,7 @@ returns-in-Err-Refused-clause-concludes g c =
 
 pub returns-in-Ok-clause-right : goal.returns-in-Ok-clause-right
 returns-in-Ok-clause-right g c =
-    λ there accepted. subst RunIsRight c.in-Ok.ensures.script (run-is-right c.in-Ok.script c.in-Ok.ensures.pushed c.in-Ok.ensures.suits)
+    λ there accepted. subst RunIsRight c.in-Ok.ensures.script (run-is-right c.in-Ok.script c.in-Ok.ensures.traffic)
 
 pub returns-in-Err-Refused-clause-right : goal.returns-in-Err-Refused-clause-right
 returns-in-Err-Refused-clause-right g c =

@@ -1,14 +1,13 @@
-use Rattle.std.proofs.Common.{◌≡◌, ◌<◌, ◌≤◌, ◌+◌, ◌-◌, ◌++◌, ℕ, List, true, refl, sym, ap, ap₂, subst, ◌∙◌, arith}
+use Rattle.std.proofs.Common.{◌≡◌, ◌≤◌, ◌+◌, ◌-◌, ◌++◌, ℕ, List, true, sym, ap, ap₂, subst, ◌∙◌, arith}
 use Rattle.std.specs.Io.KnownBytes.{Appends}
 use Rattle.std.proofs.KnownBytes.{Appends-trans}
-use Rattle.axi_trail.specs.Streams.{over}
 use Rattle.net_rounds.proofs.RunLemmas.{after_rounds-more, least-at_bound, least-finished, least-more}
 use Rattle.net_rounds.specs.NetView.{NetView}
 use Rattle.net_rounds.specs.Network.{Network, after_commit, after_decide, after_rounds, is_finished}
 use Rattle.net_rounds.specs.Run.{least_finished, run_length}
 use Rattle.axi_program.proofs.RunLaws.{on-err, prefix-later}
 use Rattle.axi_program.proofs.TraceLaws.{over-front, over-more, run-goes-on}
-use Rattle.axi_program.specs.Trace.{HasRun, lines_after, lines_of_run, round_lines, trace_lines}
+use Rattle.axi_program.specs.Trace.{lines_after, lines_of_run, round_lines, trace_lines}
 use Rattle.axi_program.specs.Transfers.{AppendsPrefix}
 use Rattle.axi_program.proofs.trace.run_traced.Goals as goal
 
