@@ -1,6 +1,6 @@
 -- What the top call's parts tell of the whole.
 use Rattle.std.proofs.Common.{◌≡◌, ◌<◌, ◌≤◌, ℕ, List, [], Option, Some, None, Bool, true, false, cond, not, length, refl, sym, ap, ◌∙◌, subst, inl, inr}
-use Rattle.std.specs.Prelude.{IfSome, ◌⊎◌}
+use Rattle.std.specs.Prelude.{IfSome}
 use Rattle.manager_end.specs.Script.{ScriptItem}
 use Rattle.axi_program.proofs.DocumentLaws.{refusal-over}
 use Rattle.axi_program.specs.Call.{Came, IsComplete, IsReadWhole, IsTooLong, ReadsWhole, Tells}
