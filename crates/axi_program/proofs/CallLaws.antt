@@ -1,9 +1,9 @@
 -- What the top call's parts tell of the whole.
 use Rattle.std.proofs.Common.{◌≡◌, ◌<◌, ◌≤◌, ℕ, List, [], Option, Some, None, Bool, true, false, cond, not, length, refl, sym, ap, ◌∙◌, subst, inl, inr}
-use Rattle.std.specs.Prelude.{IfSome, ◌⊎◌}
+use Rattle.std.specs.Prelude.{IfSome}
 use Rattle.manager_end.specs.Script.{ScriptItem}
 use Rattle.axi_program.proofs.DocumentLaws.{refusal-over}
-use Rattle.axi_program.specs.Call.{Came, IsComplete, IsReadWhole, ReadsWhole, Tells}
+use Rattle.axi_program.specs.Call.{Came, IsComplete, IsReadWhole, IsTooLong, ReadsWhole, Tells}
 use Rattle.axi_program.specs.Document.{input_limit, refusal_of, script_of_input}
 use Rattle.axi_program.specs.Faults.{Rose}
 use Rattle.axi_program.specs.Outcome.{Concludes, Outcome, Refuses, check_outcome, document_outcome, input_outcome, outcome_by, outcome_of, run_outcome, status_of}
@@ -52,6 +52,10 @@ pub outcome-over : (command : Command) (input : List ℕ) → input_limit < leng
 unfolding input_outcome check_outcome
 outcome-over (Run trace) input over = outcome-refuses trace input input_too_long (refusal-over input over)
 outcome-over Check input over = ap (λ (b : Bool). cond b (Refuses input_too_long) (cond (not (is_utf8 input)) (Refuses not_text) (outcome_of (verdict_of input)))) (sym (lt-ltb input_limit (length input) over))
+
+-- a refusal is the refusal of its status
+same-refusal : (refusal other : Refusal) → Refused refusal ≡ Refused other → refusal ≡ other
+same-refusal refusal other is = cc
 
 module _ {X : Type 0} where
   -- what holds of each that may be there holds also of one more
@@ -119,22 +123,33 @@ module _ {S K : Type 0} (command : Option Command) (left : S → Option (List �
   complete-by Unfinished tells used reads writes = inr (complete-came Unfinished (λ outcome c. c.0) tells)
 
 module _ {S : Type 0} (left : S → Option (List ℕ)) (source source' : S) where
-  -- the source was read to its end, or its input is over the size
+  -- the source was read to its end
   pub whole-read : (text : List ℕ) → IsWhole (left source) (left source') text → IsReadWhole left source source'
   whole-read text whole =
-      let go : (o : Option (List ℕ)) → IsWhole o (left source') text → IfSome o (λ input. (left source' ≡ Some []) ⊎ (input_limit < length input)) =
-      λ o. elim o as (λ o. IsWhole o (left source') text → IfSome o (λ input. (left source' ≡ Some []) ⊎ (input_limit < length input))) [ None ↦ λ w. tt | Some input ↦ λ w. inl w.1 ]
+      let go : (o : Option (List ℕ)) → IsWhole o (left source') text → IfSome o (λ input. left source' ≡ Some []) =
+      λ o. elim o as (λ o. IsWhole o (left source') text → IfSome o (λ input. left source' ≡ Some [])) [ None ↦ λ w. tt | Some input ↦ λ w. w.1 ]
       in go (left source) whole
-
-  pub over-read : IsOver input_limit (left source) → IsReadWhole left source source'
-  over-read over = map-some (left source) (λ input. input_limit < length input) (λ input. (left source' ≡ Some []) ⊎ (input_limit < length input)) (λ input w. inr w) over
 
   pub reads-by : (status : Status) → IsReadWhole left source source' → ReadsWhole left source source' status
   reads-by Done read = read
   reads-by Usage read = tt
-  reads-by (Refused refusal) read = read
+  reads-by (Refused refusal) read = inl read
   reads-by (Broken fault) read = read
   reads-by ReadFault read = tt
-  reads-by WriteFault read = read
+  reads-by WriteFault read = inl read
   reads-by NoMemory read = tt
   reads-by Unfinished read = read
+
+  -- its input is over the size, and refused for it
+  module _ {K : Type 0} (written : K → Option (List ℕ)) (writing : K → ℕ) (sink sink' : K) where
+    pub over-reads :
+        (status : Status) → IsTooLong left source source' → Concludes written writing (Refuses input_too_long) sink sink' status →
+        ReadsWhole left source source' status
+    over-reads Done over concludes = let other : Done ≡ Refused input_too_long = concludes.0 in absurd (cc)
+    over-reads Usage over concludes = tt
+    over-reads (Refused refusal) over concludes = inr (same-refusal refusal input_too_long concludes.0, over)
+    over-reads (Broken fault) over concludes = let other : Broken fault ≡ Refused input_too_long = concludes.0 in absurd (cc)
+    over-reads ReadFault over concludes = tt
+    over-reads WriteFault over concludes = inr over
+    over-reads NoMemory over concludes = tt
+    over-reads Unfinished over concludes = let other : Unfinished ≡ Refused input_too_long = concludes.0 in absurd (cc)

@@ -6,6 +6,7 @@ use Rattle.net_rounds.specs.Right.{IsRight}
 use Rattle.axi_program.specs.Document.{input_limit, refusal_of, script_of_input}
 use Rattle.axi_program.specs.Faults.{Rose}
 use Rattle.axi_program.specs.Outcome.{Concludes, input_outcome, status_of}
+use Rattle.axi_program.specs.Refusals.{input_too_long}
 use Rattle.axi_program.specs.declared.status.Status.{Status}
 use Rattle.axi_program.specs.declared.words.Command.{Command}
 use Rattle.axi_program.specs.declared.words.Command.TheVariants.{Check, Run}
@@ -29,18 +30,23 @@ module _ {S K : Type 0} (command : Option Command) (left : S → Option (List �
   Tells Unfinished = Came Unfinished
 
 module _ {S : Type 0} (left : S → Option (List ℕ)) (source source' : S) where
-  -- the source was read to its end, save where the input is over the size
+  -- the source was read to its end
   abbrev pub IsReadWhole : Type 0
-  IsReadWhole = IfSome (left source) (λ input. (left source' ≡ Some []) ⊎ (input_limit < length input))
+  IsReadWhole = IfSome (left source) (λ input. left source' ≡ Some [])
 
-  -- so it was where the status tells what the input comes to
+  -- its input is over the size
+  abbrev pub IsTooLong : Type 0
+  IsTooLong = IfSome (left source) (λ input. input_limit < length input)
+
+  -- The source was read to its end where the status tells what the input comes to, save where the input is refused for
+  -- its size or its refusal isn't written whole.
   abbrev pub ReadsWhole : Status → Type 0
   ReadsWhole Done = IsReadWhole
   ReadsWhole Usage = Unit {0}
-  ReadsWhole (Refused refusal) = IsReadWhole
+  ReadsWhole (Refused refusal) = IsReadWhole ⊎ ((refusal ≡ input_too_long) × IsTooLong)
   ReadsWhole (Broken fault) = IsReadWhole
   ReadsWhole ReadFault = Unit {0}
-  ReadsWhole WriteFault = IsReadWhole
+  ReadsWhole WriteFault = IsReadWhole ⊎ IsTooLong
   ReadsWhole NoMemory = Unit {0}
   ReadsWhole Unfinished = IsReadWhole
 

@@ -1,6 +1,6 @@
 use Rattle.std.proofs.Common.{◌≡◌, Err, Some, sym, ap, subst, ◌∙◌}
 use Rattle.std.specs.Prelude.{map, string_bytes}
-use Rattle.axi_program.proofs.CallLaws.{complete-by, never-usage, over-outcome, tells-by}
+use Rattle.axi_program.proofs.CallLaws.{complete-by, never-usage, over-outcome, over-reads, tells-by}
 use Rattle.axi_program.specs.Call.{Tells}
 use Rattle.axi_program.specs.Outcome.{Concludes, Refuses}
 use Rattle.axi_program.specs.Refusals.{input_too_long}
@@ -29,6 +29,11 @@ tells-over g c =
 
 pub returns-in-Err-TooLong-clause-tells : goal.returns-in-Err-TooLong-clause-tells
 returns-in-Err-TooLong-clause-tells g c = tells-over g c
+
+pub returns-in-Err-TooLong-clause-reads_whole : goal.returns-in-Err-TooLong-clause-reads_whole
+returns-in-Err-TooLong-clause-reads_whole g c =
+    over-reads g.S.Source.left c.args.source.now c.read_all.new.source g.K.Sink.written g.K.Sink.faults c.args.sink.now c.refuse.new.sink c.refuse.result
+    (c.in-Err-TooLong.ensures.too_long (ap Err c.in-Err-TooLong.field-0-is)) (concludes-over g c)
 
 pub returns-in-Err-TooLong-clause-complete : goal.returns-in-Err-TooLong-clause-complete
 returns-in-Err-TooLong-clause-complete g c =
