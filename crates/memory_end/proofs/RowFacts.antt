@@ -1,6 +1,6 @@
 -- What a row of the memory's table can do, it does.
-use Rattle.std.proofs.Common.{◌≡◌, refl}
-use Rattle.memory_end.specs.RowLaws.{DoesItsRows, RowsAreDone}
+use Rattle.std.proofs.Common.{refl}
+use Rattle.memory_end.specs.RowLaws.{RowsAreDone}
 
 pub rows-are_done : RowsAreDone
 rows-are_done links state = record {

@@ -1,12 +1,11 @@
 -- What the built-in network's link has to carry is legal on its bus: each transaction's request is a legal burst, and a
 -- write has a beat of data for each beat of its burst, with strobes on the beat's valid lanes alone.
-use Rattle.std.proofs.Common.{◌≡◌, ◌<◌, ◌+◌, ◌%◌, ◌^◌, ◌∷◌, [], ℕ, List, Bool, true, false, cond, length, get_or, refl, sym, ap, subst, ◌∙◌, ◌==◌, ◌&&◌, eq-eqb, arith}
-use Rattle.std.specs.Prelude.{All, IsTrue, nat_lt, slice_index_or}
+use Rattle.std.proofs.Common.{◌≡◌, ◌<◌, ◌+◌, ◌%◌, ◌^◌, ◌∷◌, [], ℕ, Bool, true, false, cond, length, get_or, refl, sym, ap, subst, ◌∙◌, ◌==◌, eq-eqb, arith}
+use Rattle.std.specs.Prelude.{All, IsTrue, nat_lt}
 use Rattle.std.specs.List.{AllZip}
 use Rattle.std.proofs.lemmas.Bool.{and_from, lt-ltb}
 use Rattle.std.proofs.lemmas.List.Elements.{All-from_recursion, All-nil}
 use Rattle.std.proofs.lemmas.List.FromFn.{get_or-map-range_with_len, length-map-range_with_len}
-use Rattle.axi_beats.specs.declared.beat.Addr.{Addr}
 use Rattle.axi_beats.specs.declared.beat.WBeat.{WBeat}
 use Rattle.axi_history.specs.PortRules.{strobes_within}
 use Rattle.axi_trail.specs.LinkContracts.{without_id}
@@ -18,7 +17,7 @@ use Rattle.link_ports.specs.LegalPlan.{IsDataOf}
 use Rattle.manager_end.specs.Beats.{data_beat, data_beats, high_lane, low_lane, request_of}
 use Rattle.manager_end.specs.BurstLaws.{DataStrobesAreWithin, SendsItsBytes}
 use Rattle.manager_end.specs.Script.{ScriptItem, sent_bytes}
-use Rattle.net_rounds.proofs.BuiltInPlan.{no_share, read_share, share_of, write_share}
+use Rattle.net_rounds.proofs.BuiltInPlan.{no_share, share_of, write_share}
 
 -- a share whose requests are legal bursts
 abbrev pub HasLegalParts : Share → Type 0

@@ -1,5 +1,5 @@
 -- The port of the built-in network's link keeps all rules, since both of its nodes keep the contracts of a link.
-use Rattle.std.proofs.Common.{◌≡◌, ◌<◌, ◌∷◌, [], ◌++◌, ℕ, zero, suc, List, Bool, true, false, length, refl, sym, ap, subst, ◌∙◌, inl, inr, arith}
+use Rattle.std.proofs.Common.{◌≡◌, ◌∷◌, [], ◌++◌, ℕ, zero, suc, List, Bool, true, false, length, refl, sym, ap, subst, ◌∙◌, inl, inr, arith}
 use Rattle.axi_history.specs.PortRules.{axi4_history_fault}
 use Rattle.axi_history.specs.declared.port.PortRound.{PortRound}
 use Rattle.link_ports.proofs.PortFacts.{links_are_legal}

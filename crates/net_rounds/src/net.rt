@@ -203,6 +203,8 @@ impl Net {
         requires open { self.old.decided ≡ false }
         ensures rounds { self.new.rounds ≡ run_length self.old.network self.old.most }
         ensures network { self.new.network ≡ after_rounds self.new.rounds self.old.network }
+        ensures decided { self.new.decided ≡ false }
+        ensures most { self.new.most ≡ self.old.most }
         ensures finished { result ≡ is_finished self.new.network }
     {
         let most = self.most;

@@ -1,7 +1,7 @@
 -- How a round is judged by what is kept, and what is kept after it, against the rules on whole histories.
 use Rattle.std.proofs.Common.{◌≡◌, ℕ, ◌∷◌, [], ◌++◌, ◌&&◌, Bool, true, false, List, Option, Some, None, refl, sym, ap, ◌∙◌}
 use Rattle.std.specs.Prelude.{zip, if◌then◌else◌}
-use Rattle.std.specs.Option.{option_to_list, option_map}
+use Rattle.std.specs.Option.{option_to_list}
 use Rattle.std.specs.List.{list_all}
 use Rattle.std.proofs.lemmas.List.{append-nil}
 use Rattle.std.proofs.lemmas.List.Elements.{filter_map-append}
