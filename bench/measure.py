@@ -3,14 +3,16 @@
 
     bench/measure.py [OTHER] [TRANSACTIONS]
 
-Counts the instructions (valgrind's callgrind) of a start, of a run of random words, of the same run
-with its trace, and of the check of that trace; prints them with the ratio to OTHER's, which is a
-program with the same words and texts that reads a topology before the line `%%`. The built program
-is measured as `./axinet` leaves it. Without valgrind nothing is measured.
+Counts the instructions (valgrind's callgrind) and takes the processor time of a start, of a run of mixed bursts,
+of the same run with its trace, and of the check of that trace; prints them with the ratios to OTHER's,
+which is a program with the same words and texts that reads a topology before the line `%%`. Then it
+tells what one more round costs in which all five channels move. The built program is measured as
+`./axinet` leaves it. Without valgrind nothing is measured.
 """
 import os
 import random
 import re
+import resource
 import shutil
 import subprocess
 import sys
@@ -21,19 +23,56 @@ PROGRAM = os.path.join(TOP, 'crates', 'axinet', 'out', 'axinet')
 NETWORK = open(os.path.join(TOP, 'tools', 'built_in.toml'), 'rb').read()
 
 
+def burst(r):
+    """A random legal burst on a bus of 4 bytes: its address, size, kind and beats."""
+    size = r.choice((1, 2, 4, 4, 4))
+    kind = r.choice(('incr', 'incr', 'incr', 'wrap', 'fixed'))
+    address = r.randrange(8192)
+    if kind == 'wrap':
+        return address - address % size, size, kind, r.choice((2, 4, 8, 16))
+    if kind == 'fixed':
+        return address, size, kind, r.randrange(1, 9)
+    room = (4096 - (address - address % size) % 4096) // size
+    return address, size, kind, min(r.randrange(1, 17), room)
+
+
+def data_words(r, address, size, kind, beats):
+    """The data words of a write, now and then with a byte that isn't strobed."""
+    first = size - address % size
+    widths = [first] + [first if kind == 'fixed' else size] * (beats - 1)
+    return ' '.join(''.join('--' if r.random() < 0.1 else '%02x' % r.randrange(256) for _ in range(width))
+                    for width in widths)
+
+
 def traffic(count):
-    """Traffic of single words: writes and reads of random IDs and addresses, now and then a wait."""
+    """Mixed traffic: bursts of all kinds under random IDs, half of them writes, now and then a wait."""
     r = random.Random(1)
     lines = []
     for _ in range(count):
-        address = 4 * r.randrange(2048)
+        address, size, kind, beats = burst(r)
+        request = 'm %d 0x%x %d %s' % (r.randrange(16), address, size, kind)
         if r.random() < 0.5:
-            lines.append('write m %d 0x%x 4 incr %08x' % (r.randrange(16), address, r.randrange(1 << 32)))
+            lines.append('write %s %s' % (request, data_words(r, address, size, kind, beats)))
         else:
-            lines.append('read m %d 0x%x 4 incr 1' % (r.randrange(16), address))
+            lines.append('read %s %d' % (request, beats))
         if r.random() < 0.02:
             lines.append('wait m')
     return ('%%\n' + '\n'.join(lines) + '\n').encode()
+
+
+def seconds(program, words, data):
+    """The least processor time of five calls, that of the system's calls included."""
+    def spent():
+        used = resource.getrusage(resource.RUSAGE_CHILDREN)
+        return used.ru_utime + used.ru_stime
+
+    best = None
+    for _ in range(5):
+        begun = spent()
+        subprocess.run([program] + words, input=data, stdout=subprocess.DEVNULL)
+        took = spent() - begun
+        best = took if best is None else min(best, took)
+    return best
 
 
 def instructions(program, words, data):
@@ -48,28 +87,53 @@ def instructions(program, words, data):
     return int(found.group(1).replace(b',', b'')), done.stdout
 
 
+def rounds_of(text):
+    """The number in the last line of a run's text."""
+    return int(text.split()[-1])
+
+
+def long_bursts(count):
+    """Reads and writes of 256 beats each, so that all five channels are busy."""
+    write = 'write m 0 0x0 4 incr' + ' 0123abcd' * 256
+    return ('%%\n' + (write + '\nread m 1 0x1000 4 incr 256\n') * count).encode()
+
+
+def busy_round(program, head):
+    """The instructions of one more busy round."""
+    few, many = (instructions(program, ['run'], head + long_bursts(count)) for count in (4, 12))
+    return (many[0] - few[0]) // (rounds_of(many[1]) - rounds_of(few[1]))
+
+
+def measure(name, words, data, head, other):
+    """Prints a row: instructions and seconds, and their ratios to the other program's."""
+    own, text = instructions(PROGRAM, words, data)
+    took = seconds(PROGRAM, words, data)
+    line = '%-16s %14d %8.3f s' % (name, own, took)
+    if other is not None:
+        theirs, same = instructions(other, words, head + data)
+        slow = seconds(other, words, head + data)
+        line += '  ratios %.2f %.2f%s' % (own / theirs, took / slow, '' if same == text else '  OTHER TEXT')
+    print(line)
+
+
 def main():
     if shutil.which('valgrind') is None or not os.access(PROGRAM, os.X_OK):
         print('skipped: valgrind is missing, or the program is not built')
         return 0
     other = sys.argv[1] if len(sys.argv) > 1 else None
-    count = int(sys.argv[2]) if len(sys.argv) > 2 else 1800
+    count = int(sys.argv[2]) if len(sys.argv) > 2 else 16384
     document = traffic(count)
-    trace = subprocess.run([PROGRAM, 'run', '--trace=all'], input=document, capture_output=True).stdout
-    rows = [
-        ('start', ['run'], b'%%\n', NETWORK),
-        ('run', ['run'], document, NETWORK),
-        ('run --trace=all', ['run', '--trace=all'], document, NETWORK),
-        ('check', ['check'], trace, b''),
-    ]
-    print('%d transactions, a trace of %d bytes' % (count, len(trace)))
-    for name, words, data, head in rows:
-        own, text = instructions(PROGRAM, words, data)
-        line = '%-16s %14d' % (name, own)
-        if other is not None:
-            theirs, same = instructions(other, words, head + data)
-            line += ' %14d  ratio %.2f%s' % (theirs, own / theirs, '' if same == text else '  OTHER TEXT')
-        print(line)
+    traced = subprocess.run([PROGRAM, 'run', '--trace=all'], input=document, capture_output=True).stdout
+    print('%d transactions, %d rounds, a trace of %d bytes' % (count, rounds_of(traced), len(traced)))
+    measure('start', ['run'], b'%%\n', NETWORK, other)
+    measure('run', ['run'], document, NETWORK, other)
+    measure('run --trace=all', ['run', '--trace=all'], document, NETWORK, other)
+    measure('check', ['check'], traced, b'', other)
+    own = busy_round(PROGRAM, b'')
+    line = '%-16s %14d' % ('a busy round', own)
+    if other is not None:
+        line += '             ratio %.2f' % (own / busy_round(other, NETWORK))
+    print(line)
     return 0
 
 
