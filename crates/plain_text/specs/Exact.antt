@@ -2,6 +2,7 @@
 use Rattle.std.specs.Prelude.{◌≡◌, ℕ, List, ◌∷◌, ◌++◌, Option, Some, option_and_then}
 use Rattle.plain_text.specs.Fields.{field_before}
 
+-- a step that is taken where the one before it gave a value; `do` blocks are made of such steps
 infixl 10 ◌>>=◌
 abbrev pub ◌>>=◌ : {A B : Type 0} → Option A → (A → Option B) → Option B
 o >>= f = option_and_then f o
@@ -25,5 +26,6 @@ read_before end read text = do
   value ← read parts.0
   Some (value, parts.1)
 
+-- the text of a value, the byte that ends it, and what follows that byte
 abbrev pub write_before : {A : Type 0} → ℕ → (A → List ℕ) → A → List ℕ → List ℕ
 write_before end write value rest = write value ++ end ∷ rest

@@ -3,7 +3,7 @@ use Rattle.std.specs.Prelude.{ℕ, Bool, List, ◌==◌}
 use Rattle.std.specs.List.{after_first}
 pub use Rattle.std.specs.Str.Lines.{lines, strip_carriage_return}
 
--- the byte ends a line
+-- the byte ends a line: it is a line feed
 abbrev pub is_feed : ℕ → Bool
 is_feed byte = byte == 10
 

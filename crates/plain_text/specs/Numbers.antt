@@ -19,7 +19,7 @@ number_in digits base limit =
 unfoldable pub read_decimal : List ℕ → ℕ → Option ℕ
 read_decimal word limit = if nat_le (length word) 10 then number_in word 10 limit else None
 
--- one digit, or more of which the first is no zero
+-- at most one digit, or more of which the first is no zero (the byte 48)
 abbrev pub is_plain : List ℕ → Bool
 is_plain word = nat_lt (length word) 2 || not (slice_index word 0 == 48)
 

@@ -1,4 +1,4 @@
--- The texts that a line is written from.
+-- How numbers and bytes are written in base 16.
 use Rattle.std.specs.Prelude.{ℕ, ◌/◌, ◌%◌, false, List, [], ◌∷◌}
 use Rattle.std.specs.List.{flat_map}
 use Rattle.std.specs.Fmt.{digits, digit_glyph}

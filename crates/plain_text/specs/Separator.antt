@@ -19,7 +19,7 @@ put_before front None = None
 put_before front (Some texts) = Some (front ++ texts.0, texts.1)
 
 -- the cut of a text that is given as its parts between line feeds: a part before a line feed is a
--- line less a carriage return at its end, and the last part is a line as it stands
+-- line less a carriage return at its end, and the last part is a line as it stands; 10 is a line feed
 abbrev pub cut_parts : List (List ℕ) → Option (List ℕ × List ℕ)
 cut_parts [] = None
 cut_parts (part ∷ []) = if is_separator part then Some ([], []) else None

@@ -1,4 +1,5 @@
-//! A buffer in which a line is written piece by piece. Contracts see it as its bytes.
+//! A buffer in which a line is written piece by piece. Its room is reserved once, so that writing
+//! never wants memory. Contracts see it as its bytes.
 
 ghost use Rattle.std.specs.Prelude.{◌≡◌, ◌+◌, ◌*◌, ◌<◌, ◌≤◌, ◌++◌, [], false, length, drop, IfOk};
 ghost use Rattle.std.specs.Fmt.{decimal, digit_glyph};
@@ -25,10 +26,10 @@ impl Model for LineBuffer {
 }
 
 impl LineBuffer {
-    /// How many bytes there is room for.
+    /// How many bytes there is room for, which is more than the longest line of the project takes.
     pub const ROOM: usize = 16_384;
 
-    /// An empty buffer. This alone takes memory.
+    /// An empty buffer, or `AllocError` where memory is wanting. This call alone takes memory.
     pub fn new(alloc: Global) -> Result<LineBuffer, AllocError>
         ensures { IfOk result (λ line. line ≡ []) }
     {
@@ -50,7 +51,7 @@ impl LineBuffer {
         self.bytes.clear();
     }
 
-    /// Writes a text.
+    /// Writes a text behind the bytes that are there. There has to be room for it.
     pub fn push(&mut self, text: &[u8])
         requires { length self.old + length text.now ≤ LineBuffer.ROOM }
         ensures text { self.new ≡ self.old ++ text.now }
@@ -81,7 +82,7 @@ impl LineBuffer {
         self.push(&digits[start..]);
     }
 
-    /// Writes two hexadecimal digits in lower case for each byte.
+    /// Writes two hexadecimal digits in lower case for each byte, the upper digit first.
     #[tactic(auto, unfolding(crate::specs::Printing::pairs))]
     pub fn push_pairs(&mut self, bytes: &[u8])
         requires { length self.old + 2 * length bytes.now ≤ LineBuffer.ROOM }

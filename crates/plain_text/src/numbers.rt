@@ -1,4 +1,5 @@
-//! The numbers that words spell.
+//! The numbers that words spell. Each call answers `None` where the word is spelled otherwise, and
+//! where the number isn't below the limit.
 
 ghost use Rattle.std.specs.Prelude.{◌≡◌, ◌<◌, ◌≤◌, IfSome};
 ghost use Rattle.plain_text.specs.Numbers.{number_in, read_byte_pair, read_decimal, read_hexadecimal, read_plain_decimal};
@@ -65,7 +66,7 @@ pub fn read_hexadecimal(word: &[u8], limit: u64) -> Option<u64>
     }
 }
 
-/// The byte that exactly two hexadecimal digits in either case spell.
+/// The byte that exactly two hexadecimal digits in either case spell, the upper digit first.
 #[tactic(auto, unfolding(crate::specs::Numbers::read_byte_pair))]
 pub fn read_byte_pair(pair: &[u8]) -> Option<u8>
     ensures { result ≡ read_byte_pair pair.now }

@@ -23,7 +23,7 @@ pub fn cut_at_separator(text: &[u8]) -> Option<(&[u8], &[u8])>
     None
 }
 
-/// The same of a text in UTF-8.
+/// The two parts that [`cut_at_separator`] answers, of a text in UTF-8.
 pub fn cut_text(text: &str) -> Option<(&str, &str)>
     ensures { option_map (λ texts. (texts.0.now, texts.1.now)) result ≡ cut text.now }
 {

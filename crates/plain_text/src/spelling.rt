@@ -1,4 +1,5 @@
-//! Numbers in base 16, read as they are written: in lower case and with no needless zero.
+//! Numbers in base 16 in the one spelling in which they are written: in lower case and with no
+//! needless zero. And the laws that numbers are read as they are written.
 
 ghost use Rattle.std.specs.Prelude.{◌≡◌, ◌<◌, ◌≤◌, ◌+◌, ◌*◌, IfSome};
 ghost use Rattle.std.specs.Option.{SomeIff};
@@ -10,6 +11,8 @@ ghost use Rattle.plain_text.specs.Spelling.{is_lower};
 
 /// The number of at most `most` that hexadecimal digits in lower case without needless zeros at the
 /// front spell.
+///
+/// The greatest number is given, not the limit above it, so that every `u128` can be asked for.
 #[tactic(auto, unfolding(crate::specs::Spelling::read_plain_hexadecimal))]
 pub fn read_plain_hexadecimal(word: &[u8], most: u128) -> Option<u128>
     ensures number { result ≡ read_plain_hexadecimal word.now (most + 1) }
@@ -75,7 +78,7 @@ fn hexadecimal_up_to(digits: &[u8], most: u128) -> Option<u128>
     Some(value)
 }
 
-// The number of at most `most` that has one digit more.
+// The number with one hexadecimal digit more behind it, where it is at most `most`.
 fn with_digit(value: u128, digit: u32, most: u128) -> Option<u128>
     ensures { SomeIff result (value * 16 + digit ≤ most) (value * 16 + digit) }
 {

@@ -18,7 +18,7 @@ pub fn next_word(text: &[u8]) -> Option<(&[u8], &[u8])>
     }
 }
 
-/// Whether no word is left.
+/// Whether no word is left: nothing stands in the text but spaces and tabs.
 pub fn has_no_word(text: &[u8]) -> bool
     ensures { result ≡ has_no_word (words text.now) }
 {

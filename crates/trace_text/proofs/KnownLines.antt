@@ -87,7 +87,7 @@ second_lite_data_line : line_text (lite_data 7 3) ≡ codes "7 2 lite 4 - - - - 
 unfolding line_text read_data_text tag_text digits pairs
 second_lite_data_line = refl
 
--- ---- a head that isn't taken, and texts that are no trace line
+-- ---- a beat that isn't taken, and texts that are no trace line
 
 left_head : line_text (record (nothing 1 0 false 4) { b = Some (record { beat = record { id = 1; resp = 0; tag = tag 1 0 0 }; taken = false }) }) ≡ codes "1 0 axi 4 - - =1,0,1:0:0 - -"
 unfolding line_text response_text tag_text digits

@@ -15,7 +15,7 @@ response_name Okay = codes "okay"
 response_name SlvErr = codes "slverr"
 response_name DecErr = codes "decerr"
 
--- the one response to a write
+-- the one response to a write, or nothing where there is none
 abbrev pub write_outcome : List Resp → List ℕ
 write_outcome [] = []
 write_outcome (resp ∷ more) = codes " " ++ response_name resp
@@ -36,7 +36,7 @@ outcome txn answer =
     if txn.write then write_outcome answer.resps
     else read_outcome txn.request 0 answer.resps answer.bytes
 
--- whether it wrote or read
+-- whether it wrote or read, between spaces
 abbrev pub direction : Bool → List ℕ
 direction write = if write then codes " write " else codes " read "
 

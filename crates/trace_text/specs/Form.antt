@@ -1,4 +1,4 @@
--- The text of a trace line: what one port shows in one round.
+-- The text of a trace line: what one port shows in one round. (Arm IHI 0022, handshake process and channel signals.)
 use Rattle.std.specs.Prelude.{ℕ, Bool, List, [], ◌∷◌, Option, Some, None, if◌then◌else◌, take, codes}
 use Rattle.std.specs.Fmt.{decimal}
 use Rattle.std.specs.List.{join_with_byte}
@@ -11,7 +11,7 @@ use Rattle.axi_history.specs.declared.port.RawR.{RawR}
 use Rattle.axi_history.specs.declared.port.Seen.{Seen}
 use Rattle.axi_history.specs.declared.port.PortRound.{PortRound}
 
--- the texts, parted by single spaces, by commas and by colons
+-- the texts, parted by single spaces (32), by commas (44) and by colons (58)
 abbrev pub by_spaces : List (List ℕ) → List ℕ
 by_spaces texts = join_with_byte 32 texts
 
@@ -21,6 +21,7 @@ by_commas texts = join_with_byte 44 texts
 abbrev pub by_colons : List (List ℕ) → List ℕ
 by_colons texts = join_with_byte 58 texts
 
+-- a bit as its digit
 abbrev pub bit_text : Bool → List ℕ
 bit_text bit = if bit then codes "1" else codes "0"
 
@@ -50,7 +51,7 @@ unfoldable pub read_data_text : ℕ → RawR → List ℕ
 read_data_text bus beat =
     by_commas (decimal beat.id ∷ lanes_text bus beat.lanes ∷ decimal beat.resp ∷ bit_text beat.last ∷ tag_text beat.tag ∷ [])
 
--- the mark of a beat that is offered: `+` where it is taken in this round, `=` where it isn't
+-- the mark of a beat that is offered: `+` (43) where it is taken in this round, `=` (61) where it isn't
 abbrev pub mark : Bool → ℕ
 mark taken = if taken then 43 else 61
 
@@ -59,6 +60,7 @@ abbrev pub channel_text : {B : Type 0} → (B → List ℕ) → Option (Seen B) 
 channel_text beat_text None = codes "-"
 channel_text beat_text (Some seen) = mark seen.taken ∷ beat_text seen.beat
 
+-- the protocol of the port, AXI4-Lite or AXI4
 abbrev pub kind_text : Bool → List ℕ
 kind_text lite = if lite then codes "lite" else codes "axi"
 

@@ -9,7 +9,7 @@ use Rattle.axi_history.specs.declared.port.RawR.{RawR}
 use Rattle.axi_history.specs.declared.port.PortKind.{PortKind}
 use Rattle.axi_history.specs.declared.port.PortRound.{PortRound}
 
--- the width of a bus, in bytes
+-- so many bytes are a width that a bus can have
 abbrev pub is_bus : ℕ → Bool
 is_bus bus = bus == 4 || bus == 8 || bus == 16 || bus == 32 || bus == 64 || bus == 128
 
@@ -23,11 +23,13 @@ pub record IsOnBus (bus : ℕ) (lanes : List ℕ) : Type 0 where
   pub bytes : AreBytes lanes
   pub above : drop bus lanes ≡ replicate (128 - bus) 0
 
+-- the number of a transaction, and two lanes, which are numbered from 0
 pub record IsTraceTag (tag : Tag) : Type 0 where
   pub txn : tag.txn < 2 ^ 32
   pub low : tag.low ≤ 127
   pub high : tag.high ≤ 127
 
+-- a beat of AW or AR, with each value that the standard's fields can have
 pub record IsTraceAddress (beat : RawAddr) : Type 0 where
   pub id : beat.id < 2 ^ 32
   pub addr : beat.addr < 2 ^ 63
@@ -36,16 +38,19 @@ pub record IsTraceAddress (beat : RawAddr) : Type 0 where
   pub burst : beat.burst ≤ 3
   pub tag : IsTraceTag beat.tag
 
+-- a beat of W: its strobe has a bit for each lane of the bus
 pub record IsTraceWriteData (bus : ℕ) (beat : WBeat) : Type 0 where
   pub lanes : IsOnBus bus beat.lanes
   pub strobe : beat.strobe < 2 ^ bus
   pub tag : IsTraceTag beat.tag
 
+-- a beat of B
 pub record IsTraceResponse (beat : RawB) : Type 0 where
   pub id : beat.id < 2 ^ 32
   pub resp : beat.resp ≤ 3
   pub tag : IsTraceTag beat.tag
 
+-- a beat of R
 pub record IsTraceReadData (bus : ℕ) (beat : RawR) : Type 0 where
   pub id : beat.id < 2 ^ 32
   pub lanes : IsOnBus bus beat.lanes

@@ -1,4 +1,5 @@
--- How a trace line is read: field by field, each up to the byte that ends it.
+-- How a trace line is read: field by field, each up to the byte that ends it, which is a space (32), a comma (44)
+-- or a colon (58).
 use Rattle.std.specs.Prelude.{ℕ, ◌^◌, ◌-◌, ◌==◌, ◌++◌, Bool, true, false, List, [], ◌∷◌, Option, Some, None, if◌then◌else◌, length, replicate, codes}
 use Rattle.std.specs.Str.{bytes_eq}
 use Rattle.plain_text.specs.Exact.{◌>>=◌, read_before}
@@ -45,6 +46,7 @@ lanes_of bus word = do
 unfoldable pub lanes_before : ℕ → ℕ → List ℕ → Option (List ℕ × List ℕ)
 lanes_before end bus text = read_before end (lanes_of bus) text
 
+-- the number of the transaction, and the lowest and the highest lane that is wanted
 unfoldable pub tag_of : List ℕ → Option Tag
 tag_of text = do
   txn ← decimal_before 58 (2 ^ 32) text
@@ -52,6 +54,7 @@ tag_of text = do
   high ← decimal_below 128 low.1
   Some (record { txn = txn.0; low = low.0; high = high })
 
+-- a beat of AW or AR
 unfoldable pub address_of : List ℕ → Option RawAddr
 address_of text = do
   id ← decimal_before 44 (2 ^ 32) text
@@ -63,6 +66,7 @@ address_of text = do
   tag ← tag_of lock.1
   Some (record { id = id.0; addr = addr.0; len = len.0; size = size.0; burst = burst.0; lock = lock.0; tag = tag })
 
+-- a beat of W, on a bus of so many bytes
 unfoldable pub write_data_of : ℕ → List ℕ → Option WBeat
 write_data_of bus text = do
   lanes ← lanes_before 44 bus text
@@ -71,6 +75,7 @@ write_data_of bus text = do
   tag ← tag_of last.1
   Some (record { lanes = lanes.0; strobe = strobe.0; last = last.0; tag = tag })
 
+-- a beat of B
 unfoldable pub response_of : List ℕ → Option RawB
 response_of text = do
   id ← decimal_before 44 (2 ^ 32) text
@@ -78,6 +83,7 @@ response_of text = do
   tag ← tag_of resp.1
   Some (record { id = id.0; resp = resp.0; tag = tag })
 
+-- a beat of R, on a bus of so many bytes
 unfoldable pub read_data_of : ℕ → List ℕ → Option RawR
 read_data_of bus text = do
   id ← decimal_before 44 (2 ^ 32) text
@@ -87,7 +93,7 @@ read_data_of bus text = do
   tag ← tag_of last.1
   Some (record { id = id.0; lanes = lanes.0; resp = resp.0; last = last.0; tag = tag })
 
--- the mark at the front, and the text behind it: `+` says that the beat is taken, `=` that it isn't
+-- the mark at the front, and the text behind it: `+` (43) says that the beat is taken, `=` (61) that it isn't
 abbrev pub marked : List ℕ → Option (Bool × List ℕ)
 marked [] = None
 marked (byte ∷ rest) = if byte == 43 then Some (true, rest) else (if byte == 61 then Some (false, rest) else None)
@@ -102,6 +108,7 @@ channel_of read_beat word =
 unfoldable pub channel_before : {B : Type 0} → (List ℕ → Option B) → List ℕ → Option (Option (Seen B) × List ℕ)
 channel_before read_beat text = read_before 32 (channel_of read_beat) text
 
+-- whether the port is one of AXI4-Lite
 unfoldable pub lite_of : List ℕ → Option Bool
 lite_of word = if bytes_eq word (codes "axi") then Some false else (if bytes_eq word (codes "lite") then Some true else None)
 
@@ -119,6 +126,7 @@ round_before text = do
   round ← decimal_before 32 (2 ^ 63) text
   if round.0 == 0 then None else Some round
 
+-- the round whose trace line the text is, if there is one
 unfoldable pub line_of : List ℕ → Option PortRound
 line_of text = do
   round ← round_before text

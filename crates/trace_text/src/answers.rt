@@ -1,6 +1,5 @@
-//! The line of a transaction and its answer.
-//!
-//! The call replaces the bytes of a line buffer by one line with its line feed, and takes no memory.
+//! The line of a transaction and its answer is written. (Arm IHI 0022, read and write response
+//! structure.)
 
 ghost use Rattle.std.specs.Prelude.{◌≡◌, ◌<◌, ◌≤◌, ◌+◌, ◌*◌, ◌++◌, ◌^◌, drop, length, take};
 ghost use Rattle.burst_address.specs.Legal.{IsLegal};
@@ -10,11 +9,15 @@ use axi_beats::{Addr, Resp};
 use manager_end::{Answer, Txn, beat_count};
 use plain_text::line_buffer::LineBuffer;
 
-/// Writes the line of a transaction and its answer: its number, its direction, the name of its manager, which has at most 32
-/// bytes, the rounds of its issue and of its answer, and what came for it.
+/// Replaces the bytes of the buffer by the line of a transaction and its answer and a line feed. Takes
+/// no memory.
 ///
-/// The transaction is a burst that is legal on the widest bus, and its answer has at most as many beats as that burst, with
-/// at most the 4096 bytes of a page.
+/// The line has the transaction's number, its direction, the name of its manager, the rounds of its
+/// issue and of its answer, and what came for it: the response to a write, or of each beat of a read
+/// the response and the bytes of its valid lanes.
+///
+/// The name has at most 32 bytes. The transaction is a burst that is legal on the widest bus, and its
+/// answer has at most as many beats as that burst, with at most the 4096 bytes of a page.
 #[tactic(auto, unfolding(crate::specs::AnswerLine::answer_line))]
 pub fn render_answers(line: &mut LineBuffer, manager: &str, txn: &Txn, answer: &Answer)
     requires name { length manager.now ≤ 32 }
@@ -36,7 +39,7 @@ pub fn render_answers(line: &mut LineBuffer, manager: &str, txn: &Txn, answer: &
     line.push(b"\n");
 }
 
-// The word for a direction, between blanks.
+// The word for a direction, between spaces.
 fn direction(write: bool) -> &'static str
     ensures name { result.now ≡ direction write }
     ensures short { length result.now ≤ 7 }

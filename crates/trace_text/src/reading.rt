@@ -24,6 +24,10 @@ pub enum LineFault {
 ///
 /// A number that stands in another spelling, as with a zero at the front or a capital digit, is
 /// refused, and so is any other blank than the single spaces between the words.
+///
+/// # Errors
+///
+/// `BadTraceLine` where the text is the trace line of no round.
 pub fn read_trace_line(line: &str) -> Result<PortRound, LineFault>
     // What is read has this text as its trace line.
     ensures found { IfOk result (λ r. Line r line.now) }
@@ -101,6 +105,7 @@ fn kind_before(text: &[u8]) -> Option<(PortKind, &[u8])>
     }
 }
 
+// Whether the port is one of AXI4-Lite: `axi` or `lite`.
 #[tactic(auto, unfolding(crate::specs::Reading::lite_of))]
 fn lite_of(word: &[u8]) -> Option<bool>
     ensures { result ≡ lite_of word.now }
@@ -114,18 +119,21 @@ fn lite_of(word: &[u8]) -> Option<bool>
     }
 }
 
+// Whether the bus has a width that a bus can have, which on AXI4-Lite is 4 or 8 bytes.
 fn is_port_kind(kind: PortKind) -> bool
     ensures { result ≡ is_port_kind kind }
 {
     is_bus(kind.bus) && (!kind.lite || kind.bus <= 8)
 }
 
+// Whether a bus can be so many bytes wide.
 fn is_bus(bus: u8) -> bool
     ensures { result ≡ is_bus bus }
 {
     bus == 4 || bus == 8 || bus == 16 || bus == 32 || bus == 64 || bus == 128
 }
 
+// What AW or AR offers: nothing, or a beat behind its mark.
 fn address_channel(word: &[u8]) -> Option<Option<Seen<RawAddr>>>
     ensures { result ≡ channel_of address_of word.now }
 {
@@ -137,6 +145,7 @@ fn address_channel(word: &[u8]) -> Option<Option<Seen<RawAddr>>>
     Some(Some(Seen { beat, taken }))
 }
 
+// What W offers on a bus of so many bytes.
 fn write_data_channel(word: &[u8], bus: u8) -> Option<Option<Seen<WBeat>>>
     requires { IsTrue (is_bus bus) }
     ensures { result ≡ channel_of (write_data_of bus) word.now }
@@ -149,6 +158,7 @@ fn write_data_channel(word: &[u8], bus: u8) -> Option<Option<Seen<WBeat>>>
     Some(Some(Seen { beat, taken }))
 }
 
+// What B offers.
 fn response_channel(word: &[u8]) -> Option<Option<Seen<RawB>>>
     ensures { result ≡ channel_of response_of word.now }
 {
@@ -160,6 +170,7 @@ fn response_channel(word: &[u8]) -> Option<Option<Seen<RawB>>>
     Some(Some(Seen { beat, taken }))
 }
 
+// What R offers on a bus of so many bytes.
 fn read_data_channel(word: &[u8], bus: u8) -> Option<Option<Seen<RawR>>>
     requires { IsTrue (is_bus bus) }
     ensures { result ≡ channel_of (read_data_of bus) word.now }
@@ -183,6 +194,7 @@ fn marked(word: &[u8]) -> Option<(bool, &[u8])>
     }
 }
 
+// The fields of a beat of AW or AR.
 #[tactic(auto, unfolding(crate::specs::Reading::address_of))]
 fn address_of(text: &[u8]) -> Option<RawAddr>
     ensures { result ≡ address_of text.now }
@@ -205,6 +217,7 @@ fn address_of(text: &[u8]) -> Option<RawAddr>
     })
 }
 
+// The fields of a beat of W.
 #[tactic(auto, unfolding(crate::specs::Reading::write_data_of, crate::specs::Reading::lanes_before))]
 fn write_data_of(text: &[u8], bus: u8) -> Option<WBeat>
     requires { IsTrue (is_bus bus) }
@@ -223,6 +236,7 @@ fn write_data_of(text: &[u8], bus: u8) -> Option<WBeat>
     })
 }
 
+// The fields of a beat of B.
 #[tactic(auto, unfolding(crate::specs::Reading::response_of))]
 fn response_of(text: &[u8]) -> Option<RawB>
     ensures { result ≡ response_of text.now }
@@ -237,6 +251,7 @@ fn response_of(text: &[u8]) -> Option<RawB>
     })
 }
 
+// The fields of a beat of R.
 #[tactic(auto, unfolding(crate::specs::Reading::read_data_of, crate::specs::Reading::lanes_before))]
 fn read_data_of(text: &[u8], bus: u8) -> Option<RawR>
     requires { IsTrue (is_bus bus) }
@@ -257,6 +272,7 @@ fn read_data_of(text: &[u8], bus: u8) -> Option<RawR>
     })
 }
 
+// The number of the transaction, and the lowest and the highest lane that is wanted.
 #[tactic(auto, unfolding(crate::specs::Reading::tag_of))]
 fn tag_of(text: &[u8]) -> Option<Tag>
     ensures { result ≡ tag_of text.now }
@@ -308,6 +324,7 @@ fn hexadecimal_before(text: &[u8], end: u8, most: u128) -> Option<(u128, &[u8])>
     Some((read_plain_hexadecimal(word, most)?, rest))
 }
 
+// A bit, and the text behind the byte that ends it.
 #[tactic(auto, unfolding(crate::specs::Reading::bit_before))]
 fn bit_before(text: &[u8], end: u8) -> Option<(bool, &[u8])>
     ensures { option_map (λ found. (found.0, found.1.now)) result ≡ bit_before end text.now }
@@ -316,6 +333,7 @@ fn bit_before(text: &[u8], end: u8) -> Option<(bool, &[u8])>
     Some((bit_of(word)?, rest))
 }
 
+// The bit that `0` or `1` is.
 #[tactic(auto, unfolding(crate::specs::Reading::bit_of))]
 fn bit_of(word: &[u8]) -> Option<bool>
     ensures { result ≡ bit_of word.now }
@@ -329,7 +347,7 @@ fn bit_of(word: &[u8]) -> Option<bool>
     }
 }
 
-// Two digits for each lane of the bus; the lanes above it are 0.
+// The lanes that two digits for each lane of the bus give, from lane 0 on; the lanes above it are 0.
 fn lanes_of(word: &[u8], bus: u8) -> Option<Lanes>
     requires { IsTrue (is_bus bus) }
     ensures { result ≡ lanes_of bus word.now }

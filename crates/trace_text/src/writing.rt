@@ -12,6 +12,9 @@ use axi_history::{PortKind, PortRound, RawAddr, RawB, RawR, Seen};
 use plain_text::line_buffer::LineBuffer;
 
 /// Replaces the bytes of the buffer by the trace line of the round and a line feed. Takes no memory.
+///
+/// The bus has at most 128 bytes. Where another field is out of its range, a line is written all the
+/// same, but the round isn't read back from it.
 pub fn render_round(line: &mut LineBuffer, r: &PortRound)
     requires { r.now.kind.bus ≤ 128 }
     ensures text { line.new ≡ line_text r.now ++ codes "\n" }
@@ -69,6 +72,7 @@ fn push_channels(line: &mut LineBuffer, r: &PortRound)
     push_read_data_channel(line, &r.r, r.kind.bus);
 }
 
+// What AW or AR offers: `-` for nothing, else the beat behind its mark.
 fn push_address_channel(line: &mut LineBuffer, offered: &Option<Seen<RawAddr>>)
     requires { length line.old + 512 ≤ LineBuffer.ROOM }
     ensures text { line.new ≡ line.old ++ channel_text address_text offered.now }
@@ -83,6 +87,7 @@ fn push_address_channel(line: &mut LineBuffer, offered: &Option<Seen<RawAddr>>)
     }
 }
 
+// What W offers on a bus of so many bytes.
 fn push_write_data_channel(line: &mut LineBuffer, offered: &Option<Seen<WBeat>>, bus: u8)
     requires bus { bus ≤ 128 }
     requires space { length line.old + 512 ≤ LineBuffer.ROOM }
@@ -98,6 +103,7 @@ fn push_write_data_channel(line: &mut LineBuffer, offered: &Option<Seen<WBeat>>,
     }
 }
 
+// What B offers.
 fn push_response_channel(line: &mut LineBuffer, offered: &Option<Seen<RawB>>)
     requires { length line.old + 512 ≤ LineBuffer.ROOM }
     ensures text { line.new ≡ line.old ++ channel_text response_text offered.now }
@@ -112,6 +118,7 @@ fn push_response_channel(line: &mut LineBuffer, offered: &Option<Seen<RawB>>)
     }
 }
 
+// What R offers on a bus of so many bytes.
 fn push_read_data_channel(line: &mut LineBuffer, offered: &Option<Seen<RawR>>, bus: u8)
     requires bus { bus ≤ 128 }
     requires space { length line.old + 512 ≤ LineBuffer.ROOM }
@@ -127,6 +134,7 @@ fn push_read_data_channel(line: &mut LineBuffer, offered: &Option<Seen<RawR>>, b
     }
 }
 
+// The fields of a beat of AW or AR.
 #[tactic(auto, unfolding(crate::specs::Form::address_text))]
 fn push_address(line: &mut LineBuffer, beat: &RawAddr)
     requires { length line.old + 500 ≤ LineBuffer.ROOM }
@@ -142,6 +150,7 @@ fn push_address(line: &mut LineBuffer, beat: &RawAddr)
     push_tag(line, &beat.tag);
 }
 
+// The fields of a beat of W.
 #[tactic(auto, unfolding(crate::specs::Form::write_data_text))]
 fn push_write_data(line: &mut LineBuffer, beat: &WBeat, bus: u8)
     requires bus { bus ≤ 128 }
@@ -155,6 +164,7 @@ fn push_write_data(line: &mut LineBuffer, beat: &WBeat, bus: u8)
     push_tag(line, &beat.tag);
 }
 
+// The fields of a beat of B.
 #[tactic(auto, unfolding(crate::specs::Form::response_text))]
 fn push_response(line: &mut LineBuffer, beat: &RawB)
     requires { length line.old + 500 ≤ LineBuffer.ROOM }
@@ -166,6 +176,7 @@ fn push_response(line: &mut LineBuffer, beat: &RawB)
     push_tag(line, &beat.tag);
 }
 
+// The fields of a beat of R.
 #[tactic(auto, unfolding(crate::specs::Form::read_data_text))]
 fn push_read_data(line: &mut LineBuffer, beat: &RawR, bus: u8)
     requires bus { bus ≤ 128 }
@@ -180,6 +191,7 @@ fn push_read_data(line: &mut LineBuffer, beat: &RawR, bus: u8)
     push_tag(line, &beat.tag);
 }
 
+// The number of the transaction, and the lowest and the highest lane that is wanted.
 #[tactic(auto, unfolding(crate::specs::Form::tag_text))]
 fn push_tag(line: &mut LineBuffer, tag: &Tag)
     requires { length line.old + 62 ≤ LineBuffer.ROOM }

@@ -46,6 +46,7 @@ abbrev pub beats_in : List TrafficItem → ℕ
 beats_in [] = 0
 beats_in (item ∷ more) = beats_of item.txn.request + beats_in more
 
+-- the transactions suit their managers, stand in order, and are no more than a traffic can have
 pub record IsTraffic (managers : List ManagerPort) (items : List TrafficItem) : Type 0 where
   pub suit : All (Suits managers) items
   pub in_order : AreInOrder [] items

@@ -1,10 +1,10 @@
--- The data words of a write: a pair of characters for each valid lane of a beat.
+-- The data words of a write: a pair of characters for each valid lane of a beat. (Arm IHI 0022, write strobes.)
 use Rattle.std.specs.Prelude.{ℕ, ◌*◌, ◌==◌, ◌&&◌, ◌||◌, Bool, true, false, List, [], ◌∷◌, length, Option, None, Some, is_some}
 use Rattle.std.specs.List.{flat_map, list_all}
 use Rattle.manager_end.specs.declared.script.WriteByte.{WriteByte}
 use Rattle.plain_text.specs.Numbers.{read_byte_pair}
 
--- two dashes, or two hexadecimal digits in either case
+-- two dashes (45), or two hexadecimal digits in either case
 unfoldable pub is_pair : ℕ → ℕ → Bool
 is_pair high low = (high == 45 && low == 45) || is_some (read_byte_pair (high ∷ low ∷ []))
 

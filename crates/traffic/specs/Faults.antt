@@ -34,10 +34,11 @@ fault_by managers number (Some Passed) = None
 fault_by managers number (Some (Waits name)) = if is_some (port_of managers name) then None else Some (UnknownManager number)
 fault_by managers number (Some (Asks access)) = burst_fault number access (port_of managers access.start.manager)
 
+-- why line `number` is refused
 abbrev pub line_fault : List ManagerPort → ℕ → List ℕ → Option TrafficFault
 line_fault managers number line = fault_by managers number (line_of line)
 
--- the code of a refusal; want of memory is none
+-- the code of a refusal; want of memory is no refusal, and 0 stands for its code
 abbrev pub code_of : TrafficFault → ℕ
 code_of (BadLine line) = 17
 code_of (UnknownManager line) = 18
@@ -50,6 +51,7 @@ code_of NoMemory = 0
 abbrev pub lesser : TrafficFault → TrafficFault → TrafficFault
 lesser first other = if nat_lt (code_of other) (code_of first) then other else first
 
+-- the same of faults that may be missing
 abbrev pub least : Option TrafficFault → Option TrafficFault → Option TrafficFault
 least None other = other
 least (Some first) None = Some first

@@ -1,4 +1,4 @@
--- How transactions are kept.
+-- How transactions are kept, and the list that they stand for.
 use Rattle.std.specs.Prelude.{List, map}
 use Rattle.traffic.specs.Traffic.{TrafficItem}
 use Rattle.traffic.specs.declared.build.Item.{Item}

@@ -49,7 +49,7 @@ pub record Start : Type 0 where
   pub size : ℕ
   pub burst : Burst
 
--- `M I A S K`, and the words after these five
+-- the manager, the ID, the address, the bytes per beat and the kind of burst, and the words after these five
 unfoldable pub start_of : List (List ℕ) → Option (Start × List (List ℕ))
 start_of line = do
   manager ← next_word line
@@ -67,7 +67,7 @@ start_of line = do
 abbrev pub first_pairs : Start → ℕ
 first_pairs start = 2 ^ start.size - start.addr % 2 ^ start.size
 
--- the valid lanes of each other beat
+-- the valid lanes of each other beat; each beat of a FIXED burst has those of the first one
 abbrev pub other_pairs_of : Burst → Start → ℕ
 other_pairs_of Fixed start = first_pairs start
 other_pairs_of Incr start = 2 ^ start.size
@@ -83,7 +83,7 @@ pub record Access : Type 0 where
   pub beats : ℕ
   pub bytes : List WriteByte
 
--- nothing; that a manager waits; or that it issues a burst
+-- what a line says: nothing; that a manager waits; or that it issues a burst
 pub data Line : Type 0 where
   Passed : Line
   Waits : List ℕ → Line
@@ -104,7 +104,7 @@ write_of line = do
   start ← start_of line
   write_with start.0 start.1
 
--- what is said, where no word is left over
+-- what was said, where no word is left over
 abbrev pub at_end : Line → List (List ℕ) → Option Line
 at_end said line = if has_no_word line then Some said else None
 

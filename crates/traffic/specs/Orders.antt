@@ -17,9 +17,11 @@ order_by managers (Some Passed) = None
 order_by managers (Some (Waits name)) = option_map Holds (place_of managers name)
 order_by managers (Some (Asks access)) = option_map (λ place. Issues place access) (place_of managers access.start.manager)
 
+-- what a line asks
 unfoldable pub order_of : List ManagerPort → List ℕ → Option Order
 order_of managers line = order_by managers (line_of line)
 
+-- what all lines ask, less those that ask nothing
 abbrev pub orders_of : List ManagerPort → List (List ℕ) → List Order
 orders_of managers lines = filter_map (order_of managers) lines
 
@@ -41,5 +43,6 @@ most_transactions = 16384
 abbrev pub most_beats : ℕ
 most_beats = 262144
 
+-- there are more transactions or more beats than that
 abbrev pub is_too_much : List Access → Bool
 is_too_much bursts = nat_lt most_transactions (length bursts) || nat_lt most_beats (total_beats bursts)

@@ -29,5 +29,6 @@ pub record TellsLeast (managers : List ManagerPort) (number : ℕ) (lines : List
   pub some : (fault : TrafficFault) → least_fault managers number lines ≡ Some fault → IsLeastFault managers number lines fault
   pub none : least_fault managers number lines ≡ None → HasNoFault managers number lines
 
+-- so it is for all managers and lines, whatever number the first line has
 abbrev pub LeastIsTold : Type 0
 LeastIsTold = (managers : List ManagerPort) (number : ℕ) (lines : List (List ℕ)) → TellsLeast managers number lines

@@ -1,4 +1,4 @@
--- What the reader's values stand for. Their names and data words lie in the text.
+-- What the reader's values stand for. Their names and data words still lie in the text.
 use Rattle.std.specs.Prelude.{[], if◌then◌else◌}
 use Rattle.plain_text.specs.Words.{words}
 use Rattle.traffic.specs.Data.{data_bytes}

@@ -15,9 +15,11 @@ use Rattle.traffic.specs.declared.fault.TrafficFault.TheVariants.{TooMuchTraffic
 abbrev pub none_yet : Count
 none_yet = record { all = 0; awaited = 0 }
 
+-- after a `wait` line all are awaited
 abbrev pub held : Count → Count
 held count = record { all = count.all; awaited = count.all }
 
+-- after one more transaction
 abbrev pub one_more : Count → Count
 one_more count = record { all = count.all + 1; awaited = count.awaited }
 
@@ -26,6 +28,7 @@ abbrev pub counted : ℕ → Count → Order → Count
 counted place count (Holds other) = if other == place then held count else count
 counted place count (Issues other access) = if other == place then one_more count else count
 
+-- the count of the manager at this place after all orders
 abbrev pub count_of : ℕ → List Order → Count
 count_of place orders = fold (counted place) none_yet orders
 

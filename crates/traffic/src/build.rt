@@ -35,7 +35,8 @@ pub(crate) struct Item {
     pub bytes: Vec<WriteByte>,
 }
 
-/// The transactions that all lines ask for.
+/// The transactions that all lines ask for, or `NoMemory` where memory is wanting. Each burst that is
+/// asked for has at most 256 beats.
 pub(crate) fn collect_items(
     alloc: Global,
     text: &[u8],
@@ -78,7 +79,8 @@ fn add_line(
     requires managers { length counts.old.items < 2 ^ 32 }
     requires short { length items.old.items < 2 ^ 32 - 1 }
     requires small { All (λ count. count.all ≤ length items.old.items) counts.old.items }
-    ensures items { OnOk result (items_view items.new.items ≡ items_view items.old.items ++ items_by counts.old.items (length items.old.items + 1) (order_of managers.now line.now)) }
+    ensures items { OnOk result (items_view items.new.items
+        ≡ items_view items.old.items ++ items_by counts.old.items (length items.old.items + 1) (order_of managers.now line.now)) }
     ensures counts { OnOk result (counts.new.items ≡ counts_by counts.old.items (order_of managers.now line.now)) }
 {
     match read_order(line, managers) {
@@ -98,7 +100,8 @@ fn add_order(
     requires managers { length counts.old.items < 2 ^ 32 }
     requires short { length items.old.items < 2 ^ 32 - 1 }
     requires small { All (λ count. count.all ≤ length items.old.items) counts.old.items }
-    ensures items { OnOk result (items_view items.new.items ≡ items_view items.old.items ++ items_of counts.old.items (length items.old.items + 1) (order_seen order.now)) }
+    ensures items { OnOk result (items_view items.new.items
+        ≡ items_view items.old.items ++ items_of counts.old.items (length items.old.items + 1) (order_seen order.now)) }
     ensures counts { OnOk result (counts.new.items ≡ counts_after counts.old.items (order_seen order.now)) }
 {
     match order {

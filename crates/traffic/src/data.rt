@@ -1,4 +1,5 @@
-//! Data words: a pair of characters for each valid lane of a beat.
+//! Data words: a pair of characters for each valid lane of a beat, which says the byte or that its
+//! strobe isn't set. (Arm IHI 0022, write strobes.)
 
 ghost use Rattle.std.specs.Prelude.{◌≡◌, ◌+◌, ◌≤◌, ◌++◌, if◌then◌else◌, length, IfSome, OnOk, Some, None};
 ghost use Rattle.std.specs.List.{list_all};
@@ -26,7 +27,7 @@ pub(crate) fn count_data_words(line: &[u8], first: u64, other: u64) -> Option<u6
     }
 }
 
-// The number of words, where each has so many pairs.
+// The number of words that are left, where each has so many pairs and nothing else.
 #[tactic(auto, using(crate::proofs::WordCounts::words_short))]
 fn count_words_of(line: &[u8], pairs: u64) -> Option<u64>
     requires { pairs ≤ 128 }

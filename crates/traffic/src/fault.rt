@@ -26,17 +26,18 @@ pub enum TrafficFault {
     /// Code 20: the burst isn't legal on the manager's bus. A burst of over 256 beats breaks the rule
     /// of length. (Arm IHI 0022, burst length, burst size and burst type.)
     IllegalBurst {
+        /// The number of the line.
         line: u32,
         /// The first rule that is broken.
         rule: BurstRule,
     },
     /// Code 21: there are over 16,384 transactions or over 262,144 beats.
     TooMuchTraffic,
-    /// Memory was wanting.
+    /// Memory was wanting. This is no fault of the text and has no code.
     NoMemory,
 }
 
-// The code of a refusal; want of memory is none.
+// The code of a refusal. Want of memory is no refusal, and 0 stands for its code.
 fn code_of(fault: TrafficFault) -> u8
     ensures { result ≡ code_of fault }
 {
@@ -130,8 +131,10 @@ fn broken_rule(access: &TextAccess<'_>, bus: u8) -> Option<BurstRule>
     }
 }
 
-// The first rule that a burst of over 256 beats breaks: that of size, or else that of length. Of one
-// beat and FIXED it breaks no rule but that of size.
+// The first rule that a burst of over 256 beats breaks: that of size, or else that of length.
+//
+// No request can name so many beats, so the rule of size is judged by a FIXED burst of one beat, which
+// can break no other rule.
 fn too_long(access: &TextAccess<'_>, bus: u8) -> Option<BurstRule>
     requires bus { IsBusWidth bus }
     requires long { 256 < access.now.beats }
@@ -158,7 +161,8 @@ fn broken_by(request: &Addr, bus: u8) -> Option<BurstRule>
     }
 }
 
-/// The request for a burst, the number of whose last beat is `len`.
+/// The request for a burst, the number of whose last beat is `len`, counted from 0. Its tag isn't used,
+/// since a manager tags its beats itself.
 pub(crate) fn request_of(access: &TextAccess<'_>, len: u8) -> Addr
     ensures { result ≡ record (request_of (access_seen access.now)) { len = len } }
 {

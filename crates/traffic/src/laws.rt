@@ -1,4 +1,4 @@
-//! What holds of every text.
+//! The laws of the reader: what holds of every text.
 
 ghost use Rattle.traffic.specs.Accepted.{AcceptedSuits};
 ghost use Rattle.traffic.specs.Refusals.{LeastIsTold};

@@ -1,4 +1,4 @@
-//! What a line of traffic says, read where it lies in the text.
+//! What a line of traffic says, read where it lies in the text, so that reading takes no memory.
 
 ghost use Rattle.std.specs.Prelude.{◌≡◌, ◌<◌, ◌≤◌, ◌^◌, ◌-◌, ◌%◌, option_map, IfSome};
 ghost use Rattle.plain_text.specs.Words.{words};
@@ -129,7 +129,8 @@ fn parse_wait(line: &[u8]) -> Option<TextLine<'_>>
     }
 }
 
-// The five words that a write and a read have in common, and the words behind them.
+// The five words that a write and a read have in common (manager, ID, address, bytes per beat and kind
+// of burst), and the words behind them.
 #[tactic(auto, unfolding(crate::specs::Line::start_of))]
 fn parse_start(line: &[u8]) -> Option<(TextStart<'_>, &[u8])>
     ensures said { option_map (λ found. (start_seen found.0, words found.1.now)) result ≡ start_of (words line.now) }
@@ -206,7 +207,8 @@ fn parse_beats(word: &[u8]) -> Option<u64>
     if count == 0 { None } else { Some(count) }
 }
 
-// The number of valid lanes of the first beat.
+// The number of valid lanes of the first beat: from the address to the end of its aligned block. (Arm
+// IHI 0022, burst address structure.)
 fn first_pairs(start: &TextStart<'_>) -> u64
     requires { start.now.size ≤ 7 }
     ensures value { result ≡ first_pairs (start_seen start.now) }
@@ -215,7 +217,7 @@ fn first_pairs(start: &TextStart<'_>) -> u64
     beat_bytes(start.size) - start.addr % beat_bytes(start.size)
 }
 
-// The number of valid lanes of each other beat.
+// The number of valid lanes of each other beat. Each beat of a FIXED burst has those of the first one.
 fn other_pairs(start: &TextStart<'_>) -> u64
     requires { start.now.size ≤ 7 }
     ensures value { result ≡ other_pairs (start_seen start.now) }

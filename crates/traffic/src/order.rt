@@ -15,7 +15,7 @@ pub const MOST_TRANSACTIONS: u64 = 16_384;
 /// How many beats a traffic has at most.
 pub const MOST_BEATS: u64 = 262_144;
 
-/// What a line asks of the manager at a place.
+/// What a line asks of the manager at a place among those that the reader was given.
 #[derive(Debug, Clone, Copy)]
 pub(crate) enum TextOrder<'a> {
     /// Its later transactions wait for those before the line.

@@ -8,7 +8,7 @@ use plain_text::words::is_word;
 /// What the reader knows of a manager.
 #[derive(Debug, Clone, Copy)]
 pub struct ManagerPort<'a> {
-    /// The name that lines call it by.
+    /// The name that lines call it by. Of several managers with the same name they mean the first.
     pub name: &'a str,
     /// The width of its bus in bytes: 4, 8, 16, 32, 64 or 128.
     pub bus: u8,
