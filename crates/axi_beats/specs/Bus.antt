@@ -1,6 +1,6 @@
--- The width of a bus (Arm IHI 0022, data buses).
+-- The widths that a data bus may have here (Arm IHI 0022, channel definition).
 use Rattle.std.specs.Prelude.{◌==◌, ◌||◌, ℕ, IsTrue}
 
--- a bus of one of these widths, in bytes
+-- a bus of one of these widths, in bytes; the standard also has buses of 1 and 2 bytes, and no node here has one
 abbrev pub IsBusWidth : ℕ → Type 0
 IsBusWidth bus = IsTrue (bus == 4 || bus == 8 || bus == 16 || bus == 32 || bus == 64 || bus == 128)

@@ -1,4 +1,4 @@
-//! One beat of each channel.
+//! One beat of each channel, with the fields that the standard names. (Arm IHI 0022, channel signals.)
 
 use crate::lanes::Lanes;
 use crate::response::Resp;
@@ -20,45 +20,69 @@ pub enum Burst {
 /// No node decides by it.
 #[derive(Clone, Copy, Debug, PartialEq, Eq, Default)]
 pub struct Tag {
+    /// The number of the transaction.
     pub txn: u32,
+    /// The lowest lane that is wanted; of no meaning on an AXI4 link.
     pub low: u8,
+    /// The highest lane that is wanted; of no meaning on an AXI4 link.
     pub high: u8,
 }
 
-/// A beat of AW or AR: the request for a burst of `len + 1` beats of `2 ^ size` bytes.
+/// A beat of AW or AR: the request for a burst of `len + 1` beats of `2 ^ size` bytes. It may be a
+/// request for a burst that isn't legal. (Arm IHI 0022, address structure.)
 #[derive(Clone, Copy, Debug, PartialEq, Eq, Default)]
 pub struct Addr {
+    /// AxID.
     pub id: u32,
+    /// AxADDR, the byte address at which the burst starts.
     pub addr: u64,
+    /// AxLEN, one less than the number of beats.
     pub len: u8,
+    /// AxSIZE, the exponent of the bytes of a beat; at most 7 in a legal burst.
     pub size: u8,
+    /// AxBURST.
     pub burst: Burst,
+    /// What lets a run be followed.
     pub tag: Tag,
 }
 
-/// A beat of W: the data lanes, the strobes (bit n for lane n), and whether it is the last one.
+/// A beat of W. Which transaction it belongs to is told by its place alone, since it has no ID.
+/// (Arm IHI 0022, write strobes.)
 #[derive(Clone, Copy, Default)]
 pub struct WBeat {
+    /// WDATA, by lanes.
     pub lanes: Lanes,
+    /// WSTRB: lane n is written where bit n is 1.
     pub strobe: u128,
+    /// WLAST: this is the last beat of its burst.
     pub last: bool,
+    /// What lets a run be followed.
     pub tag: Tag,
 }
 
-/// A beat of B: the one answer to a write.
+/// A beat of B: the one answer to a write. (Arm IHI 0022, read and write response structure.)
 #[derive(Clone, Copy, Debug, PartialEq, Eq, Default)]
 pub struct BBeat {
+    /// BID, the ID of the write.
     pub id: u32,
+    /// BRESP.
     pub resp: Resp,
+    /// What lets a run be followed.
     pub tag: Tag,
 }
 
-/// A beat of R: one beat of the answer to a read.
+/// A beat of R: one beat of the answer to a read, which has a response of its own. (Arm IHI 0022,
+/// data read and write structure, read and write response structure.)
 #[derive(Clone, Copy, Default)]
 pub struct RBeat {
+    /// RID, the ID of the read.
     pub id: u32,
+    /// RDATA, by lanes.
     pub lanes: Lanes,
+    /// RRESP.
     pub resp: Resp,
+    /// RLAST: this is the last beat of its burst.
     pub last: bool,
+    /// What lets a run be followed.
     pub tag: Tag,
 }

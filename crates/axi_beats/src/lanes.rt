@@ -6,7 +6,7 @@ use std::alloc::AllocError;
 use std::marker::Model;
 
 /// 128 data lanes of one byte each, the widest bus there is. Lane n is data bits 8n to 8n + 7;
-/// a narrower bus uses the lower lanes. (Arm IHI 0022, write and read data.)
+/// a narrower bus uses the lower lanes. (Arm IHI 0022, data read and write structure.)
 pub struct Lanes {
     bytes: [u8; 128],
 }

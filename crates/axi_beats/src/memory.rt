@@ -1,8 +1,8 @@
-//! Want of memory.
+//! The answer of a call that found no memory.
 
 use std::alloc::AllocError;
 
-/// There was no memory for the call; what it was given is as it was.
+/// There was no memory for the call. How it left what it was given stands in its own contract.
 #[derive(Clone, Copy, Debug, PartialEq, Eq, Default)]
 pub struct NoMemory;
 

@@ -1,4 +1,4 @@
-//! Known values.
+//! Known values of the worse response, and of lanes that are set.
 
 use super::*;
 

@@ -1,6 +1,6 @@
 -- Answers: once, with the defined response and the bytes that were read, after what they answer,
--- and in order for each manager, ID and direction. (Arm IHI 0022, transaction ordering, response
--- structure.)
+-- and in order for each manager, ID and direction. (Arm IHI 0022, transaction ordering, read and write
+-- response structure.)
 use Rattle.std.specs.Prelude.{◌≡◌, ◌≢◌, ◌==◌, ◌<◌, ◌++◌, ◌∷◌, [], ℕ, List, All, Any, filter, map, take, if◌then◌else◌}
 use Rattle.axi_history.specs.Records.{Byte, Transaction, Event, Issue, Answer, events_of}
 
@@ -10,6 +10,7 @@ answered_bytes [] values = []
 answered_bytes (b ∷ more) [] = 0 ∷ answered_bytes more []
 answered_bytes (b ∷ more) (v ∷ values) = if b.allowed then v ∷ answered_bytes more values else 0 ∷ answered_bytes more (v ∷ values)
 
+-- the values that a transaction has read or written so far, in the order of its accesses
 abbrev pub values_of : ℕ → List Event → List ℕ
 values_of number events = map (λ (e : Event). e.value) (events_of number events)
 
@@ -28,7 +29,7 @@ pub record AreInOrder (earlier later : Transaction) : Type 0 where
   pub direction : earlier.write ≡ later.write
   pub number : earlier.number < later.number
 
--- the transactions of one manager, in order of number
+-- the transactions of one manager, in the order of the list
 abbrev pub of_manager : ℕ → List Transaction → List Transaction
 of_manager manager transactions = filter (λ (t : Transaction). t.manager == manager) transactions
 

@@ -12,10 +12,11 @@ module _ {X : Type 0} where
 abbrev pub IsAnswered : Transaction → List Answer → Type 0
 IsAnswered t answers = Any (λ (a : Answer). a.number ≡ t.number) answers
 
--- an access, as the byte that it does: its address, and what it writes
+-- an access, as the byte that it reads or writes: its address, and what it writes
 abbrev pub shown : Event → ℕ × Option ℕ
 shown e = (e.address, (if e.write then Some e.value else None))
 
+-- a byte of a transaction, as the access that it asks for, in the same form
 abbrev pub wanted : Byte → ℕ × Option ℕ
 wanted b = (b.address, b.value)
 
@@ -32,6 +33,7 @@ held_after node address before (e ∷ more) = held_after node address (if is_wri
 abbrev pub IsOf : List Transaction → Event → Type 0
 IsOf transactions e = Any (λ (t : Transaction). (t.number ≡ e.number) × (t.write ≡ e.write) × (t.target ≡ e.node)) transactions
 
+-- of these transactions, accesses (in the order in which they were made) and answers so far
 pub record Delivered (transactions : List Transaction) (events : List Event) (answers : List Answer) : Type 0 where
   -- no access is of nobody, of the wrong direction or at the wrong place
   pub belongs : All (IsOf transactions) events

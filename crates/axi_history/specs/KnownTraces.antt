@@ -9,6 +9,7 @@ use Rattle.axi_history.specs.declared.port.RawR.{RawR}
 use Rattle.axi_history.specs.declared.port.Seen.{Seen}
 use Rattle.axi_history.specs.PortRules.{axi4_history_fault}
 
+-- the rules ask of a tag only that it stays, so all beats have this one
 abbrev pub no_tag : Tag
 no_tag = record { txn = 0; low = 0; high = 0 }
 
@@ -41,6 +42,7 @@ response id resp = record { id = id; resp = resp; tag = no_tag }
 abbrev pub read_beat : ℕ → Bool → RawR
 read_beat id last = record { id = id; lanes = replicate 128 0; resp = 0; last = last; tag = no_tag }
 
+-- rounds in which one channel offers, and no other
 abbrev pub aw : Option (Seen RawAddr) → PortRound
 aw offer = record quiet { aw = offer }
 
@@ -86,8 +88,9 @@ Addresses =
     × IsLegalTrace (ar (taken (address 0 4088 1 2 1)) ∷ [])
     × Breaks 1 8 (aw (waits (locked (address 0 16 0 2 1))) ∷ [])
 
--- data before its address, with `last` where it is due and where it is not; strobes on lanes that are not valid, told
--- once the address is there; the least rule where both are broken
+-- data before its address, with `last` where it is due and without it; `last` on the first of two beats, after the
+-- address; strobes on lanes that are not valid, told once the address is there; the least rule where both are broken;
+-- data that is withdrawn
 abbrev pub WriteData : Type 0
 WriteData =
     IsLegalTrace (w (taken (data_beat 8 false)) ∷ w (waits (data_beat 3 true)) ∷ record (w (taken (data_beat 3 true))) { aw = waits (address 0 3 1 2 1) } ∷ [])
@@ -97,7 +100,8 @@ WriteData =
     × Breaks 2 9 (w (taken (data_beat 4 false)) ∷ w (taken (data_beat 3 false)) ∷ aw (waits (address 0 3 1 2 1)) ∷ [])
     × Breaks 2 1 (w (waits (data_beat 8 false)) ∷ aw (taken (address 0 3 1 2 1)) ∷ [])
 
--- a response one round after the last data, in the same round, and before the data; EXOKAY; a response of another ID
+-- a response one round after the last data, in the same round, and before the data; EXOKAY; a response of another ID;
+-- a second response to one write; a response that changes while it waits
 abbrev pub Responses : Type 0
 Responses =
     let write = aw (taken (address 2 0 0 2 1)) ∷ w (taken (data_beat 15 true)) ∷ [] in
@@ -110,7 +114,7 @@ Responses =
     × Breaks 3 2 (write ++ b (waits (response 2 0)) ∷ b (taken (response 2 2)) ∷ [])
 
 -- read beats of two IDs, one between those of the other; a beat in the round of its address; `last` too late and too
--- early; a beat too many
+-- early; a beat too many; a beat of another ID in place of one that waits
 abbrev pub ReadData : Type 0
 ReadData =
     let reads = ar (taken (address 1 0 1 2 1)) ∷ ar (taken (address 2 0 0 2 1)) ∷ [] in

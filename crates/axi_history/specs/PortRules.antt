@@ -1,5 +1,5 @@
--- The rules of an AXI4 port (Arm IHI 0022, handshake process, transaction structure and transaction
--- identifiers). Each rule is asked of a round and all the rounds before it. The channels are numbered
+-- The twelve rules of an AXI4 port (Arm IHI 0022, handshake process, transaction structure, exclusive accesses and
+-- transaction identifiers). Each rule is asked of a round and all the rounds before it. The channels are numbered
 -- 1 AW, 2 W, 3 B, 4 AR and 5 R.
 use Rattle.std.specs.Prelude.{ℕ, ◌+◌, ◌^◌, ◌%◌, ◌==◌, ◌&&◌, ◌||◌, ◌++◌, ◌∷◌, [], List, Bool, true, false, not, Option, Some, None, is_none, is_some, length, map, sum, zip, nat_lt, nat_le, if◌then◌else◌}
 use Rattle.std.specs.Option.{option_map}
@@ -115,6 +115,7 @@ abbrev pub least_broken : List (ℕ × Bool) → Option ℕ
 least_broken [] = None
 least_broken (r ∷ rules) = if r.1 then least_broken rules else Some r.0
 
+-- an address keeps rules 3 to 8
 abbrev pub keeps_address_rules : ℕ → RawAddr → Bool
 keeps_address_rules bus a = is_none (least_broken (address_rules bus a))
 
@@ -160,6 +161,7 @@ strobes_are_on_valid_lanes bus history =
 
 -- ---- Rules 11 and 12, of answers
 
+-- the writes, the responses and the read beats of an ID, in order
 abbrev pub writes_of : ℕ → List RawAddr → List RawAddr
 writes_of id writes = of_id (λ (a : RawAddr). a.id) id writes
 
@@ -193,6 +195,7 @@ read_last_is_on_the_last_beat earlier r =
 
 -- ---- The rules of each channel, with their numbers, and whether a round after earlier ones keeps them
 
+-- the rules of the beat that a channel offers; where none is offered, there are none
 abbrev pub rules_of_offer : {X : Type 0} → Option X → (X → List (ℕ × Bool)) → List (ℕ × Bool)
 rules_of_offer None rules = []
 rules_of_offer (Some beat) rules = rules beat
@@ -233,6 +236,7 @@ read_data_rules earlier now =
 -- ---- What a round breaks, and what a history breaks first
 
 module _ {X : Type 0} where
+  -- the first of two answers where there is one, else the second
   abbrev pub or_else : Option X → Option X → Option X
   or_else None other = other
   or_else (Some x) other = Some x

@@ -24,7 +24,8 @@ pub record Transaction : Type 0 where
   pub bytes : List Byte
   pub response : List Resp
 
--- an access to a byte: in which round, at which subordinate, for which transaction
+-- an access to a byte: in which round, at which subordinate and for which transaction, its address, and the value
+-- that was read or written there
 pub record Event : Type 0 where
   pub round : ℕ
   pub node : ℕ

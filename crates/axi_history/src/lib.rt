@@ -1,8 +1,9 @@
-//! What a history is, and what it means that a network delivered and answered: definitions over
-//! plain lists.
+//! What a history is: what it means that a network delivered and answered, and which rules a port
+//! has to keep. All of it is definitions over plain lists, in `specs/`.
 //!
-//! The lists are the transactions with what is due of each, the accesses to bytes, the rounds of
-//! issue and the answers. None of these definitions knows of a queue, a table, an entry or a cursor.
+//! The lists of a network are the transactions with what is due of each, the accesses to bytes, the
+//! rounds of issue and the answers. The list of a port is what was seen of it, round by round. None
+//! of these definitions knows of a queue, a table, an entry or a cursor.
 #![tactic(auto)]
 
 mod known;

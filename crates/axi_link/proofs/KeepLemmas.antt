@@ -1,4 +1,5 @@
--- What every beat of a channel has, a round keeps, where the beat that is put has it.
+-- Where a property holds of every beat of a channel and of the beat that is put, it holds of every beat after the
+-- round.
 use Rattle.std.proofs.Common.{◌++◌, ◌∷◌, [], ℕ, List, Option, Some, None, Bool, true, false, cond, eqb}
 use Rattle.std.specs.Prelude.{All, IfSome}
 use Rattle.std.proofs.lemmas.List.Elements.{All-append, All-drop, All-nil, All-push}

@@ -1,4 +1,4 @@
--- Fitting moves can be made.
+-- Where the moves of both nodes fit the links, each link can make them.
 use Rattle.std.proofs.Common.{◌≡◌, ◌<◌, ℕ, List, [], ◌∷◌, Option, Some, None, Bool, true, false, cond, length, subst, eqb, IsTrue, arith, refl}
 use Rattle.std.proofs.lemmas.Bool.{eqb-true}
 use Rattle.axi_link.specs.LinkView.{LinkView}
@@ -7,10 +7,12 @@ use Rattle.axi_link.specs.Table.{link_of}
 use Rattle.axi_link.specs.Fits.{TakeFits, PutFits, FittingMovesCanBeMade}
 
 module _ {X : Type 0} (queue_of : LinkView → List X) (links : List LinkView) (number : ℕ) where
+  -- a take that fits the links has its head on the link that it is made on
   pub take-fits : (take : Option ℕ) → TakeFits queue_of links take → IsTrue (takes_from number take) → 0 < length (queue_of (link_of links number))
   take-fits None fits here = absurd (cc)
   take-fits (Some link) fits here = subst (λ (n : ℕ). 0 < length (queue_of (link_of links n))) (eqb-true link number here) fits
 
+  -- a put that fits the links has its room on the link that it is made on
   pub put-fits : (put : Option (ℕ × X)) → PutFits queue_of links put → 0 < length (appended number put) → length (queue_of (link_of links number)) < (link_of links number).depth
   put-fits None fits some = absurd (omega arith)
   put-fits (Some put) fits some =

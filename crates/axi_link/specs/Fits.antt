@@ -1,4 +1,4 @@
--- Moves that the links allow: a head for each take and room for each put.
+-- Moves that the links allow: a head for each take and room for each put (Arm IHI 0022, handshake process).
 use Rattle.std.specs.Prelude.{◌<◌, ℕ, List, Option, Some, None, length}
 use Rattle.axi_link.specs.LinkView.{LinkView}
 use Rattle.axi_link.specs.Moves.{CanMove}

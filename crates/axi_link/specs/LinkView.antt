@@ -14,6 +14,6 @@ pub record LinkView : Type 0 where
   pub r : List RBeat
   pub depth : ℕ
 
--- no beat waits
+-- a link of this depth on which no beat waits
 abbrev pub empty_link : ℕ → LinkView
 empty_link n = record { aw = []; w = []; b = []; ar = []; r = []; depth = n }

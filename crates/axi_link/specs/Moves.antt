@@ -3,7 +3,7 @@ use Rattle.std.specs.Prelude.{◌==◌, ◌<◌, ◌++◌, ◌∷◌, [], ℕ, L
 use Rattle.axi_link.specs.LinkView.{LinkView}
 use Rattle.axi_link.specs.declared.out.Out.{Out}
 
--- the head is taken from this link
+-- whether the head is taken from this link
 abbrev pub takes_from : ℕ → Option ℕ → Bool
 takes_from number None = false
 takes_from number (Some link) = link == number
@@ -14,15 +14,17 @@ module _ {X : Type 0} where
   appended number None = []
   appended number (Some put) = if put.0 == number then put.1 ∷ [] else []
 
-  -- the beats that stay where the head is taken or isn't
+  -- the beats without the oldest one where it is taken, else all of them
   abbrev pub without_head : Bool → List X → List X
   without_head true xs = drop 1 xs
   without_head false xs = xs
 
+  -- the beats of a channel of this link that a round's take leaves
   abbrev pub left_of : ℕ → Option ℕ → List X → List X
   left_of number take xs = without_head (takes_from number take) xs
 
-  -- a take has a head, and a put has room at the round's start
+  -- a take from this link has a head, and a put on it has room at the round's start: a head that leaves in the
+  -- round makes none
   pub record CanAdvance (number depth : ℕ) (xs : List X) (take : Option ℕ) (put : Option (ℕ × X)) : Type 0 where
     pub head : IsTrue (takes_from number take) → 0 < length xs
     pub room : 0 < length (appended number put) → length xs < depth

@@ -2,7 +2,8 @@
 use Rattle.std.specs.Prelude.{ℕ, List, Bool, true, false, Option, Some, None, length, nat_lt, slice_get, slice_index_or}
 use Rattle.axi_link.specs.LinkView.{LinkView, empty_link}
 
--- the link of a number; where there is none, one without beats and without room
+-- The link of a number; where there is none, one without beats and without room, so that nothing can be moved on
+-- it.
 abbrev pub link_of : List LinkView → ℕ → LinkView
 link_of links number = slice_index_or links number (empty_link 0)
 

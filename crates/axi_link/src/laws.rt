@@ -1,4 +1,4 @@
-//! What holds of the definitions alone.
+//! What holds of links and moves by their definitions alone.
 
 ghost use Rattle.axi_link.specs.Fits.{FittingMovesCanBeMade};
 

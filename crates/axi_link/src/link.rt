@@ -36,6 +36,10 @@ impl Model for Link {
 
 impl Link {
     /// Five empty queues of `depth` beats each, 1 to 16.
+    ///
+    /// # Errors
+    ///
+    /// `NoMemory` where there is no memory for the queues.
     pub fn new(alloc: Global, depth: u8) -> Result<Link, NoMemory>
         requires least { 0 < depth }
         requires most { depth ≤ 16 }
@@ -94,28 +98,28 @@ impl Link {
         self.aw.len() < usize::from(self.depth)
     }
 
-    /// Whether there is room for a write data beat.
+    /// Whether there is room for a write data beat: fewer than `depth` wait.
     pub fn room_w(&self) -> bool
         ensures { result ≡ nat_lt (length self.now.w) self.now.depth }
     {
         self.w.len() < usize::from(self.depth)
     }
 
-    /// Whether there is room for a write response.
+    /// Whether there is room for a write response: fewer than `depth` wait.
     pub fn room_b(&self) -> bool
         ensures { result ≡ nat_lt (length self.now.b) self.now.depth }
     {
         self.b.len() < usize::from(self.depth)
     }
 
-    /// Whether there is room for a read address.
+    /// Whether there is room for a read address: fewer than `depth` wait.
     pub fn room_ar(&self) -> bool
         ensures { result ≡ nat_lt (length self.now.ar) self.now.depth }
     {
         self.ar.len() < usize::from(self.depth)
     }
 
-    /// Whether there is room for a read data beat.
+    /// Whether there is room for a read data beat: fewer than `depth` wait.
     pub fn room_r(&self) -> bool
         ensures { result ≡ nat_lt (length self.now.r) self.now.depth }
     {
@@ -125,7 +129,7 @@ impl Link {
     /// Makes the moves of a round on this link, whose number is `number`: drops each head that its
     /// receiver takes from it and appends each beat that its giver puts there. `upper` is what the
     /// node above does, `lower` what the node below does. Each take needs a head, and each put
-    /// room at the round's start.
+    /// room at the round's start: a head that leaves makes room from the next round on.
     pub fn commit(&mut self, number: u32, upper: &Out, lower: &Out)
         requires { CanMove number self.old upper.now lower.now }
         ensures { self.new ≡ link_after number self.old upper.now lower.now }
@@ -160,6 +164,7 @@ fn advance<T: Copy>(
     }
 }
 
+// A call of this is refused where the type may not go to another thread.
 fn crosses<T: Send + Sync>(_value: &T) {}
 
 /// A link may be sent to another thread, and lent to one.

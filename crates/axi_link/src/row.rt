@@ -1,5 +1,6 @@
-//! What the rows of all decision tables share: a node's link by its number, and the two ways to
-//! set a channel of an [`Out`](crate::Out) in place.
+//! What all decision tables share. The table of a kind of node tells, channel by channel, what the
+//! node does in a round: here are a node's link by its number, and the two ways to set a channel of
+//! an [`Out`](crate::Out) in place.
 
 ghost use Rattle.std.specs.Prelude.{◌≡◌, ◌<◌, length};
 ghost use Rattle.std.specs.Option.{option_copied};
@@ -7,7 +8,7 @@ ghost use Rattle.axi_link.specs.Table.{link_of, put_of, take_of};
 
 use crate::link::Link;
 
-/// The link of a number, which is in range.
+/// The link of a number, which is below the number of links.
 pub fn link_at(links: &[Link], number: u32) -> &Link
     requires { number < length links.now }
     ensures { result.now ≡ link_of links.now number }

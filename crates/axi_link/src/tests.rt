@@ -1,4 +1,4 @@
-//! Known values.
+//! Known rounds of one link.
 
 use super::*;
 use axi_beats::{Addr, BBeat};

@@ -11,6 +11,7 @@ use Rattle.burst_address.specs.Formulas.{aligned}
 
 -- ---- powers of two
 
+-- a power of two that is at most 128 has an exponent below 8
 pub exponent_below : (s : ℕ) → 2 ^ s ≤ 128 → s < 8
 exponent_below s le =
     elim (cases_lt s 8) [
@@ -18,9 +19,11 @@ exponent_below s le =
       | inr ge ↦ let more : 2 ^ 8 ≤ 2 ^ s = pow-le-pow_right {n = 2} (omega arith) ge in absurd (omega arith)
     ]
 
+-- and one with a greater exponent is above 128
 pub power_above : (s : ℕ) → 7 < s → 128 < 2 ^ s
 power_above s lt = let more : 2 ^ 8 ≤ 2 ^ s = pow-le-pow_right {n = 2} (omega arith) lt in omega arith
 
+-- powers of two are in the order of their exponents
 pub exponents : (s w : ℕ) → 2 ^ s ≤ 2 ^ w → s ≤ w
 exponents s w le =
     elim (cases_lt w s) [
@@ -28,6 +31,7 @@ exponents s w le =
       | inr ge ↦ ge
     ]
 
+-- a bus's width is a power of two, at most the 7th
 pub bus_power : (bus : ℕ) → IsBusWidth bus → (w : ℕ) × (bus ≡ 2 ^ w) × (w ≤ 7)
 bus_power bus is =
     elim (or_cases (bus == 4 || bus == 8 || bus == 16 || bus == 32 || bus == 64) (bus == 128) is) [
@@ -49,6 +53,7 @@ bus_power bus is =
 
 -- ---- blocks of one size
 
+-- a number lies at or above its block's start, and before its end
 pub aligned-le : (size x : ℕ) → aligned size x ≤ x
 aligned-le size x = div-mul-le_self x size
 

@@ -1,4 +1,5 @@
--- The bytes of a burst, as one list over its beats and their valid bytes.
+-- The bytes of a burst, as one list over its beats and their valid bytes, and those of them that a write writes
+-- (Arm IHI 0022, write strobes, narrow transfers and unaligned transfers).
 use Rattle.std.specs.Prelude.{ℕ, ◌+◌, ◌-◌, ◌%◌, ◌==◌, if◌then◌else◌, List, [], ◌∷◌, ◌++◌, Option, Some, None, map, slice_index}
 use Rattle.std.proofs.Common.{zero, suc}
 use Rattle.std.specs.List.{range_with_len}
@@ -35,7 +36,7 @@ abbrev pub strobed_bytes : ℕ → Addr → ℕ → List WBeat → List (Option 
 strobed_bytes bus a n [] = []
 strobed_bytes bus a n (w ∷ ws) = map (strobed_byte bus w) (beat_bytes a n) ++ strobed_bytes bus a (suc n) ws
 
--- the bytes that are written, each with its value: those that are strobed
+-- the bytes that are written, each with its value: those addresses whose value is there, which are the strobed ones
 abbrev pub written : List ℕ → List (Option ℕ) → List (ℕ × ℕ)
 written [] values = []
 written (address ∷ addresses) [] = []

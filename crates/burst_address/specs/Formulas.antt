@@ -10,8 +10,7 @@ use Rattle.axi_beats.specs.declared.beat.Burst.TheVariants.{Fixed, Incr, Wrap}
 abbrev pub aligned : ℕ → ℕ → ℕ
 aligned size address = address / size * size
 
--- beat 0 of an INCR burst is at the start, and the others are one size apart from the aligned start
--- on
+-- beat 0 of an INCR burst is at the start, and each beat n after it is n sizes above the aligned start
 abbrev pub incr_address : ℕ → ℕ → ℕ → ℕ
 incr_address size start zero = start
 incr_address size start (suc n) = aligned size start + suc n * size
@@ -28,13 +27,13 @@ wrap_address size beats start n =
     then incr_address size start n
     else incr_address size start n - size * beats
 
--- every beat of a FIXED burst is at the start
+-- the address of beat n, by the kind of the burst; every beat of a FIXED burst is at the start
 abbrev pub address_of : Burst → ℕ → ℕ → ℕ → ℕ → ℕ
 address_of Fixed size beats start n = start
 address_of Incr size beats start n = incr_address size start n
 address_of Wrap size beats start n = wrap_address size beats start n
 
--- the number of bytes in a beat, at most
+-- the number of bytes in a beat, of which one at an unaligned address has fewer valid
 abbrev pub size_of : Addr → ℕ
 size_of a = 2 ^ a.size
 

@@ -1,4 +1,4 @@
--- What holds of every legal burst.
+-- What holds of bursts (Arm IHI 0022, burst address structure). Where a law needs it, it asks that the burst is legal.
 use Rattle.std.specs.Prelude.{◌≡◌, ℕ, ◌+◌, ◌-◌, ◌*◌, ◌/◌, ◌%◌, ◌^◌, ◌<◌, ◌≤◌, ◌++◌, [], ◌∷◌, List, All, length}
 use Rattle.std.specs.Int.{bit_at}
 use Rattle.std.specs.List.{range_with_len}
@@ -67,7 +67,7 @@ WrapVisitsOnce =
 abbrev pub FixedRepeats : Type 0
 FixedRepeats = (a : Addr) (n : ℕ) → a.burst ≡ Fixed → beat_bytes a n ≡ beat_bytes a 0
 
--- one more W beat writes its own bytes after those of the beats before it
+-- one more W beat writes its own bytes after those of the beats before it, where the burst has a beat left for it
 abbrev pub WritesBeatByBeat : Type 0
 WritesBeatByBeat =
     (bus : ℕ) (a : Addr) (ws : List WBeat) (w : WBeat) → length ws < beats_of a →

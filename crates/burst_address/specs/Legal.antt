@@ -1,5 +1,5 @@
--- Which bursts are legal (Arm IHI 0022, burst length, burst size and burst type): four rules, of
--- which the first that is broken counts.
+-- Which bursts are legal (Arm IHI 0022, burst length, burst size, burst type and address structure):
+-- four rules, of which the first that is broken counts.
 use Rattle.std.specs.Prelude.{◌≡◌, ℕ, ◌+◌, ◌-◌, ◌*◌, ◌/◌, ◌%◌, ◌==◌, ◌||◌, Bool, true, not, if◌then◌else◌, nat_lt, Option, Some, None}
 use Rattle.axi_beats.specs.declared.beat.Addr.{Addr}
 use Rattle.axi_beats.specs.declared.beat.Burst.{Burst}
@@ -12,13 +12,14 @@ use Rattle.burst_address.specs.Formulas.{aligned, size_of, beats_of}
 abbrev pub is_too_wide : Addr → ℕ → Bool
 is_too_wide a bus = nat_lt bus (size_of a)
 
--- the numbers of beats: INCR 1 to 256, FIXED 1 to 16, WRAP 2, 4, 8 or 16
+-- the numbers of beats: INCR 1 to 256, FIXED 1 to 16, WRAP 2, 4, 8 or 16; a request has at least one beat, so that
+-- the 1 isn't asked
 abbrev pub is_length_of : Burst → ℕ → Bool
 is_length_of Fixed beats = nat_lt beats 17
 is_length_of Incr beats = nat_lt beats 257
 is_length_of Wrap beats = beats == 2 || beats == 4 || beats == 8 || beats == 16
 
--- a WRAP burst starts at a multiple of its size
+-- a WRAP burst starts at a multiple of its beats' size
 abbrev pub is_start_of : Burst → ℕ → ℕ → Bool
 is_start_of Fixed size start = true
 is_start_of Incr size start = true
@@ -28,7 +29,8 @@ is_start_of Wrap size start = start % size == 0
 abbrev pub page : ℕ → ℕ
 page address = address / 4096
 
--- an INCR burst has its first and its last byte in one page
+-- an INCR burst has its first and its last byte in one page; the other kinds, where they keep the rules before this
+-- one, stay in one aligned block of at most 2048 bytes
 abbrev pub is_in_page : Burst → ℕ → ℕ → ℕ → Bool
 is_in_page Fixed size beats start = true
 is_in_page Incr size beats start = page start == page (aligned size start + beats * size - 1)

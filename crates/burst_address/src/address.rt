@@ -1,4 +1,4 @@
-//! The address of each beat, and its valid lanes.
+//! The address of each beat, and its valid lanes. (Arm IHI 0022, burst address structure.)
 ghost use Rattle.std.specs.Prelude.{◌≡◌, ◌+◌, ◌*◌, ◌/◌, ◌%◌, ◌^◌, ◌<◌, ◌≤◌};
 ghost use Rattle.axi_beats.specs.Bus.{IsBusWidth};
 ghost use Rattle.burst_address.specs.Formulas.{aligned, incr_address, wrap_address, size_of, beats_of, beat_at, lower_lane, upper_lane};
@@ -6,7 +6,8 @@ ghost use Rattle.burst_address.specs.Legal.{IsLegal};
 
 use axi_beats::{Addr, Burst};
 
-/// The address of beat `n`, counted from 0, of a burst that is legal on the widest bus.
+/// The address of beat `n`, counted from 0, of a burst that is legal on the widest bus and starts
+/// below 2^63, as all its beats then do.
 pub fn beat_address(a: &Addr, n: u32) -> u64
     requires beat { n ≤ a.now.len }
     requires start { a.now.addr < 2 ^ 63 }
@@ -22,7 +23,7 @@ pub fn beat_address(a: &Addr, n: u32) -> u64
 }
 
 /// The lowest and the highest valid lane of beat `n`, counted from 0, on a bus of `bus` bytes, on
-/// which the burst is legal.
+/// which the burst is legal. The burst starts below 2^63.
 pub fn lanes(a: &Addr, n: u32, bus: u8) -> (u8, u8)
     requires beat { n ≤ a.now.len }
     requires start { a.now.addr < 2 ^ 63 }
@@ -36,7 +37,7 @@ pub fn lanes(a: &Addr, n: u32, bus: u8) -> (u8, u8)
     (lane(address, bus), lane(last, bus))
 }
 
-/// The lane of a byte on a bus of `bus` bytes.
+/// The lane of a byte on a bus of `bus` bytes. The width is a power of two, so a mask is the remainder.
 fn lane(address: u64, bus: u8) -> u8
     requires { IsBusWidth bus }
     ensures { result ≡ address % bus }
@@ -44,7 +45,7 @@ fn lane(address: u64, bus: u8) -> u8
     (address & u64::from(bus - 1)) as u8
 }
 
-/// The number of bytes of a beat.
+/// The number of bytes of a beat, from AxSIZE.
 #[tactic(auto, using(crate::proofs::Numbers::exponent_below))]
 pub(crate) fn beat_size(size: u8) -> u64
     requires { 2 ^ size ≤ 128 }
@@ -54,7 +55,7 @@ pub(crate) fn beat_size(size: u8) -> u64
     1 << size
 }
 
-/// The address rounded down to a multiple of a beat's bytes.
+/// The address rounded down to a multiple of `2 ^ size`, the bytes of a beat.
 #[tactic(auto, using(crate::proofs::Numbers::exponent_below))]
 pub(crate) fn aligned_address(address: u64, size: u8) -> u64
     requires { 2 ^ size ≤ 128 }
@@ -63,6 +64,7 @@ pub(crate) fn aligned_address(address: u64, size: u8) -> u64
     address >> size << size
 }
 
+/// The address of beat `n` of an INCR burst.
 fn ascending(a: &Addr, n: u32) -> u64
     requires beat { n ≤ a.now.len }
     requires start { a.now.addr < 2 ^ 63 }
@@ -76,6 +78,7 @@ fn ascending(a: &Addr, n: u32) -> u64
     }
 }
 
+/// The address of beat `n` of a WRAP burst, which lies in a block of all the burst's bytes.
 fn wrapping(a: &Addr, n: u32) -> u64
     requires beat { n ≤ a.now.len }
     requires start { a.now.addr < 2 ^ 63 }

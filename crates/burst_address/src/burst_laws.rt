@@ -1,7 +1,7 @@
-//! What holds of every legal burst.
+//! What holds of bursts. Where a law needs it, it asks that the burst is legal.
 ghost use Rattle.burst_address.specs.Laws.{LegalOnWider, OnePage, BelowLimit, OneLine, ValidCount, LanesFollow, IncrAscends, WrapVisitsOnce, FixedRepeats, StrobesBelow, WritesBeatByBeat};
 
-/// The laws of legal bursts and their bytes.
+/// The laws of bursts and their bytes. Each is told in plain words in `specs/Laws.antt`.
 pub fn laws()
     ensures wider { LegalOnWider }
 

@@ -1,7 +1,7 @@
 //! Bursts: which are legal, where their beats lie, and which lanes of a beat hold valid bytes.
 //!
-//! `specs/` has the formulas of the standard, and the bytes of a burst as one list. (Arm IHI 0022,
-//! burst address structure.)
+//! `specs/` has the formulas of the standard, the bytes of a burst as one list, and the laws that
+//! [`laws`] promises. (Arm IHI 0022, burst address structure.)
 #![tactic(auto)]
 
 pub use address::{beat_address, lanes};

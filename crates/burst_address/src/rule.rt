@@ -1,4 +1,4 @@
-//! Which bursts are legal.
+//! Which bursts are legal. (Arm IHI 0022, burst length, burst size, burst type, address structure.)
 ghost use Rattle.std.specs.Prelude.{◌≡◌, ◌↔◌, ◌+◌, ◌*◌, ◌^◌, ◌<◌, ◌≤◌, not, IsOk, IfErr, Some};
 ghost use Rattle.axi_beats.specs.Bus.{IsBusWidth};
 ghost use Rattle.burst_address.specs.Formulas.{aligned, size_of, beats_of};
@@ -7,7 +7,7 @@ ghost use Rattle.burst_address.specs.Legal.{is_too_wide, is_length_of, is_start_
 use crate::address::{aligned_address, beat_size};
 use axi_beats::{Addr, Burst};
 
-/// A rule of the standard that a burst breaks.
+/// A rule of the standard that a burst breaks. The order counts: the first broken one is told.
 #[derive(Clone, Copy, Debug, PartialEq, Eq)]
 pub enum BurstRule {
     /// A beat is wider than the bus.
@@ -44,6 +44,7 @@ pub fn legal(a: &Addr, bus: u8) -> Result<(), BurstRule>
     }
 }
 
+/// Whether a beat has more bytes than the bus. A great size is told first, so that the shift fits.
 #[tactic(auto, using(crate::proofs::Numbers::power_above))]
 fn too_wide(a: &Addr, bus: u8) -> bool
     requires { bus ≤ 128 }
@@ -52,6 +53,7 @@ fn too_wide(a: &Addr, bus: u8) -> bool
     a.size > 7 || 1 << a.size > bus
 }
 
+/// Whether the kind allows as many beats. AxLEN can't say more than the 256 that INCR allows.
 fn length_allowed(a: &Addr) -> bool
     ensures { result ≡ is_length_of a.now.burst (beats_of a.now) }
 {
@@ -62,6 +64,7 @@ fn length_allowed(a: &Addr) -> bool
     }
 }
 
+/// Whether the burst may start where it does: of a WRAP burst the start is aligned to its beats' size.
 fn start_allowed(a: &Addr) -> bool
     requires { size_of a.now ≤ 128 }
     ensures { result ≡ is_start_of a.now.burst (size_of a.now) a.now.addr }
@@ -72,7 +75,9 @@ fn start_allowed(a: &Addr) -> bool
     }
 }
 
-// The page's offset is compared, since the end of the burst may lie beyond the highest address.
+/// Whether the burst touches one page alone. Only INCR is asked: a FIXED or WRAP burst that keeps the
+/// rules before this one lies in one aligned block of at most 2048 bytes. The page's offset is
+/// compared, since the end of the burst may lie beyond the highest address.
 fn in_page(a: &Addr) -> bool
     requires { size_of a.now ≤ 128 }
     ensures { result ≡ is_in_page a.now.burst (size_of a.now) (beats_of a.now) a.now.addr }

@@ -4,6 +4,7 @@ use Rattle.std.proofs.lemmas.Bool.{ne_eqb, lt-ltb, le-ltb, cases_lt, cases_eq}
 use Rattle.std.proofs.lemmas.List.{append-nil}
 use Rattle.flight.specs.Entries.{of_key, count_of, without_oldest, left_after, Request, held_after, held}
 
+-- the request with this key that stands at this place
 abbrev pub request_at : ℕ → ℕ → Request
 request_at place key = record { place = place; key = key }
 

@@ -1,4 +1,5 @@
--- What holds of lists of entries under keys, whatever a node does with them.
+-- What holds of lists of entries under keys, whatever a node does with them (Arm IHI 0022, ordering model). In the
+-- laws on the entries of a key, plain numbers stand for the entries, under any key.
 use Rattle.std.specs.Prelude.{◌≡◌, ◌≢◌, ℕ, ◌≤◌, List, [], ◌∷◌, ◌++◌, Some, None, length, map, drop, remove}
 use Rattle.flight.specs.Entries.{place_of, of_key, count_of, without_oldest, left_after, held}
 

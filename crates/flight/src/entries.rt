@@ -9,12 +9,13 @@ use std::marker::{Model, Send, Sync};
 pub trait Filed: Copy + Default {
     ghost key_of: { Self → ℕ };
 
-    /// The key, as the ID of the request that waits.
+    /// The key, for example the ID of the request that waits.
     fn key(&self) -> u32
         ensures { result ≡ key_of self.now };
 }
 
-/// At most 16 entries in order of issue.
+/// At most 16 entries in order of issue, so that the first one is the oldest. They stand in the value
+/// itself, so no call takes memory.
 #[derive(Drop)]
 pub struct Flight<T: Filed> {
     entries: ArrayVec<T, 16>,
@@ -63,7 +64,7 @@ impl<T: Filed> Flight<T> {
         self.entries.is_full()
     }
 
-    /// The entry at `place`, counted from 0 at the oldest.
+    /// The entry at `place`, counted from 0 at the oldest and below the number of entries.
     pub fn get(&self, place: usize) -> &T
         requires { place < length self.now }
         ensures { slice_get self.now place ≡ Some result.now }
@@ -81,7 +82,7 @@ impl<T: Filed> Flight<T> {
         self.entries.as_mut_slice()[place] = entry;
     }
 
-    /// Adds `entry` as the newest.
+    /// Adds `entry` as the newest. There is room: fewer than 16 entries wait.
     pub fn push(&mut self, entry: T)
         requires { length self.old < 16 }
         ensures { self.new ≡ self.old ++ entry ∷ [] }
@@ -103,7 +104,7 @@ impl<T: Filed> Flight<T> {
         None
     }
 
-    /// Takes the entry at `place` out, and closes up.
+    /// Takes the entry at `place` out. The newer ones move up by one place.
     pub fn take(&mut self, place: usize) -> T
         requires { place < length self.old }
         ensures entry { slice_get self.old place ≡ Some result }
@@ -113,6 +114,7 @@ impl<T: Filed> Flight<T> {
     }
 }
 
+// A call of this is refused where the type may not go to another thread.
 fn crosses<T: Send + Sync>(_value: &T) {}
 
 /// A list of entries may be sent to another thread and lent to one.

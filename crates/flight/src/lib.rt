@@ -1,7 +1,8 @@
-//! A bounded list of requests that wait for their answers, oldest first.
+//! A list of at most 16 requests that wait for their answers, oldest first.
 //!
-//! Every node files what it has passed on under a key, as the ID of a request, and looks for the oldest
-//! entry of a key where an answer comes back. A clause sees the list as the list of its entries.
+//! A node files what it has passed on under a key, the ID of the request for example, and looks for
+//! the oldest entry of a key where an answer comes back. A clause sees the list as the list of its
+//! entries. (Arm IHI 0022, ordering model.)
 #![tactic(auto)]
 
 pub use entries::{Filed, Flight, crosses_threads};
