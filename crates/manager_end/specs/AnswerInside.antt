@@ -1,8 +1,9 @@
--- How an answer is kept.
+-- How an answer is kept: in lists as long as what is due, of which the first elements have come.
 use Rattle.std.specs.Prelude.{◌≤◌, ◌<◌, ◌^◌, length, take}
 use Rattle.manager_end.specs.Answer.{AnswerView}
 use Rattle.manager_end.specs.declared.answer.Answer.TheInside.{Inside}
 
+-- what contracts see of it
 abbrev pub answer_view : Inside → AnswerView
 answer_view a = record {
   issued = a.issued;
@@ -13,6 +14,7 @@ answer_view a = record {
   due_bytes = length a.bytes.items;
 }
 
+-- no more has come than is due, and the responses can be counted in 32 bits
 pub record IsAnswer (a : Inside) : Type 0 where
   pub came : a.came ≤ length a.resps.items
   pub read : a.read ≤ length a.bytes.items

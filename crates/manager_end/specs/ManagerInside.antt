@@ -1,4 +1,4 @@
--- How a manager is kept.
+-- How a manager is kept: what contracts see of its fields, and what holds of them.
 use Rattle.std.specs.Prelude.{◌≡◌, ◌≤◌, ◌+◌, ◌==◌, ℕ, true, Option, Some, None, IfSome, length, map, slice_get, if◌then◌else◌}
 use Rattle.axi_link.specs.Acted.{Acted}
 use Rattle.axi_link.specs.declared.out.Out.{Out}
@@ -8,6 +8,7 @@ use Rattle.manager_end.specs.Script.{ScriptItem}
 use Rattle.manager_end.specs.declared.manager.Manager.TheInside.{Inside}
 use Rattle.manager_end.specs.declared.sending.Sending.{Sending}
 
+-- the state that contracts see
 abbrev pub manager_state : Inside → ManagerState
 manager_state m = record {
   script = m.script;
@@ -23,6 +24,7 @@ manager_state m = record {
   answers = m.answers;
 }
 
+-- and with it the moves of the round
 abbrev pub manager_view : Inside → Acted ManagerState
 manager_view m = record { state = manager_state m; out = m.out }
 
@@ -48,6 +50,8 @@ pub record IsAbove (out : Out) : Type 0 where
   pub ar_take : out.ar_take ≡ None
   pub r_put : out.r_put ≡ None
 
+-- The state is that of a manager, each direction has the places of its transactions, the data place stands within the
+-- next write, and nothing is put or taken that is not for a manager.
 pub record IsManagerInside (m : Inside) : Type 0 where
   pub state : IsManager (manager_state m)
   pub write_places : m.writes.places.items ≡ map (λ p. p.0) (writes_of m.script)

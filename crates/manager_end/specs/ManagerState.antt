@@ -1,4 +1,4 @@
--- What a manager keeps.
+-- A manager as contracts see it between rounds: its state, and what holds of it.
 use Rattle.std.specs.Prelude.{◌≡◌, ◌≢◌, ◌↔◌, ◌==◌, ◌<◌, ◌≤◌, ◌+◌, ◌++◌, ◌∷◌, [], ℕ, List, Bool, true, false, Option, Some, None, All, IfSome, length, map, drop, filter, count_by, not, nat_lt, slice_get, slice_index_or, if◌then◌else◌}
 use Rattle.std.specs.List.{enumerate_from}
 use Rattle.axi_beats.specs.Bus.{IsBusWidth}
@@ -10,9 +10,9 @@ use Rattle.manager_end.specs.Script.{ScriptItem, IsScript}
 use Rattle.manager_end.specs.declared.entry.Entry.{Entry}
 use Rattle.manager_end.specs.declared.script.Txn.{Txn}
 
--- The script, the link below and the width of the bus; how many of the script's writes and reads are issued, of how
--- many writes the data is wholly sent, and how many data beats of the next one; the transactions that wait for their answers; how many are answered, and
--- what is noted of each.
+-- The script, the number of the link below and the bytes of its bus; how many of the script's writes and reads are
+-- issued, of how many writes all data is sent, and how many data beats of the next one; the transactions that wait for
+-- their answers, in order of issue; how many are answered, and what is noted of each.
 pub record ManagerState : Type 0 where
   pub script : List ScriptItem
   pub lower : ℕ
@@ -35,6 +35,7 @@ is_directed false txn = not txn.write
 abbrev pub of_direction : Bool → List ScriptItem → List (ℕ × ScriptItem)
 of_direction write script = filter (λ (p : ℕ × ScriptItem). is_directed write p.1.txn) (enumerate_from 0 script)
 
+-- the writes of a script, and its reads
 abbrev pub writes_of : List ScriptItem → List (ℕ × ScriptItem)
 writes_of script = of_direction true script
 
@@ -53,7 +54,7 @@ due_bytes txn = if txn.write then 0 else length (burst_bytes txn.request)
 abbrev pub bytes_by : Txn → ℕ → ℕ
 bytes_by txn beats = if txn.write then 0 else length (bytes_before txn.request beats)
 
--- nothing is issued
+-- a manager that has issued nothing
 abbrev pub new_manager : List ScriptItem → ℕ → ℕ → ManagerState
 new_manager script lower bus = record {
   script = script;
@@ -73,11 +74,12 @@ new_manager script lower bus = record {
 abbrev pub is_answered : AnswerView → Bool
 is_answered a = nat_lt 0 a.answered
 
--- the answer to the transaction at a place of the script, where it has come
+-- what is noted, where the answer has come
 abbrev pub answered_one : Option AnswerView → Option AnswerView
 answered_one None = None
 answered_one (Some a) = if is_answered a then Some a else None
 
+-- the answer to the transaction at a place of the script, where it has come
 abbrev pub answer_of : ManagerState → ℕ → Option AnswerView
 answer_of s place = answered_one (slice_get s.answers place)
 

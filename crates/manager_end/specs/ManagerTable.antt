@@ -24,7 +24,7 @@ abbrev pub ready : ℕ → Option (ℕ × ScriptItem) → Option (ℕ × ScriptI
 ready answered None = None
 ready answered (Some next) = passing (nat_le next.1.txn.after answered) (Some next)
 
--- another transaction can wait for its answer
+-- another transaction of the direction can wait for its answer: at most 16 do
 abbrev pub fits : List Entry → Bool
 fits entries = nat_lt (length entries) 16
 
@@ -98,7 +98,7 @@ abbrev pub note_write : ℕ → Option (Entry × BBeat) → List AnswerView → 
 note_write round None answers = answers
 note_write round (Some answer) answers = noted answer.0.place (answered_in round answer.1.resp []) answers
 
--- the next beat of a read: its response, and the bytes of its valid lanes
+-- what is noted of a read with its next beat: the response, and the bytes of the valid lanes
 abbrev pub read_in : ℕ → ℕ → Option ScriptItem → RBeat → AnswerView → AnswerView
 read_in round bus None beat a = a
 read_in round bus (Some item) beat a = answered_in round beat.resp (valid_lanes bus item.txn.request (length a.resps) beat.lanes) a
@@ -145,6 +145,6 @@ manager_out links s = record {
   r_put = None;
 }
 
--- what the manager does in a round
+-- what the manager does in a round: its next state, and its takes and puts
 abbrev pub manager_table : ℕ → List LinkView → ManagerState → Acted ManagerState
 manager_table round links s = record { state = manager_next round links s; out = manager_out links s }

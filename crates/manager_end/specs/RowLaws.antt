@@ -10,9 +10,10 @@ use Rattle.manager_end.specs.ManagerState.{ManagerState, reads_of, writes_of}
 use Rattle.manager_end.specs.ManagerTable.{below, fits, manager_out}
 use Rattle.manager_end.specs.Script.{ScriptItem}
 
+-- what a manager does in a round, row by row
 pub record DoesItsRows (links : List LinkView) (s : ManagerState) : Type 0 where
-  -- it issues its next write, and its next read, where as many answers have come as that one waits for, one more request
-  -- of its direction fits, and there is room for the address
+  -- it issues its next write, and its next read, where as many answers have come as that one waits for, one more
+  -- request of its direction fits, and there is room for the address
   pub write_address :
       (next : ℕ × ScriptItem) → slice_get (writes_of s.script) s.issued_writes ≡ Some next → next.1.txn.after ≤ s.answered → fits s.write_entries ≡ true →
       has_room (below links s).depth (below links s).aw ≡ true → (manager_out links s).aw_put ≡ Some (s.lower, request_of next.1)

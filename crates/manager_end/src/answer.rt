@@ -1,4 +1,5 @@
-//! `Answer`, seen in clauses as what came for a transaction, and what is due.
+//! `Answer`, seen in clauses as what came for a transaction, and what is due. (Arm IHI 0022, read and
+//! write response structure.)
 
 ghost use Rattle.std.specs.Prelude.{◌≡◌, ◌<◌, ◌≤◌, ◌^◌, ◌+◌, ◌-◌, ◌++◌, [], drop, length, take};
 ghost use Rattle.std.specs.Prelude.{slice_get, Some, IfOk};
@@ -55,21 +56,23 @@ impl Answer {
         })
     }
 
-    /// The round in which the request was put.
+    /// The round in which the request was put, counted from 1; 0 where it isn't put yet.
     pub fn issued(&self) -> u64
         ensures { result ≡ self.now.issued }
     {
         self.issued
     }
 
-    /// The round in which the last beat of the answer was taken.
+    /// The round in which the last beat of the answer was taken, counted from 1; 0 where it isn't
+    /// taken yet.
     pub fn answered(&self) -> u64
         ensures { result ≡ self.now.answered }
     {
         self.answered
     }
 
-    /// The number of responses: one for a write, one a beat for a read.
+    /// The number of responses that came: of a whole answer one for a write, and one for each beat of
+    /// a read.
     pub fn beats(&self) -> u32
         ensures { result ≡ length self.now.resps }
     {
@@ -84,8 +87,8 @@ impl Answer {
         self.resps[n as usize]
     }
 
-    /// The bytes that were read: those of the valid lanes of each beat, beat by beat and lowest lane
-    /// first; empty for a write.
+    /// The bytes that were read so far: those of the valid lanes of each beat, beat by beat and lowest
+    /// lane first; empty for a write.
     pub fn bytes(&self) -> &[u8]
         ensures { result.now ≡ self.now.bytes }
     {

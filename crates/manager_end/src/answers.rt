@@ -53,7 +53,7 @@ impl Answers {
         Ok(Answers { items })
     }
 
-    /// The answer at `place`, which is below the length.
+    /// The answer to the transaction at `place` of the script, counted from 0.
     pub(crate) fn get(&self, place: usize) -> &Answer
         requires { place < length self.now }
         ensures { slice_get self.now place ≡ Some result.now }
@@ -61,7 +61,7 @@ impl Answers {
         &self.items[place]
     }
 
-    /// Notes the round of an issue.
+    /// Notes the round of the issue of the transaction at `place`.
     pub(crate) fn note_issue(&mut self, place: u32, round: u64)
         requires { place < length self.old }
         ensures { self.new ≡ noted place (issued_in round) self.old }
@@ -114,7 +114,7 @@ fn due_resps(txn: &Txn) -> usize
     }
 }
 
-/// How many bytes a write reads, which is none, or a read with this request.
+/// How many bytes a transaction with this request reads; a write reads none.
 fn due_bytes(write: bool, request: &Addr) -> usize
     requires start { request.now.addr < 2 ^ 63 }
     requires legal { IsLegal request.now 128 }

@@ -1,4 +1,4 @@
-//! The beats that a manager puts, in place in its `Out`.
+//! The beats that a manager puts, in place in its `Out`. (Arm IHI 0022, write strobes.)
 
 ghost use Rattle.std.specs.Prelude.{◌≡◌, ◌<◌, ◌≤◌, ◌+◌, ◌-◌, ◌*◌, ◌^◌, All, IfSome, Some};
 ghost use Rattle.std.specs.Prelude.{drop, length, slice_get, take};

@@ -1,4 +1,4 @@
-//! How many bytes a burst has.
+//! How many bytes a burst has. (Arm IHI 0022, burst address structure.)
 
 ghost use Rattle.std.specs.Prelude.{◌≡◌, ◌<◌, ◌≤◌, ◌^◌, length};
 ghost use Rattle.burst_address.specs.Bytes.{beat_bytes, burst_bytes};
@@ -7,7 +7,8 @@ ghost use Rattle.burst_address.specs.Legal.{IsLegal};
 use axi_beats::Addr;
 use burst_address::lanes;
 
-/// The number of valid bytes of beat `n` of a burst that is legal on the widest bus.
+/// The number of valid bytes of beat `n`, counted from 0, of a burst that is legal on the widest
+/// bus. It is the same on each bus on which the burst is legal.
 pub fn beat_count(request: &Addr, n: u32) -> usize
     requires beat { n ≤ request.now.len }
     requires start { request.now.addr < 2 ^ 63 }

@@ -45,7 +45,7 @@ impl Direction {
     }
 
     /// The place of the next transaction, where as many are answered as it waits for, another one
-    /// can wait for its answer, and there is room on the link.
+    /// can wait for its answer, and there is room on the link; else None.
     pub(crate) fn next(&self, script: &Script, answered: u32, room: bool) -> Option<u32>
         requires { All (λ place. place < length script.now) self.now.places.items }
         ensures next { placed script.now result ≡ passing (fits self.now.entries && room)
@@ -65,8 +65,8 @@ impl Direction {
         }
     }
 
-    /// The place of the oldest write that is issued and whose data isn't sent, where there is room
-    /// on the link. The data of the first `sent` writes is sent.
+    /// The place of the oldest write that is issued and whose data isn't all sent, where there is
+    /// room on the link; else None. All data of the first `sent` writes is sent.
     pub(crate) fn next_data(&self, sent: usize, room: bool) -> Option<u32>
         ensures { result ≡ passing (nat_lt sent self.now.issued && room)
             (slice_get self.now.places.items sent) }

@@ -7,6 +7,7 @@ use flight::Filed;
 pub struct Entry {
     /// Its place in the script, from 0.
     pub place: u32,
+    /// The ID of its request, by which its answer finds it.
     pub id: u32,
 }
 

@@ -1,4 +1,4 @@
-//! `Manager`, seen in clauses as its state and its moves.
+//! `Manager`, seen in clauses as its state and its takes and puts of the round.
 
 ghost use Rattle.std.specs.Prelude.{◌≡◌, ◌<◌, ◌+◌, ◌∷◌, [], All, IfOk, IfSome, IsSome, length, true};
 ghost use Rattle.std.specs.Prelude.{false, is_some, slice_index_or, vec_len};
@@ -24,15 +24,17 @@ use axi_link::{Link, Out, link_at, set_take};
 use std::alloc::Global;
 use std::marker::{Model, Send, Sync};
 
-/// A manager on the link below it.
+/// A manager at the upper end of a link.
 #[derive(Drop)]
 pub struct Manager {
     script: Script,
+    // The number of the link below it, and the bytes of that link's bus.
     lower: u32,
     bus: u8,
     writes: Direction,
     reads: Direction,
     sending: Sending,
+    // How many transactions are answered, so that no round has to count them.
     answered: u32,
     answers: Answers,
     out: Out,
@@ -53,8 +55,9 @@ impl Model for Manager {
 
 impl Manager {
     /// A manager with nothing issued: its script, all of whose bursts are legal on its bus, the
-    /// number of the link below it and the bytes of its bus. All memory for the answers is taken
-    /// here.
+    /// number of the link below it and the bytes of its bus (4, 8, 16, 32, 64 or 128). Delays aren't
+    /// there yet: `accept` and `give` are the one delay 0. All memory for the answers is taken here;
+    /// `NoMemory` where there isn't enough.
     pub fn new(
         alloc: Global,
         script: Script,
@@ -117,8 +120,8 @@ impl Manager {
         self.answered == self.script.len()
     }
 
-    /// Does what the decision table says for this round, which counts from 1: takes and puts go to
-    /// `out`, and no memory is taken.
+    /// Does what the decision table says for this round: takes and puts go to `out`, and no memory
+    /// is taken. Rounds count from 1, and the manager's link is among the links.
     pub fn decide(&mut self, round: u64, links: &[Link])
         requires { CanManager round links.now self.old.state }
         ensures { self.new ≡ manager_table round links.now self.old.state }

@@ -13,6 +13,7 @@ use std::marker::Model;
 /// A byte that a write names: its value, and whether it is written.
 #[derive(Clone, Copy, Debug, PartialEq, Eq, Default)]
 pub struct WriteByte {
+    /// The value to write; a byte without a strobe is sent as 0.
     pub value: u8,
     /// Whether the byte's strobe is set; a byte without one stays as it is in the memory.
     pub strobed: bool,
@@ -27,7 +28,8 @@ pub struct Txn {
     pub write: bool,
     /// The request, whose tag is not used.
     pub request: Addr,
-    /// How many of the script's first transactions are answered before this one is issued.
+    /// How many of the script's first transactions are answered before this one is issued: all that
+    /// stand before it, or as many as the one before it waits for.
     pub after: u32,
 }
 
@@ -70,7 +72,8 @@ impl Script {
     }
 
     /// Adds a transaction with its bytes: for a write those of the valid lanes of its beats, beat by
-    /// beat and lowest lane first, and none for a read. The script is unchanged where there is no memory.
+    /// beat and lowest lane first, and none for a read. Its burst is legal on the widest bus and
+    /// starts below 2^63. The script is unchanged where there is no memory.
     pub fn push(&mut self, txn: Txn, bytes: &[WriteByte]) -> Result<(), NoMemory>
         requires { CanPush self.old txn bytes.now }
         ensures ok { OnOk result

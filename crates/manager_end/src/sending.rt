@@ -1,4 +1,4 @@
-//! How far the data of the writes is sent.
+//! How far the data of the writes is sent: beat by beat, in the order in which they are issued.
 
 ghost use Rattle.std.specs.Prelude.{◌≡◌, ◌<◌, ◌^◌, IfSome, length};
 ghost use Rattle.manager_end.specs.ManagerInside.{IsWithin, sent_after};

@@ -37,6 +37,7 @@ lane_count request beat bus = upper_lane (size_of request) bus (beat_address req
 abbrev pub valid_lanes : Addr → ℕ → ℕ → List ℕ
 valid_lanes request beat bus = range_with_len (first_lane request beat bus) (lane_count request beat bus)
 
+-- the lane is a valid one of the beat
 abbrev pub is_valid : Addr → ℕ → ℕ → ℕ → Bool
 is_valid request beat bus lane =
     nat_le (first_lane request beat bus) lane && nat_lt lane (first_lane request beat bus + lane_count request beat bus)

@@ -71,7 +71,7 @@ abbrev pub all_written_bytes : MemoryConfig → Addr → ℕ → List WBeat → 
 all_written_bytes config a n [] = []
 all_written_bytes config a n (w ∷ ws) = written_bytes config a n w ++ all_written_bytes config a (suc n) ws
 
--- are those of the burst that lie in the memory, in burst order, where each strobes valid lanes alone
+-- they are those of the burst that lie in the memory, in burst order, where each beat strobes valid lanes alone
 abbrev pub WritesBurstBytes : Type 0
 WritesBurstBytes =
     (config : MemoryConfig) (a : Addr) (ws : List WBeat) → IsMemoryConfig config → IsLegal a config.bus →

@@ -1,9 +1,10 @@
--- How a memory keeps its state, and what it never does.
+-- How a memory is kept: what contracts see of its fields, and what holds of them.
 use Rattle.std.specs.Prelude.{◌≡◌, None}
 use Rattle.axi_link.specs.Acted.{Acted}
 use Rattle.memory_end.specs.MemoryState.{MemoryState, IsMemory}
 use Rattle.memory_end.specs.declared.memory.Memory.TheInside.{Inside}
 
+-- the state that contracts see
 abbrev pub memory_state : Inside → MemoryState
 memory_state m = record {
   config = m.config;
@@ -13,10 +14,11 @@ memory_state m = record {
   store = m.store;
 }
 
+-- and with it the moves of the round
 abbrev pub memory_view : Inside → Acted MemoryState
 memory_view m = record { state = memory_state m; out = m.out }
 
--- it puts no request and no write data, and takes no answer
+-- the state is that of a memory, which puts no request and no write data, and takes no answer
 pub record IsMemoryInside (m : Inside) : Type 0 where
   pub state : IsMemory (memory_state m)
   pub aw_put : m.out.aw_put ≡ None

@@ -1,4 +1,4 @@
--- A memory as contracts see it between rounds.
+-- A memory as contracts see it between rounds: its state, and what holds of it.
 use Rattle.std.specs.Prelude.{◌≡◌, ◌<◌, ◌≤◌, ◌%◌, ◌+◌, ◌^◌, ℕ, List, [], Option, Some, None, IsTrue, All, Contains, if◌then◌else◌}
 use Rattle.axi_beats.specs.declared.beat.Addr.{Addr}
 use Rattle.axi_beats.specs.Bus.{IsBusWidth}
@@ -32,7 +32,7 @@ new_memory config upper touched = record {
 abbrev pub memory_byte : MemoryState → ℕ → Option ℕ
 memory_byte state address = if is_inside state.config address then Some (byte_at state.store address) else None
 
--- the range of a memory: whole pages of 4096 bytes, below 2 ^ 63
+-- the arguments of a memory: a bus of a width that there is, and whole pages of 4096 bytes that end at 2 ^ 63 or below
 pub record IsMemoryConfig (config : MemoryConfig) : Type 0 where
   pub bus : IsBusWidth config.bus
   pub base : config.base % 4096 ≡ 0
@@ -61,6 +61,7 @@ pub record IsReadEntry (config : MemoryConfig) (entry : ReadEntry) : Type 0 wher
   pub request : IsRequest config.bus entry.request
   pub put : entry.put ≤ entry.request.len
 
+-- what holds of a memory between rounds
 pub record IsMemory (state : MemoryState) : Type 0 where
   pub config : IsMemoryConfig state.config
   pub store : IsStore state.store

@@ -22,7 +22,7 @@ use Rattle.memory_end.specs.Store.{Store}
 abbrev pub memory_link : List LinkView → MemoryState → LinkView
 memory_link links state = link_of links state.upper
 
--- fewer than 16 requests wait
+-- one more request of the direction fits: at most 16 are open
 abbrev pub fits : {X : Type 0} → List X → Bool
 fits entries = nat_lt (length entries) 16
 
@@ -43,7 +43,7 @@ lacking_place (entry ∷ entries) = if lacks_data entry then Some 0 else option_
 abbrev pub answer_to : WriteEntry → BBeat
 answer_to entry = record { id = entry.request.id; resp = entry.worst; tag = entry.request.tag }
 
--- the next beat of the answer to a read, from these bytes
+-- the next beat of the answer to a read, from the bytes of this store
 abbrev pub next_beat : MemoryConfig → Store → ReadEntry → RBeat
 next_beat config store entry = record {
   id = entry.request.id;
@@ -116,7 +116,7 @@ abbrev pub after_aw : Option Addr → List WriteEntry → List WriteEntry
 after_aw None entries = entries
 after_aw (Some request) entries = entries ++ record { request = request; taken = 0; worst = Okay } ∷ []
 
--- R: the oldest read has one beat more, or leaves with its last one
+-- R: the oldest read has one more beat put, or leaves with its last one
 abbrev pub after_r : Option RBeat → List ReadEntry → List ReadEntry
 after_r None entries = entries
 after_r (Some beat) [] = []
@@ -128,7 +128,7 @@ abbrev pub after_ar : Option Addr → List ReadEntry → List ReadEntry
 after_ar None entries = entries
 after_ar (Some request) entries = entries ++ record { request = request; put = 0 } ∷ []
 
--- the beat of a write is in the store
+-- the store with the bytes of a write's data beat
 abbrev pub store_with : MemoryConfig → Option WriteEntry → WBeat → Store → Store
 store_with config None w store = store
 store_with config (Some entry) w store = all_written store (written_bytes config entry.request entry.taken w)
@@ -163,6 +163,7 @@ memory_out links state = record {
   r_put = put_of state.upper (memory_r links state);
 }
 
+-- what the memory does in a round: its next state, and its takes and puts
 abbrev pub memory_table : List LinkView → MemoryState → Acted MemoryState
 memory_table links state = record { state = memory_next links state; out = memory_out links state }
 

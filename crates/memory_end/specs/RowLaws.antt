@@ -9,6 +9,7 @@ use Rattle.memory_end.specs.MemoryTable.{answer_to, fits, lacks_data, memory_lin
 use Rattle.memory_end.specs.declared.entry.ReadEntry.{ReadEntry}
 use Rattle.memory_end.specs.declared.entry.WriteEntry.{WriteEntry}
 
+-- what a memory does in a round, row by row
 pub record DoesItsRows (links : List LinkView) (state : MemoryState) : Type 0 where
   -- it takes an address where one more request of its direction fits
   pub write_address : (request : Addr) → head_of (memory_link links state).aw ≡ Some request → fits state.write_entries ≡ true → (memory_out links state).aw_take ≡ Some state.upper

@@ -6,15 +6,15 @@ use Rattle.axi_beats.specs.declared.response.Resp.{Resp}
 use Rattle.axi_beats.specs.declared.response.Resp.TheVariants.{Okay, SlvErr, DecErr}
 use Rattle.memory_end.specs.declared.config.MemoryConfig.{MemoryConfig}
 
--- an address of the memory
+-- the address is one of the memory
 abbrev pub is_inside : MemoryConfig → ℕ → Bool
 is_inside config address = nat_le config.base address && nat_lt address (config.base + config.size)
 
--- a byte that is written: outside the memory there is none
+-- the status of a byte that is written: DECERR outside the memory, where there is none
 abbrev pub write_status : MemoryConfig → ℕ → Resp
 write_status config address = if is_inside config address then Okay else DecErr
 
--- a byte that is read
+-- the status of a byte that is read
 abbrev pub read_status : MemoryConfig → ℕ → Resp
 read_status config address = if is_inside config address then Okay else DecErr
 
@@ -23,6 +23,7 @@ abbrev pub worst_among : List Resp → Resp
 worst_among [] = Okay
 worst_among (r ∷ rs) = worst_of r (worst_among rs)
 
+-- a byte of this status may be written or read
 abbrev pub is_okay : Resp → Bool
 is_okay Okay = true
 is_okay SlvErr = false

@@ -9,6 +9,7 @@ pub record Store : Type 0 where
   pub bytes : List ℕ
   pub fill : ℕ
 
+-- the lines ascend, and each has its 128 bytes
 pub record IsStore (store : Store) : Type 0 where
   pub ascending : AllPairs (λ a b. a < b) store.lines
   pub whole : length store.bytes ≡ 128 * length store.lines

@@ -34,6 +34,7 @@ abbrev pub tracked : MemoryConfig → List Addr → List WBeat → List WriteEnt
 tracked config [] beats = []
 tracked config (a ∷ addresses) beats = with_data_so_far config a (take (suc a.len) beats) ∷ tracked config addresses (drop (suc a.len) beats)
 
+-- how many beats of its burst come after the first one
 abbrev pub len_of_address : Addr → ℕ
 len_of_address a = a.len
 

@@ -1,4 +1,5 @@
-//! The bytes of single beats: what a W beat writes and what an R beat answers.
+//! The bytes of single beats: what a W beat writes and what an R beat answers. (Arm IHI 0022, data
+//! read and write structure.)
 
 ghost use Rattle.std.specs.Prelude.{◌≡◌, ◌*◌, ◌/◌, ◌<◌, ◌≤◌, ◌^◌};
 ghost use Rattle.axi_beats.specs.Bus.{IsBusWidth};
@@ -11,7 +12,7 @@ use crate::entry::{ReadEntry, WriteEntry};
 use crate::store::ByteStore;
 use axi_beats::{Addr, Lanes, Resp, WBeat};
 
-/// Whether an address lies in the memory.
+/// Whether a byte address lies in the memory.
 pub fn is_inside(config: &MemoryConfig, address: u64) -> bool
     requires { IsMemoryConfig config.now }
     ensures { result ≡ is_inside config.now address }
@@ -53,7 +54,8 @@ pub fn write_beat(
 )
     requires config { IsMemoryConfig config.now }
     requires address { address ≡ beat_address entry.now.request entry.now.taken }
-    ensures { store.new ≡ all_written store.old (written_bytes config.now entry.now.request entry.now.taken beat.now) }
+    ensures { store.new ≡ all_written store.old
+        (written_bytes config.now entry.now.request entry.now.taken beat.now) }
 {
     if is_inside(config, address) {
         let bus = u64::from(config.bus);
@@ -74,7 +76,8 @@ pub fn strobed_status(config: &MemoryConfig, entry: &WriteEntry, address: u64, b
     status(config, address)
 }
 
-/// The lanes of the next beat of a read, which is at this address.
+/// The lanes of the next beat of a read, which is at this address: 0 on those that aren't valid, and
+/// on all where the address is outside the memory.
 pub fn read_lanes(
     store: &ByteStore,
     config: &MemoryConfig,

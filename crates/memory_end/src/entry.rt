@@ -3,8 +3,8 @@
 use axi_beats::{Addr, Resp};
 use flight::Filed;
 
-/// A write: its request, how many of its data beats are taken, and the worst status among the bytes
-/// that they strobe.
+/// A write: its request, how many of its data beats are taken (0 to 256), and the worst status among
+/// the bytes that they strobe.
 #[derive(Clone, Copy, Default)]
 pub struct WriteEntry {
     pub request: Addr,
@@ -20,7 +20,8 @@ impl Filed for WriteEntry {
     }
 }
 
-/// A read: its request, and how many of its data beats are put.
+/// A read: its request, and how many of its data beats are put (0 to 255: with its last one it
+/// leaves).
 #[derive(Clone, Copy, Default)]
 pub struct ReadEntry {
     pub request: Addr,

@@ -22,7 +22,9 @@ use std::marker::{Model, Send, Sync};
 #[derive(Drop)]
 pub struct Memory {
     config: MemoryConfig,
+    // The number of the link above it.
     upper: u32,
+    // The requests that are taken and not answered, the oldest ones first.
     write_entries: Flight<WriteEntry>,
     read_entries: Flight<ReadEntry>,
     store: ByteStore,
@@ -43,11 +45,11 @@ impl Model for Memory {
 }
 
 impl Memory {
-    /// A memory below link `upper` that nothing has asked yet, whose bytes all have the fill value.
-    /// `touched` are the numbers of the 128-byte lines that may be written, ascending: the addresses
-    /// divided by 128. Parts that can't be written or can't be read and delays aren't there yet:
-    /// `read_only` and `hole` are empty, and `accept` and `give` are the one delay 0. All memory is
-    /// taken here.
+    /// A memory below link `upper` that nothing has asked yet, whose range isn't empty and whose
+    /// bytes all have the fill value. `touched` are the numbers of the 128-byte lines that may be
+    /// written, ascending: the addresses divided by 128. Parts that can't be written or can't be read
+    /// and delays aren't there yet: `read_only` and `hole` are empty, and `accept` and `give` are the
+    /// one delay 0. All memory is taken here; `NoMemory` where there isn't enough.
     pub fn new(
         alloc: Global,
         config: MemoryConfig,

@@ -1,6 +1,9 @@
 //! What holds of a memory's definitions.
 
-ghost use Rattle.memory_end.specs.BurstBytes.{BeatsAreInLines, DueReadsAreOfParts, DueWritesAreOfParts, LanesAreBytes, LinesAreOfBurst, ReadsBurstBytes, StatusOfBurstBytes, StatusOfWrittenBytes, WritesBeatBytes, WritesBurstBytes};
+ghost use Rattle.memory_end.specs.BurstBytes.{BeatsAreInLines, DueReadsAreOfParts, DueWritesAreOfParts};
+ghost use Rattle.memory_end.specs.BurstBytes.{LanesAreBytes, LinesAreOfBurst, ReadsBurstBytes};
+ghost use Rattle.memory_end.specs.BurstBytes.{StatusOfBurstBytes, StatusOfWrittenBytes, WritesBeatBytes};
+ghost use Rattle.memory_end.specs.BurstBytes.{WritesBurstBytes};
 ghost use Rattle.memory_end.specs.Laws.{KeepsArguments, MovesAlwaysFit, NewIsMemory, StaysMemory};
 ghost use Rattle.memory_end.specs.RowLaws.{RowsAreDone};
 ghost use Rattle.memory_end.specs.Store.{ReadsOthers, ReadsWritten};

@@ -1,4 +1,5 @@
-//! The read channels of a memory in one round: AR and R.
+//! The read channels of a memory in one round: AR and R. Reads are answered one after the other, in
+//! the order of their addresses. (Arm IHI 0022, relationships between the channels.)
 
 ghost use Rattle.std.specs.Prelude.{◌≡◌, ◌<◌, ◌+◌, All, IsTrue, is_some, length, option_copied};
 ghost use Rattle.axi_link.specs.Table.{passing, put_of, take_of};

@@ -1,6 +1,7 @@
 //! `ByteStore`, seen in clauses as the kept lines, their bytes and the fill value.
 
-ghost use Rattle.std.specs.Prelude.{◌≡◌, ◌<◌, ◌≤◌, ◌+◌, ◌%◌, ◌^◌, length, map, fold, slice_index, slice_set, nat_lt, if◌then◌else◌, AllPairs, IfOk, IfSome};
+ghost use Rattle.std.specs.Prelude.{◌≡◌, ◌<◌, ◌≤◌, ◌+◌, ◌%◌, ◌^◌, length, map, fold};
+ghost use Rattle.std.specs.Prelude.{slice_index, slice_set, nat_lt, if◌then◌else◌, AllPairs, IfOk, IfSome};
 ghost use Rattle.std.specs.List.{range_with_len};
 ghost use Rattle.flight.specs.Entries.{place_of};
 ghost use Rattle.memory_end.specs.Beats.{is_strobed, strobed_lanes, bytes_on, all_written};
@@ -13,6 +14,7 @@ use std::marker::Model;
 /// The bytes of the lines that a run may write, and the value of all others.
 #[derive(Drop)]
 pub struct ByteStore {
+    // The numbers of the lines, ascending, and 128 bytes for each of them in this order.
     lines: Vec<u64>,
     bytes: Vec<u8>,
     fill: u8,
@@ -31,7 +33,8 @@ impl Model for ByteStore {
 }
 
 impl ByteStore {
-    /// A store that keeps these lines of 128 bytes, whose numbers ascend, and has written none.
+    /// A store that keeps these lines of 128 bytes, whose numbers ascend, and has written none: all
+    /// bytes have the fill value.
     pub fn new(alloc: Global, touched: &[u64], fill: u8) -> Result<ByteStore, NoMemory>
         requires { AllPairs (λ a b. a < b) touched.now }
         ensures { IfOk result (λ store. store ≡ new_store touched.now fill) }
@@ -114,7 +117,9 @@ pub fn is_strobed(beat: &WBeat, lane: u8) -> bool
 fn write_lanes(bytes: &mut [u8], first: usize, bus: u8, beat: &WBeat)
     requires lanes { bus ≤ 128 }
     requires bytes { first + bus ≤ length bytes.old }
-    ensures { bytes.new ≡ fold (λ written lane. slice_set written (first + lane) (slice_index beat.now.lanes lane)) bytes.old (strobed_lanes bus beat.now) }
+    ensures { bytes.new ≡ fold
+        (λ written lane. slice_set written (first + lane) (slice_index beat.now.lanes lane))
+        bytes.old (strobed_lanes bus beat.now) }
 {
     for lane in 0..bus {
         if is_strobed(beat, lane) {

@@ -31,7 +31,8 @@ fn lines() -> [u64; 32]
 fn page(alloc: Global, bus: u8, lines: &[u64]) -> Result<Memory, NoMemory>
     requires bus { IsBusWidth bus }
     requires ascending { AllPairs (λ a b. a < b) lines.now }
-    ensures { IfOk result (λ memory. HasSameArguments (new_memory (record { base = 4096; size = 4096; bus = bus; fill = 165 }) 0 lines.now) memory.state) }
+    ensures { IfOk result (λ memory. HasSameArguments
+        (new_memory (record { base = 4096; size = 4096; bus = bus; fill = 165 }) 0 lines.now) memory.state) }
 {
     let config = MemoryConfig {
         base: 0x1000,
@@ -132,8 +133,10 @@ fn step(
 ) -> Result<(), NoMemory>
     requires bus { IsBusWidth bus }
     requires lines { (line : ℕ) → 32 ≤ line → line < 64 → Contains lines.now line }
-    requires memory { HasSameArguments (new_memory (record { base = 4096; size = 4096; bus = bus; fill = 165 }) 0 lines.now) memory.old.state }
-    ensures { HasSameArguments (new_memory (record { base = 4096; size = 4096; bus = bus; fill = 165 }) 0 lines.now) memory.new.state }
+    requires memory { HasSameArguments
+        (new_memory (record { base = 4096; size = 4096; bus = bus; fill = 165 }) 0 lines.now) memory.old.state }
+    ensures { HasSameArguments
+        (new_memory (record { base = 4096; size = 4096; bus = bus; fill = 165 }) 0 lines.now) memory.new.state }
 {
     check_request(rt, aw, bus);
     check_strobe(rt, w, bus);
@@ -155,8 +158,10 @@ fn write(
 ) -> Result<Option<Resp>, NoMemory>
     requires bus { IsBusWidth bus }
     requires lines { (line : ℕ) → 32 ≤ line → line < 64 → Contains lines.now line }
-    requires memory { HasSameArguments (new_memory (record { base = 4096; size = 4096; bus = bus; fill = 165 }) 0 lines.now) memory.old.state }
-    ensures { HasSameArguments (new_memory (record { base = 4096; size = 4096; bus = bus; fill = 165 }) 0 lines.now) memory.new.state }
+    requires memory { HasSameArguments
+        (new_memory (record { base = 4096; size = 4096; bus = bus; fill = 165 }) 0 lines.now) memory.old.state }
+    ensures { HasSameArguments
+        (new_memory (record { base = 4096; size = 4096; bus = bus; fill = 165 }) 0 lines.now) memory.new.state }
 {
     step(rt, alloc, memory, bus, lines, Some(request), None, None)?;
     for beat in beats {
@@ -178,8 +183,10 @@ fn read(
 ) -> Result<Vec<RBeat>, NoMemory>
     requires bus { IsBusWidth bus }
     requires lines { (line : ℕ) → 32 ≤ line → line < 64 → Contains lines.now line }
-    requires memory { HasSameArguments (new_memory (record { base = 4096; size = 4096; bus = bus; fill = 165 }) 0 lines.now) memory.old.state }
-    ensures { HasSameArguments (new_memory (record { base = 4096; size = 4096; bus = bus; fill = 165 }) 0 lines.now) memory.new.state }
+    requires memory { HasSameArguments
+        (new_memory (record { base = 4096; size = 4096; bus = bus; fill = 165 }) 0 lines.now) memory.old.state }
+    ensures { HasSameArguments
+        (new_memory (record { base = 4096; size = 4096; bus = bus; fill = 165 }) 0 lines.now) memory.new.state }
 {
     step(rt, alloc, memory, bus, lines, None, None, Some(request))?;
     let mut beats = Vec::new(alloc);

@@ -11,13 +11,15 @@ use std::marker::{Send, Sync};
 /// A node of the kinds that there are.
 #[derive(Drop)]
 pub enum Node {
+    /// At the upper end of a link, where it asks.
     Manager(Manager),
+    /// At the lower end of a link, where it answers.
     Memory(Memory),
 }
 
 impl Node {
-    /// Phase one of round `round` at this node: it looks at the links as they stand, changes its
-    /// own state and sets its own moves, by the table of its kind.
+    /// Phase one of round `round`, counted from 1, at this node: it looks at the links as they stand,
+    /// changes its own state and sets its own moves, by the table of its kind.
     pub fn decide(&mut self, round: u64, links: &[Link])
         requires { CanNode round links.now self.old }
         ensures { self.new ≡ node_table round links.now self.old }
@@ -28,7 +30,7 @@ impl Node {
         }
     }
 
-    /// The moves that the node chose when it decided last.
+    /// The moves that the node chose when it decided last; none before the first round.
     pub fn out(&self) -> &Out
         ensures { result.now ≡ node_out self.now }
     {
@@ -38,7 +40,8 @@ impl Node {
         }
     }
 
-    /// Whether the node waits for no answer: every transaction of a manager is answered.
+    /// Whether the node waits for no answer: each transaction of a manager is answered, and a memory
+    /// never waits for one.
     pub fn done(&self) -> bool
         ensures { result ≡ node_done self.now }
     {

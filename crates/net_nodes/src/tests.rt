@@ -39,7 +39,8 @@ fn lines() -> [u64; 32]
 fn page(alloc: Global, bus: u8, lines: &[u64]) -> Result<Memory, NoMemory>
     requires bus { IsBusWidth bus }
     requires ascending { AllPairs (λ a b. a < b) lines.now }
-    ensures { IfOk result (λ memory. HasSameArguments (new_memory (record { base = 4096; size = 4096; bus = bus; fill = 165 }) 0 lines.now) memory.state) }
+    ensures { IfOk result (λ memory. HasSameArguments
+        (new_memory (record { base = 4096; size = 4096; bus = bus; fill = 165 }) 0 lines.now) memory.state) }
 {
     let config = MemoryConfig {
         base: 0x1000,
@@ -272,8 +273,8 @@ fn check_bytes(rt: &impl Abort, memory: &Memory, addr: u64, want: &[u8]) {
 }
 
 /// On a bus of 16 bytes: beats of 4 bytes are written at 0x100d, 0x1010 and 0x1014, on lanes 13 to
-/// 15, 0 to 3 and 4 to 7. Then whole words are read at 0x1009 and 0x1010, and beats of 2 bytes that
-/// wrap at 0x1018: at 0x1012, 0x1014, 0x1016 and 0x1010.
+/// 15, 0 to 3 and 4 to 7. Then beats of 16 bytes are read at 0x1009 and 0x1010, and beats of 2
+/// bytes that wrap at 0x1018: at 0x1012, 0x1014, 0x1016 and 0x1010.
 #[test]
 fn narrow_beats_are_written_and_read_on_16_lanes(rt: HostRuntime) -> Result<(), Fail> {
     let alloc = rt.alloc();
