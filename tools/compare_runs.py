@@ -19,7 +19,7 @@ import sys
 TOP = os.path.dirname(os.path.dirname(os.path.abspath(__file__)))
 PROGRAM = os.path.join(TOP, 'crates', 'axinet', 'out', 'axinet')
 NETWORK = open(os.path.join(TOP, 'tools', 'built_in.toml'), 'rb').read()
-# The other simulator reads the newer form of TOML, as the program does, where it is told to.
+# The other simulator reads the newer form of TOML where it is told to.
 ENVIRONMENT = dict(os.environ, AXINET_TOML='1.1')
 BUS = 4
 MEMORY = 8192

@@ -1,4 +1,4 @@
--- What the program writes: the line of a refusal, and the lines of a run.
+-- What the program writes: the line of a refusal, the line of a verdict on a trace, and the lines of a run.
 use Rattle.std.specs.Prelude.{ℕ, ◌==◌, ◌||◌, Bool, List, [], ◌++◌, if◌then◌else◌, codes}
 use Rattle.std.specs.List.{flat_map, zip}
 use Rattle.std.specs.Fmt.{decimal}

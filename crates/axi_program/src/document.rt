@@ -33,8 +33,8 @@ pub enum DocumentFault {
 /// # Errors
 ///
 /// Of the causes for which the input is refused the first one: it is no text, it has no line `%%`,
-/// that line isn't its first one, or a line of its traffic is refused or all of them. Memory is wanting
-/// only where it isn't refused.
+/// the first such line isn't its first line, or its traffic is refused, by one line or for its size.
+/// Memory is wanting only where it isn't refused.
 pub fn read_document(alloc: Global, input: &[u8]) -> Result<Script, DocumentFault>
     requires { length input.now ≤ INPUT_LIMIT }
     ensures accepted { IfOk result (λ _. refusal_of input.now ≡ None) }
@@ -57,7 +57,8 @@ fn traffic_text(input: &[u8]) -> Result<&str, Refusal>
     requires { length input.now ≤ INPUT_LIMIT }
     ensures lines { IfOk result (λ text. lines text.now ≡ traffic_lines input.now) }
     ensures short { IfOk result (λ text. length text.now ≤ length input.now) }
-    ensures reached { IfOk result (λ _. refusal_of input.now ≡ option_and_then traffic_refusal (fault_of (traffic_lines input.now))) }
+    ensures reached { IfOk result (λ _.
+        refusal_of input.now ≡ option_and_then traffic_refusal (fault_of (traffic_lines input.now))) }
     ensures refused { IfErr result (λ refusal. refusal_of input.now ≡ Some refusal) }
 {
     let text = match str::from_utf8(input) {

@@ -1,12 +1,12 @@
-//! What the program's top call sees of the world, and what it answers.
+//! The whole program but its `main`: the top call `axinet`, what it sees of the world, and what it answers.
 //!
 //! `outside` has the source that the input comes from, the sink that the text goes to, and the gate that the parts
-//! of a phase pass, each with what it promises and with the implementations that stand in memory and over the
-//! runtime's streams; two never fail. `status` has the answers of the top call.
+//! of a phase pass, each with what it promises. Sources and sinks stand in memory and over the runtime's streams, and
+//! one of each never fails. `status` has the answers of the top call.
 //!
-//! `words` has the commands. `document` reads a document, and `script` its traffic lines to the manager's script;
-//! `run` runs it, with the lines of its `trace` where they are asked for. `check` judges a trace. `texts` writes what
-//! the program says, and `refuse` the line of a refusal. `top` is the call that puts them together.
+//! `words` has the commands. `document` reads the input of `run`, and `script` its traffic lines to the manager's
+//! script; `run` runs it, with the lines of its `trace` where they are asked for. `check` judges a trace. `texts`
+//! makes the lines that the program says, and `refuse` writes that of a refusal. `top` puts them together.
 #![tactic(auto)]
 
 mod check;

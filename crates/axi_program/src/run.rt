@@ -125,8 +125,10 @@ fn write_answers<K: Sink>(
 ) -> Result<(), Failed>
     requires notes { AreNotes manager.now.state }
     requires done { is_done manager.now.state ≡ true }
-    ensures ok { OnOk result (Appends (K.written sink.old) (K.written sink.new) (answer_lines manager.now.state.script manager.now.state.answers)) }
-    ensures err { OnErr result (AppendsPrefix (K.written sink.old) (K.written sink.new) (answer_lines manager.now.state.script manager.now.state.answers)) }
+    ensures ok { OnOk result (Appends (K.written sink.old) (K.written sink.new)
+        (answer_lines manager.now.state.script manager.now.state.answers)) }
+    ensures err { OnErr result (AppendsPrefix (K.written sink.old) (K.written sink.new)
+        (answer_lines manager.now.state.script manager.now.state.answers)) }
     ensures cause { HasCause (K.faults sink.old) (K.faults sink.new) result }
 {
     for place in 0..manager.script().len() {

@@ -15,7 +15,7 @@ use traffic::{ManagerPort, Traffic, TrafficFault, read_traffic};
 /// The name of the built-in manager.
 pub const MANAGER: &str = "m";
 
-/// The script that the lines of the text give the manager.
+/// The script that the lines of the text, which stand behind `%%`, give the manager.
 ///
 /// # Errors
 ///

@@ -10,11 +10,12 @@ use trace_check::PortFault;
 /// Why an input is refused.
 #[derive(Debug, Clone, Copy, PartialEq, Eq)]
 pub struct Refusal {
-    /// The number of the cause, from 1.
+    /// The number of the cause: one of the codes below.
     pub code: u8,
-    /// The number of the node or of the line that it is found at, or 0 where none is named.
+    /// The number of the line that it is found at, from 1, or 0 where none is named. Traffic lines are
+    /// counted after the line `%%`, trace lines from the start.
     pub place: u32,
-    /// The broken rule of the traffic line, or 0 where the cause has no rules.
+    /// The first broken rule of the traffic line's burst, 1 to 4, or 0 where the cause is another one.
     pub rule: u8,
 }
 
@@ -162,7 +163,7 @@ impl Refusal {
     }
 }
 
-// The number of a rule that a burst can break.
+// The number of a rule that a burst can break (Arm IHI 0022, burst size, burst length, burst type).
 fn rule_number(rule: BurstRule) -> u8
     ensures { result ≡ rule_number rule }
 {
@@ -191,7 +192,8 @@ pub enum Status {
     WriteFault,
     /// Memory was wanting. Nothing was written.
     NoMemory,
-    /// The rounds of the bound have passed and a transaction is unanswered.
+    /// The rounds of the bound have passed and a transaction is unanswered. The trace was written, where
+    /// one is asked for, and nothing else.
     Unfinished,
 }
 

@@ -1,4 +1,4 @@
-//! The line of a refusal, the line on a trace, and the last line of a run.
+//! The line of a refusal, the line of a verdict on a trace, and the last line of a run.
 //!
 //! Each call replaces the bytes of a line buffer by one line with its line feed, and takes no memory.
 
@@ -125,7 +125,7 @@ pub fn render_broken(line: &mut LineBuffer, fault: &PortFault)
     line.push(b"\n");
 }
 
-// The name of a channel.
+// The name of a channel: 1 AW, 2 W, 3 B, 4 AR, 5 R.
 fn channel_name(channel: u8) -> &'static str
     ensures name { result.now ≡ channel_name channel }
     ensures short { length result.now ≤ 2 }

@@ -25,7 +25,9 @@ use std::alloc::Global;
 /// program's name and `check`: then the source holds a trace, whose ports are judged. The gate is
 /// for the parts of a phase, which are done one after the other today.
 ///
-/// The order of causes: the words, reading, the refusals in their order, memory, writing.
+/// The order of causes: the words, reading, the refusals in their order, memory, writing. Of the
+/// refusals of a document the codes 1, 2, 3 and 23 come first, and then 17 to 21; of those of a trace
+/// 1, 2, 22 and 23.
 pub fn axinet<S: Source, K: Sink, G: Gate>(
     alloc: Global,
     words: &[String],
@@ -38,13 +40,14 @@ pub fn axinet<S: Source, K: Sink, G: Gate>(
     ensures usage_only { result ≡ Status.Usage → command_by (map string_bytes words.now) ≡ None }
 
     // What each status says: which cause it had, and what was written.
-    ensures tells { Tells (command_by (map string_bytes words.now)) S.left S.faults K.written K.faults source.old source.new sink.old sink.new result }
+    ensures tells { Tells (command_by (map string_bytes words.now)) S.left S.faults K.written K.faults
+        source.old source.new sink.old sink.new result }
     ensures reads_whole { ReadsWhole S.left source.old source.new result }
 
-    // The run of a document that isn't refused is right, after any number of rounds: each byte that
-    // may be accessed is accessed once, in burst order, at the subordinate that the address names;
-    // each transaction is answered with that subordinate's bytes and the defined response, in order;
-    // and every port keeps the rules of AXI4.
+    // The run of a document that isn't refused is right, after any number of rounds: the bytes that
+    // may be accessed are accessed at the memory from the first on, each once, in burst order, and all
+    // of them where their transaction is answered; it is answered at most once, with the bytes that
+    // were read and the defined response, in order; and every port keeps the rules of AXI4.
     ensures right { result ≢ Status.NoMemory → result ≢ Status.ReadFault →
         IfSome (command_by (map string_bytes words.now)) (λ asked. IfSome (S.left source.old) (IsRightRun asked)) }
 

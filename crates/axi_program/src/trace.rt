@@ -45,8 +45,10 @@ pub fn run_traced<K: Sink>(
 /// Writes the lines of the round in which the nodes have decided.
 fn write_round<K: Sink>(net: &Net, line: &mut LineBuffer, sink: &mut K) -> Result<(), Failed>
     requires { net.now.decided ≡ true }
-    ensures ok { OnOk result (Appends (K.written sink.old) (K.written sink.new) (round_lines (net.now.rounds + 1) net.now.network)) }
-    ensures err { OnErr result (AppendsPrefix (K.written sink.old) (K.written sink.new) (round_lines (net.now.rounds + 1) net.now.network)) }
+    ensures ok { OnOk result (Appends (K.written sink.old) (K.written sink.new)
+        (round_lines (net.now.rounds + 1) net.now.network)) }
+    ensures err { OnErr result (AppendsPrefix (K.written sink.old) (K.written sink.new)
+        (round_lines (net.now.rounds + 1) net.now.network)) }
     ensures cause { HasCause (K.faults sink.old) (K.faults sink.new) result }
 {
     for number in 0..net.links() {

@@ -18,6 +18,7 @@ use Rattle.net_nodes.specs.declared.node.Node.{Node}
 use Rattle.net_nodes.specs.declared.node.Node.TheVariants.{Manager, Memory}
 use Rattle.net_rounds.specs.Network.{Network}
 
+-- the memory
 abbrev pub ram : MemoryConfig
 ram = record { base = 0; size = 8192; bus = 4; fill = 0 }
 
@@ -57,8 +58,8 @@ pub record IsTraffic (script : List ScriptItem) : Type 0 where
 abbrev pub effort : Addr → ℕ
 effort request = beats_of request * max 1 (size_of request / 4)
 
--- the rounds in which the built-in network answers everything: 6 for each unit of effort and each
--- node on the path, of which there are two
+-- the most rounds of a run: 6 for each unit of effort and each node on the path, of which there are
+-- two; they are meant to be enough for all answers, which isn't proved
 abbrev pub bound : List ScriptItem → ℕ
 bound script = sum_by (λ (item : ScriptItem). 6 * effort item.txn.request * 2) script
 

@@ -9,14 +9,14 @@ use Rattle.net_rounds.specs.Due.{IsNumberedTraffic}
 use Rattle.net_rounds.specs.History.{answers_of, events_after, issues_of}
 use Rattle.net_rounds.specs.Network.{after_rounds}
 
--- the bytes 11 22 33 44 to address 10 with ID 1
+-- the bytes 11 22 33 44 to address 0x10 with ID 1
 abbrev pub known_write : ScriptItem
 known_write = record {
   txn = record { number = 1; write = true; request = record { id = 1; addr = 0x10; len = 0; size = 2; burst = Incr; tag = record { txn = 0; low = 0; high = 0 } }; after = 0 };
   bytes = record { value = 0x11; strobed = true } ∷ record { value = 0x22; strobed = true } ∷ record { value = 0x33; strobed = true } ∷ record { value = 0x44; strobed = true } ∷ [];
 }
 
--- and the word at address 10 with ID 2, once one transaction is answered
+-- and the word at address 0x10 with ID 2, once one transaction is answered
 abbrev pub known_read : ScriptItem
 known_read = record {
   txn = record { number = 2; write = false; request = record { id = 2; addr = 0x10; len = 0; size = 2; burst = Incr; tag = record { txn = 0; low = 0; high = 0 } }; after = 1 };

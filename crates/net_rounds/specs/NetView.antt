@@ -24,4 +24,5 @@ pub record IsNet (v : NetView) : Type 0 where
   -- there is a number for the round that was begun
   pub begun : v.decided ≡ true → v.rounds < 2 ^ 63 - 1
   pub bounded : v.most ≡ bound (script_of (first_manager v.network.nodes))
+  -- so each round of a run has a number
   pub little : v.most < 2 ^ 62

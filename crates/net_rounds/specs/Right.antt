@@ -1,4 +1,5 @@
--- A run is right: what was asked was done, once and in order, and answered with the right bytes.
+-- A run is right: what was asked was done, once and in order, and answered with the right bytes (Arm IHI 0022, ordering
+-- model).
 use Rattle.std.specs.Prelude.{ℕ, List}
 use Rattle.axi_history.specs.Answered.{Answered}
 use Rattle.axi_history.specs.Delivered.{Delivered}

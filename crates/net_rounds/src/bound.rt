@@ -7,8 +7,8 @@ ghost use Rattle.net_rounds.specs.BuiltIn.{IsTraffic, bound, effort as effort_of
 use axi_beats::Addr;
 use manager_end::Script;
 
-/// The rounds in which the built-in network answers everything: 6 for each unit of effort and each
-/// of the two nodes on the path.
+/// The most rounds of a run of this script: 6 for each unit of effort and each of the two nodes on
+/// the path. They are meant to be enough for all answers, which isn't proved.
 pub(crate) fn bound_of(script: &Script) -> u64
     requires { IsTraffic script.now }
     ensures { result ≡ bound script.now }

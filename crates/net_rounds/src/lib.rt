@@ -1,4 +1,5 @@
-//! The rounds of a network.
+//! The rounds of a network, and the laws of the runs of the built-in one: a manager over a memory,
+//! with one link between them.
 //!
 //! In phase one of a round every node decides on the links as they stand; in phase two every link
 //! makes the moves that its two nodes chose. [`Net`] stands where its rounds lead from the opening

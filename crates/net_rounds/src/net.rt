@@ -1,4 +1,6 @@
-//! `Net`, seen in clauses as the network as it stands, the rounds that led there, whether the nodes
+//! A network that runs, round by round and as a whole.
+//!
+//! A clause sees `Net` as the network as it stands, the rounds that led there, whether the nodes
 //! have decided in the next one, and the most rounds of a run.
 
 ghost use Rattle.std.specs.Prelude.{◌≡◌, ◌<◌, ◌+◌, ◌-◌, ◌^◌, [], ◌∷◌, IfOk, Some, true, false, length};
@@ -33,7 +35,7 @@ const DEPTH: u8 = 2;
 /// The number of its link.
 const LINK: u32 = 0;
 
-/// What each of its links is.
+/// The kind of port that each of its links shows: AXI4, with this bus.
 const KIND: PortKind = PortKind {
     lite: false,
     bus: BUS,
@@ -64,9 +66,14 @@ impl Model for Net {
 
 impl Net {
     /// The built-in network with the transactions of `script`, before its first round.
+    ///
+    /// # Errors
+    ///
+    /// Memory is wanting. No later call takes any.
     pub fn build(alloc: Global, script: Script) -> Result<Net, NoMemory>
         requires { IsTraffic script }
-        ensures { IfOk result (λ net. net ≡ record { network = built_in script; rounds = 0; decided = false; most = bound script }) }
+        ensures { IfOk result (λ net.
+            net ≡ record { network = built_in script; rounds = 0; decided = false; most = bound script }) }
     {
         let most = bound_of(&script);
         let touched = touched_lines(alloc, &script)?;
@@ -96,7 +103,7 @@ impl Net {
         self.rounds
     }
 
-    /// The most rounds of a run.
+    /// The most rounds of a run, by its script.
     pub fn bound(&self) -> u64
         ensures most { result ≡ self.now.most }
         ensures little { result < 2 ^ 62 }
@@ -143,8 +150,8 @@ impl Net {
         self.decided = true;
     }
 
-    /// What is seen of link `number` in the round in which the nodes have decided: the beats that
-    /// its channels offer, and which of them are taken.
+    /// What is seen of link `number`, from 0, in the round in which the nodes have decided: the beats
+    /// that its channels offer, and which of them are taken. (Arm IHI 0022, handshake process.)
     pub fn port(&self, number: u32) -> PortRound
         requires decided { self.now.decided ≡ true }
         requires known { number < length self.now.network.links }
@@ -163,7 +170,7 @@ impl Net {
         )
     }
 
-    /// The links.
+    /// How many links there are.
     pub fn links(&self) -> u32
         ensures { result ≡ length self.now.network.links }
     {

@@ -9,7 +9,7 @@ use crate::ends::Ends;
 use axi_link::Link;
 use net_nodes::Node;
 
-/// Phase one of round `round`: each node decides, on the links as they stand.
+/// Phase one of round `round`, from 1: each node decides, on the links as they stand.
 #[tactic(auto, using(std::proofs::lemmas::List::Edits::map_over_more))]
 pub fn decide_each(nodes: &mut [Node], round: u64, links: &[Link])
     requires { All (CanNode round links.now) nodes.old }

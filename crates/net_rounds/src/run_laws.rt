@@ -11,17 +11,18 @@ pub fn runs_are_least()
     ensures { RunsAreLeast }
 {}
 
-/// A run of the built-in network is right after every number of rounds. The memory accessed each byte
-/// that is due of a transaction once, in burst order, and a read saw what the latest write before it
-/// wrote. Each transaction was answered at most once, after its accesses, which came after its issue;
-/// with its response and the bytes that were read. Transactions of one ID and direction kept their
-/// order, and each waited for what it was to wait for. (Section "Ordering model".)
+/// A run of the built-in network is right after every number of rounds. The memory accessed the bytes
+/// that are due of a transaction from the first on, each once, in burst order, and all of them where it
+/// is answered; a read saw what the latest write before it wrote, else 0. Each transaction was answered
+/// at most once, after its accesses, which came after its issue; with its response and the bytes that
+/// were read. Transactions of one ID and direction kept their order, and each waited for what it was to
+/// wait for. (Arm IHI 0022, ordering model.)
 pub fn runs_are_right()
     ensures { RunsAreRight }
 {}
 
 /// The port of the built-in network's link breaks none of the rules of an AXI4 port, after any number
-/// of rounds of any run.
+/// of rounds of any run. (Arm IHI 0022, handshake process, and the sections of the single rules.)
 pub fn ports_are_legal()
     ensures { PortsAreLegal }
 {}

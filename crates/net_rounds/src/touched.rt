@@ -1,4 +1,5 @@
-//! The lines of the memory that a script may write.
+//! The lines of the memory that a script may write: the memory takes its room for them when it is
+//! built, so that no write takes memory.
 
 ghost use Rattle.std.specs.Prelude.{◌≡◌, ◌<◌, ◌^◌, ◌||◌, ℕ, IfOk, false, slice_index_or};
 ghost use Rattle.std.specs.List.{list_any};
@@ -14,7 +15,12 @@ use std::alloc::{AllocError, Global};
 /// How many lines of 128 bytes the built-in memory has.
 const LINES: usize = 64;
 
-/// The 128-byte lines of the built-in memory that a write of the script touches, upwards.
+/// The numbers of the 128-byte lines of the built-in memory that a write of the script touches,
+/// upwards. A line's number is its first address divided by 128.
+///
+/// # Errors
+///
+/// Memory is wanting.
 pub fn touched_lines(alloc: Global, script: &Script) -> Result<Vec<u64>, AllocError>
     ensures { IfOk result (λ lines. lines.items ≡ lines_of_writes script.now) }
 {

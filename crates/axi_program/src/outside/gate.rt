@@ -1,4 +1,4 @@
-//! What the workers pass at each part of a phase.
+//! What the workers pass at each part of a phase. Today no phase is split, and nothing calls a gate.
 
 /// Told of each part of each phase by the worker that takes it. It changes nothing that a run answers, so a test can
 /// count the calls, or wait in them.

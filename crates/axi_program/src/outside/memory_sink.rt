@@ -45,7 +45,8 @@ impl MemorySink {
         most: usize,
     ) -> Result<MemorySink, NoMemory>
         requires { 0 < most }
-        ensures { IfOk result (λ sink. sink ≡ record { written = []; capacity = capacity; most = most; plan = new_plan fail.items }) }
+        ensures { IfOk result (λ sink.
+            sink ≡ record { written = []; capacity = capacity; most = most; plan = new_plan fail.items }) }
     {
         Ok(MemorySink {
             bytes: Vec::with_capacity(alloc, capacity)?,

@@ -5,6 +5,8 @@ ghost use Rattle.axi_program.specs.Memory.{new_plan, is_due, after_call};
 
 use std::marker::Model;
 
+/// The plan of an object's calls: which of them fail, by their numbers from 1.
+///
 /// A clause sees it as the numbers of the calls that are to fail, the calls that were made and those that failed.
 #[derive(Drop)]
 pub struct PlannedFaults {
@@ -22,6 +24,7 @@ impl Model for PlannedFaults {
 }
 
 impl PlannedFaults {
+    /// A plan by which these calls fail, before the first call.
     pub fn new(failing: Vec<u64>) -> PlannedFaults
         ensures { result ≡ new_plan failing.items }
     {

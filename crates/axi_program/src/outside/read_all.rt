@@ -23,7 +23,10 @@ const CHUNK: usize = 4096;
 
 /// All bytes of a source, which are at most `limit`.
 ///
-/// After a fault the source has lost the bytes that were read.
+/// # Errors
+///
+/// More bytes came than `limit`, a read failed, or memory was wanting. The source has lost the bytes
+/// that were read then.
 pub fn read_all<S: Source>(
     alloc: Global,
     source: &mut S,

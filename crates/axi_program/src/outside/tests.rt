@@ -1,3 +1,5 @@
+//! Sources and sinks that fail, in memory and over the runtime's streams.
+
 use super::gate::{Gate, OpenGate};
 use super::memory_sink::MemorySink;
 use super::memory_source::MemorySource;

@@ -8,7 +8,11 @@ ghost use Rattle.axi_program.specs.Transfers.{AppendsPrefix};
 use super::sink::Sink;
 use super::source::Failed;
 
-/// Offers the piece, and then its rest while less was taken.
+/// Writes a piece whole: offers it, and then its rest while less was taken.
+///
+/// # Errors
+///
+/// A write failed. What was taken of the piece until then is its front.
 pub fn write_piece<K: Sink>(sink: &mut K, piece: &[u8]) -> Result<(), Failed>
     ensures ok { OnOk result (Appends (K.written sink.old) (K.written sink.new) piece.now) }
     ensures err { OnErr result (AppendsPrefix (K.written sink.old) (K.written sink.new) piece.now) }
