@@ -50,7 +50,7 @@ taken_was_put takes puts queue run n =
     let part : IsPrefix (over (λ m. beat_taken (takes m) (queue m)) (suc n)) (over (λ m. beat_taken (takes m) (queue m)) n ++ queue n) = prefix_taken (takes n) (over (λ m. beat_taken (takes m) (queue m)) n) (queue n) in
     record { rest = part.rest; whole = whole ∙ part.whole }
 
--- all rounds together, by what each of them adds
+-- what goes through a list beat by beat, done to all rounds together, gives what it gives of each round, in order
 pub over-through : {X Y : Type 0} (f : List X → List Y) → f [] ≡ [] → ((xs ys : List X) → f (xs ++ ys) ≡ f xs ++ f ys) → (added : ℕ → List X) (given : ℕ → List Y) → ((n : ℕ) → f (added n) ≡ given n) → (n : ℕ) → f (over added n) ≡ over given n
 over-through f none both added given each zero = none
 over-through f none both added given each (suc n) =

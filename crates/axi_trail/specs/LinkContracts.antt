@@ -1,5 +1,6 @@
 -- The two contracts of a link: what the node above it asks, and what the node below it answers.
--- Each speaks of the trail of one end of the link alone (Arm IHI 0022, ordering model and channel relationships).
+-- Each speaks of the trail of one end of the link alone (Arm IHI 0022, ordering model and relationships between
+-- the channels).
 use Rattle.std.specs.Prelude.{◌≡◌, ◌≢◌, ◌<◌, ◌≤◌, ◌^◌, ◌++◌, ◌∷◌, ℕ, List, Bool, IsTrue, All, length, map, flat_map}
 use Rattle.axi_beats.specs.declared.beat.Addr.{Addr}
 use Rattle.flight.specs.Entries.{of_key}

@@ -6,7 +6,7 @@ use Rattle.axi_beats.specs.declared.beat.RBeat.{RBeat}
 use Rattle.axi_beats.specs.declared.response.Resp.{Resp}
 use Rattle.axi_trail.specs.Streams.{IsPrefix}
 
--- data lanes from the lowest to the highest one
+-- the data lanes of a beat from the lowest to the highest one, both included
 pub record Span : Type 0 where
   pub low : ℕ
   pub high : ℕ
@@ -44,7 +44,7 @@ pub record Progress : Type 0 where
   pub issued : ℕ → Bool
   -- its write data has come to its subordinate
   pub written : ℕ → Bool
-  -- the bytes that its subordinate has read for it
+  -- the bytes that its subordinate has read for it, in order of the beats and of the lanes
   pub filled : ℕ → List ℕ
 
 -- nothing of it is lost at a later time

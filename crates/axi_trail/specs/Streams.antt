@@ -1,4 +1,4 @@
--- Words on lists of beats that grow from round to round.
+-- Lists of beats that grow from round to round, parts of them, and beginnings.
 use Rattle.std.specs.Prelude.{◌≡◌, ◌<◌, ◌++◌, ◌∷◌, [], ℕ, zero, suc, List, Bool, true, false, length, take, slice_index_or, if◌then◌else◌, filter}
 
 module _ {X : Type 0} where
@@ -21,7 +21,7 @@ module _ {X : Type 0} where
   beat_taken true queue = take 1 queue
   beat_taken false queue = []
 
-  -- the first list is the beginning of the second one
+  -- the first list is a beginning of the second one
   pub record IsPrefix (xs ys : List X) : Type 0 where
     pub rest : List X
     pub whole : ys ≡ xs ++ rest

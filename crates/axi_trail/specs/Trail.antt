@@ -1,4 +1,4 @@
--- Trails: all beats that one end of a link has passed (Arm IHI 0022, channel handshake).
+-- Trails: all beats that one end of a link has passed (Arm IHI 0022, handshake process).
 use Rattle.std.specs.Prelude.{◌≡◌, ◌++◌, [], ℕ, suc, List, Bool, take}
 use Rattle.axi_beats.specs.declared.beat.Addr.{Addr}
 use Rattle.axi_beats.specs.declared.beat.WBeat.{WBeat}
@@ -18,7 +18,7 @@ pub record Beats : Type 0 where
   pub ar : List Addr
   pub r : List RBeat
 
--- what a node has passed, by the number of the link
+-- what a node has passed at its end of each link, by the number of the link
 abbrev pub Trail : Type 0
 Trail = ℕ → Beats
 

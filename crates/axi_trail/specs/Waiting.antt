@@ -13,7 +13,7 @@ fresh x = record { request = x; done = 0 }
 abbrev pub request_of : {X : Type 0} → Waiting X → X
 request_of w = w.request
 
--- the same of what a request shows
+-- the same where only what `shown` tells of the request counts
 abbrev pub waiting_shown : {X Y : Type 0} → (X → Y) → Waiting X → Waiting Y
 waiting_shown shown w = record { request = shown w.request; done = w.done }
 
@@ -37,13 +37,13 @@ module _ {X : Type 0} (len_of : X → ℕ) where
   complete count [] = []
   complete count (x ∷ xs) = if nat_lt (len_of x) count then x ∷ complete (count - suc (len_of x)) xs else []
 
-  -- one more beat of the first request, which is finished with its last beat
+  -- one more beat of the first request, which leaves with its last beat
   abbrev pub advanced : List (Waiting X) → List (Waiting X)
   advanced [] = []
   advanced (w ∷ waiting) = if w.done == len_of w.request then waiting else record { request = w.request; done = suc w.done } ∷ waiting
 
   module _ (id_of : X → ℕ) where
-    -- one more answer beat of an ID, which is the oldest request's of this ID
+    -- one more answer beat of an ID: it belongs to the oldest request of this ID
     abbrev pub answered_once : ℕ → List (Waiting X) → List (Waiting X)
     answered_once id [] = []
     answered_once id (w ∷ waiting) = if id_of w.request == id then advanced (w ∷ waiting) else w ∷ answered_once id waiting

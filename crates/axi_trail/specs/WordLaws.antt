@@ -1,4 +1,5 @@
--- What holds of the words on requests, marks and answers, whatever a node does.
+-- What holds of requests, their write data and their answers, whatever a node does. Laws of lists of any type are
+-- stated here for lists of one type, such as numbers or addresses.
 use Rattle.std.specs.Prelude.{◌≡◌, ◌≢◌, ℕ, Bool, true, suc, ◌≤◌, ◌++◌, ◌∷◌, [], List, Contains, length, map, take, drop, flat_map}
 use Rattle.axi_beats.specs.declared.beat.Addr.{Addr}
 use Rattle.flight.specs.Entries.{of_key, count_of, left_after}
@@ -33,13 +34,13 @@ BeginningsAgree =
     (xs ys us vs : List Mark) →
     (IsPrefix xs ys → Agree xs ys) × (IsPrefix us xs → IsPrefix vs ys → Agree xs ys → Agree us vs)
 
--- all rounds together, by what each of them adds
+-- what goes through a list beat by beat, done to all rounds together, gives what it gives of each round, in order
 abbrev pub RoundsOneByOne : Type 0
 RoundsOneByOne =
     (f : List ℕ → List ℕ) → f [] ≡ [] → ((xs ys : List ℕ) → f (xs ++ ys) ≡ f xs ++ f ys) →
     (added given : ℕ → List ℕ) → ((n : ℕ) → f (added n) ≡ given n) → (n : ℕ) → f (over added n) ≡ over given n
 
--- what is picked of more pairs
+-- what is picked of two lists of pairs is what is picked of the first one, and then of the second one
 abbrev pub PickedOfMore : Type 0
 PickedOfMore = (selects : ℕ → Bool) (pairs more : List (ℕ × ℕ)) → picked selects (pairs ++ more) ≡ picked selects pairs ++ picked selects more
 
@@ -98,7 +99,7 @@ PendingOfSelected =
 abbrev pub CompletedAreComplete : Type 0
 CompletedAreComplete = (asked : List Asked) (passed : List Mark) → IsPrefix passed (marks asked) → completed asked passed ≡ complete len_of_asked (length passed) asked
 
--- what is pending of requests is the same for all that shows their lengths
+-- which requests are pending depends on their lengths alone, so that it may be asked of what is shown of them
 abbrev pub PendingOfShown : Type 0
 PendingOfShown =
     (shown : Addr → Asked) (count : ℕ) (xs : List Addr) →
@@ -110,7 +111,8 @@ NextBeat =
     (asked : List Asked) (passed : List Mark) (m : Mark) (w : Waiting Asked) (others : List (Waiting Asked)) → Agree (passed ++ m ∷ []) (marks asked) →
     pending_asked (length passed) asked ≡ w ∷ others → m ≡ next_mark w
 
--- it is enough that it goes on in order among the beats of selected transactions, if the first pending one is selected
+-- it is enough that the beat goes on in order among those of selected transactions, if the first pending request is of
+-- one of them
 abbrev pub NextBeatOfSelected : Type 0
 NextBeatOfSelected =
     (selects : ℕ → Bool) (asked : List Asked) (passed : List Mark) (m : Mark) (w : Waiting Asked) (others : List (Waiting Asked)) → IsPrefix passed (marks asked) →
@@ -143,7 +145,7 @@ HeldOfId = (len_of id_of : Addr → ℕ) (xs : List Addr) (ids : List ℕ) (id :
 abbrev pub HeldOfSingles : Type 0
 HeldOfSingles = (id_of : Addr → ℕ) (xs : List Addr) (ids : List ℕ) → held (λ a. 0) id_of xs ids ≡ map fresh (left_after id_of xs ids)
 
--- what is held of requests is the same for all that shows their lengths and IDs
+-- which requests are held depends on their lengths and IDs alone, so that it may be asked of what is shown of them
 abbrev pub HeldOfShown : Type 0
 HeldOfShown =
     (shown : Addr → Asked) (xs : List Addr) (ids : List ℕ) →

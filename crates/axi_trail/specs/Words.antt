@@ -128,7 +128,7 @@ held_asked asked replies = held len_of_asked id_of_asked asked (map id_of_reply 
 abbrev pub pending_asked : ℕ → List Asked → List (Waiting Asked)
 pending_asked count asked = pending len_of_asked count asked
 
--- the first requests, one for each beat with `last`
+-- the first requests, as many as beats with `last` have passed: those whose data is whole, where it comes in order
 module _ {X : Type 0} where
   abbrev pub completed : List X → List Mark → List X
   completed asked passed = take (length (filter (λ m. m.last) passed)) asked
@@ -142,7 +142,7 @@ IsAnswered before a replies = beats_of (of_key id_of_asked a.id (before ++ a ∷
 abbrev pub InOrderOfId : List Asked → List Reply → Type 0
 InOrderOfId asked replies = (id : ℕ) → IsPrefix (map mark_of_reply (of_key id_of_reply id replies)) (marks (of_key id_of_asked id asked))
 
--- the two directions of a trail
+-- the requests and the answers of a trail, in each direction
 abbrev pub writes_asked : Beats → List Asked
 writes_asked trail = map write_asked trail.aw
 

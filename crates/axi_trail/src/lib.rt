@@ -2,8 +2,9 @@
 //!
 //! A *trail* is the list of beats that one end of a link has passed on each channel. Two contracts
 //! speak of one trail each: what is *asked* on a link by the node above it, and what the node below
-//! it *answers*. Every node keeps both, which is why every network does. There is no code here: each
-//! function has an empty body, and its contract is a law of these words.
+//! it *answers* (Arm IHI 0022, ordering model, relationships between the channels). Every node keeps
+//! both, which is why every network does. There is no code here: the definitions are in `specs`, each
+//! function has an empty body, and its contract says a law that holds of the definitions.
 #![tactic(auto)]
 
 mod contract_laws;

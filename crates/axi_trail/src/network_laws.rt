@@ -2,8 +2,9 @@
 
 ghost use Rattle.axi_trail.specs.NetworkLaws.{RoundByRound};
 
-/// What holds at first, goes down and up the links of a network and is kept by each node for one
-/// more round, holds after any number of rounds.
+/// The induction over the rounds of a network. Where every new node keeps its part, asking goes down
+/// from link to link, answering goes up, and a node between such links keeps its part for one more
+/// round, all of this holds after any number of rounds.
 pub fn law_of_rounds()
     ensures { RoundByRound }
 {}

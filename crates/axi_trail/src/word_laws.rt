@@ -1,10 +1,11 @@
-//! What holds of the words on requests, marks and answers, whatever a node does.
+//! What holds of requests, their write data and their answers, whatever a node does.
 
 ghost use Rattle.axi_trail.specs.WordLaws.{OneMoreOfKey, BeginningOfKey, KeysInEitherOrder, AgreeingIsBeginning, BeginningsAgree, RoundsOneByOne, PickedOfMore, OneMoreBurst, BeginningOfMarks, MarksOfSelected, BurstsEndAtLast};
 ghost use Rattle.axi_trail.specs.WordLaws.{BeatOfFirstPending, RequestIsPending, PendingAreLast, NonePending, PendingOweTheRest, PendingOfSelected, PendingOfShown, CompletedAreComplete, NextBeat, NextBeatOfSelected, BeatKeepsOrder};
 ghost use Rattle.axi_trail.specs.WordLaws.{AnswerOfOldestHeld, RequestIsHeld, HeldOfId, HeldOfSingles, HeldOfShown, HeldOfSelected, LaterRequestsAreHeld, NextAnswer, AnswerKeepsOrder, UnansweredIsHeld, NoneHeldIsAnswered};
 
-/// The laws of beats of one number or ID, of beginnings, and of the marks of bursts.
+/// The laws of beats of one number or ID, of beginnings, and of the marks of bursts. The mark of a
+/// beat is the number of its transaction, and whether it is the last beat of its burst.
 pub fn laws_of_beats()
     // Beats of one number or ID.
     ensures more { OneMoreOfKey }
@@ -26,7 +27,8 @@ pub fn laws_of_beats()
     ensures ends { BurstsEndAtLast }
 {}
 
-/// The laws of requests that lack write data, where data comes in order of the requests.
+/// The laws of *pending* requests: those that lack write data, where data comes in order of the
+/// requests.
 pub fn laws_of_pending()
     // One more beat, or request.
     ensures beat { BeatOfFirstPending }
@@ -46,8 +48,8 @@ pub fn laws_of_pending()
     ensures keeps { BeatKeepsOrder }
 {}
 
-/// The laws of requests that lack answers, where the answers of each ID come in order of its
-/// requests.
+/// The laws of *held* requests: those that lack answers, where the answers of each ID come in order
+/// of its requests (Arm IHI 0022, ordering model).
 pub fn laws_of_held()
     // One more answer beat, or request.
     ensures answer { AnswerOfOldestHeld }

@@ -1,4 +1,5 @@
--- Why the port of a link breaks no rule, where the two nodes at the link keep its contracts.
+-- Why the port of a link breaks no rule, where the two nodes at the link keep its contracts. The rules are numbered as
+-- in `axi_history.specs.PortRules`.
 use Rattle.std.specs.Prelude.{◌≡◌, ℕ, suc, List, Option, Some, None, map}
 use Rattle.axi_history.specs.declared.port.PortKind.{PortKind}
 use Rattle.axi_history.specs.declared.port.PortRound.{PortRound}
@@ -23,7 +24,7 @@ pub record HasTransferred (history : List PortRound) (asked answered : Beats) : 
   pub ar : transferred on_ar history ≡ map seen_address asked.ar
   pub r : transferred on_r history ≡ map seen_read_beat answered.r
 
--- these beats have been offered
+-- these beats have been offered, whether they were taken or not
 pub record HasOffered (history : List PortRound) (asked answered : Beats) : Type 0 where
   pub aw : offered on_aw history ≡ map seen_address asked.aw
   pub w : offered on_w history ≡ map seen_itself asked.w
@@ -50,7 +51,7 @@ TransferredAreTrails =
     (number : ℕ) (kind : PortKind) (links : ℕ → List LinkView) (uppers lowers : ℕ → Out) (n : ℕ) →
     HasTransferred (port_history number kind links uppers lowers n) (trail_below lowers links n number) (trail_above uppers links n number)
 
--- and what it has offered is that, and the heads that they look at in the last round
+-- and what it has offered is that, and the heads that these ends look at in the last round
 abbrev pub OfferedAreTrails : Type 0
 OfferedAreTrails =
     (number : ℕ) (kind : PortKind) (links : ℕ → List LinkView) (uppers lowers : ℕ → Out) (n : ℕ) →

@@ -31,7 +31,7 @@ response_code Okay = 0
 response_code SlvErr = 2
 response_code DecErr = 3
 
--- the beats as they are seen on the channels; no access is exclusive; a W beat is seen as it is
+-- the beats as they are seen on the channels: no access is exclusive, and a W beat is seen as it is
 abbrev pub seen_address : Addr → RawAddr
 seen_address a = record { id = a.id; addr = a.addr; len = a.len; size = a.size; burst = burst_code a.burst; lock = false; tag = a.tag }
 

@@ -3,7 +3,7 @@
 ghost use Rattle.link_ports.specs.PortLaws.{WriteAddressesAreLegal, WriteDataIsLegal, WriteResponsesAreLegal, ReadAddressesAreLegal, ReadDataIsLegal};
 
 /// The rules of the five channels, where the node above the link asks and the node below it answers
-/// as their contracts say.
+/// as their contracts say. Each law asks for the contract of the node that puts on its channel alone.
 pub fn laws_of_channels()
     // What the node above puts.
     ensures aw { WriteAddressesAreLegal }

@@ -10,8 +10,9 @@ use axi_history::{PortKind, PortRound, RawAddr, RawB, RawR, Seen};
 use axi_link::{Link, Out};
 
 /// What is seen of link `number` in round `round`: the beats that its five channels offer, and
-/// which of them the node at the other end takes. `link` is the link as the round began, and
-/// `upper` and `lower` are the moves of its two nodes in the round. (Arm IHI 0022, handshake
+/// which of them the node at the other end takes. Rounds are counted from 1. `link` is the link as
+/// the round began, and `upper` and `lower` are the moves of its two nodes in the round: the lower
+/// one takes addresses and write data, the upper one takes answers. (Arm IHI 0022, handshake
 /// process.)
 pub fn port_of(
     round: u64,
@@ -35,7 +36,7 @@ pub fn port_of(
     }
 }
 
-/// Whether a head is taken from link `number`.
+/// Whether a node that takes from the link `take`, or from none, takes from link `number`.
 fn takes_from(take: Option<u32>, number: u32) -> bool
     ensures { result ≡ takes_from number take }
 {
@@ -45,7 +46,7 @@ fn takes_from(take: Option<u32>, number: u32) -> bool
     }
 }
 
-/// A channel of addresses.
+/// What is seen of an address channel with this head, if it has one. No access is exclusive.
 fn address_shown(head: Option<&Addr>, taken: bool) -> Option<Seen<RawAddr>>
     ensures { result ≡ option_map (λ a. record { beat = seen_address a; taken = taken }) (option_copied head.entry) }
 {
@@ -62,7 +63,7 @@ fn address_shown(head: Option<&Addr>, taken: bool) -> Option<Seen<RawAddr>>
     Some(Seen { beat, taken })
 }
 
-/// The channel of write data.
+/// What is seen of the channel of write data.
 fn data_shown(head: Option<&WBeat>, taken: bool) -> Option<Seen<WBeat>>
     ensures { result ≡ option_map (λ w. record { beat = w; taken = taken }) (option_copied head.entry) }
 {
@@ -70,7 +71,7 @@ fn data_shown(head: Option<&WBeat>, taken: bool) -> Option<Seen<WBeat>>
     Some(Seen { beat, taken })
 }
 
-/// The channel of responses to writes.
+/// What is seen of the channel of responses to writes.
 fn response_shown(head: Option<&BBeat>, taken: bool) -> Option<Seen<RawB>>
     ensures { result ≡ option_map (λ b. record { beat = seen_response b; taken = taken }) (option_copied head.entry) }
 {
@@ -83,7 +84,7 @@ fn response_shown(head: Option<&BBeat>, taken: bool) -> Option<Seen<RawB>>
     Some(Seen { beat, taken })
 }
 
-/// The channel of read data.
+/// What is seen of the channel of read data.
 fn read_beat_shown(head: Option<&RBeat>, taken: bool) -> Option<Seen<RawR>>
     ensures { result ≡ option_map (λ r. record { beat = seen_read_beat r; taken = taken }) (option_copied head.entry) }
 {
@@ -98,7 +99,7 @@ fn read_beat_shown(head: Option<&RBeat>, taken: bool) -> Option<Seen<RawR>>
     Some(Seen { beat, taken })
 }
 
-/// AxBURST: 0 FIXED, 1 INCR, 2 WRAP.
+/// AxBURST: 0 FIXED, 1 INCR, 2 WRAP. (Arm IHI 0022, burst type.)
 fn burst_code(burst: Burst) -> u8
     ensures { result ≡ burst_code burst }
 {
@@ -109,7 +110,7 @@ fn burst_code(burst: Burst) -> u8
     }
 }
 
-/// BRESP or RRESP: 0 OKAY, 2 SLVERR, 3 DECERR.
+/// BRESP or RRESP: 0 OKAY, 2 SLVERR, 3 DECERR. (Arm IHI 0022, read and write response structure.)
 fn response_code(response: Resp) -> u8
     ensures { result ≡ response_code response }
 {

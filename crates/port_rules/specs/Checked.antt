@@ -14,6 +14,8 @@ use Rattle.port_rules.specs.Offers.{new_offer, fault_of_offer}
 use Rattle.port_rules.specs.Transfers.{Open, add_aw, add_last, add_b, add_ar, add_r}
 use Rattle.port_rules.specs.Judged.{data_fault, addresses_then, passed_then, beats_then, addresses_done, passed_done, beats_done}
 
+-- what a checker keeps: the beats that wait, what is left over of the addresses and W beats that were offered, and the
+-- writes and reads without an answer
 pub record Kept : Type 0 where
   pub waits : Waits
   pub addresses : List RawAddr
@@ -22,16 +24,18 @@ pub record Kept : Type 0 where
   pub writes : Open
   pub reads : List Read
 
--- a rule that is broken on a channel
+-- a rule that is broken, with its channel
 abbrev pub on_fault : ℕ → Option ℕ → Option (ℕ × ℕ)
 on_fault channel rule = option_map (λ r. (channel, r)) rule
 
+-- the address and the W beat that a round offers and that didn't wait
 abbrev pub new_aw : Kept → PortRound → Option RawAddr
 new_aw k r = new_offer k.waits.aw (offer_of r.aw)
 
 abbrev pub new_w : Kept → PortRound → Option WBeat
 new_w k r = new_offer k.waits.w (offer_of r.w)
 
+-- the least rule that a round breaks on each channel
 abbrev pub aw_fault : ℕ → Kept → PortRound → Option ℕ
 aw_fault bus k r = least_broken (handshake_rules same_address k.waits.aw (offer_of r.aw) ++ rules_of_offer (offer_of r.aw) (address_rules bus))
 
@@ -48,6 +52,7 @@ ar_fault bus k r = least_broken (handshake_rules same_address k.waits.ar (offer_
 abbrev pub r_fault : Kept → PortRound → Option ℕ
 r_fault k r = or_else (least_broken (handshake_rules same_read k.waits.r (offer_of r.r))) (fault_of_offer (offer_of r.r) (read_fault k.reads))
 
+-- the least channel on which a round breaks a rule, and the least such rule
 abbrev pub kept_fault : ℕ → Kept → PortRound → Option (ℕ × ℕ)
 kept_fault bus k r =
     or_else (on_fault 1 (aw_fault bus k r))
@@ -56,6 +61,7 @@ kept_fault bus k r =
     (or_else (on_fault 4 (ar_fault bus k r))
     (on_fault 5 (r_fault k r)))))
 
+-- what is kept after a round that breaks no rule
 abbrev pub waits_after : PortRound → Waits
 waits_after r = record { aw = wait_of r.aw; w = wait_of r.w; b = wait_of r.b; ar = wait_of r.ar; r = wait_of r.r }
 

@@ -1,4 +1,5 @@
--- How a round is judged by what is kept of the rounds before it.
+-- How the address and the W beat of a round are judged by what is kept of the rounds before it. The address counts
+-- first: what is kept `then` has the address, and what is kept when all is `done` has the W beat too.
 use Rattle.std.specs.Prelude.{ℕ, List, Option, Some, None, nat_lt, if◌then◌else◌}
 use Rattle.axi_beats.specs.declared.beat.WBeat.{WBeat}
 use Rattle.axi_history.specs.declared.port.RawAddr.{RawAddr}
@@ -10,7 +11,7 @@ lesser None other = other
 lesser (Some rule) None = Some rule
 lesser (Some rule) (Some other) = if nat_lt other rule then Some other else Some rule
 
--- where an address is offered that did not wait
+-- where the round offers an address that did not wait, and where it doesn't
 abbrev pub late_fault_of : ℕ → Option RawAddr → List RawAddr → List WBeat → Option ℕ
 late_fault_of bus None addresses beats = None
 late_fault_of bus (Some a) addresses beats = late_fault bus addresses beats a
@@ -27,7 +28,7 @@ abbrev pub beats_then : Option RawAddr → List RawAddr → List WBeat → List 
 beats_then None addresses beats = beats
 beats_then (Some a) addresses beats = beats_with addresses beats
 
--- where a W beat is offered that did not wait
+-- where the round offers a W beat that did not wait, and where it doesn't
 abbrev pub beat_fault_of : ℕ → Option WBeat → List RawAddr → ℕ → Option ℕ
 beat_fault_of bus None addresses passed = None
 beat_fault_of bus (Some w) addresses passed = beat_fault bus addresses passed w

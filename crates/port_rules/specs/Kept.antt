@@ -30,7 +30,8 @@ abbrev pub beats_fault : ℕ → RawAddr → ℕ → Bool → List WBeat → Opt
 beats_fault bus a n strobes beats =
     least_broken ((9, each_beat (has_last_where_due a) n beats) ∷ (10, strobes && each_beat (has_strobes_on_valid_lanes bus a) n beats) ∷ [])
 
--- a new address
+-- A new address. It breaks rule 9 or 10 only by beats that came before it, and has such beats only where no earlier
+-- address lacks beats.
 abbrev pub late_fault : ℕ → List RawAddr → List WBeat → RawAddr → Option ℕ
 late_fault bus [] beats a = beats_fault bus a 0 true (first_burst beats)
 late_fault bus (first ∷ more) beats a = None
@@ -47,7 +48,7 @@ abbrev pub beats_with : List RawAddr → List WBeat → List WBeat
 beats_with [] beats = after_first beats
 beats_with (first ∷ more) beats = beats
 
--- a new W beat
+-- a new W beat, which belongs to the oldest address that lacks beats, if there is one
 abbrev pub beat_fault : ℕ → List RawAddr → ℕ → WBeat → Option ℕ
 beat_fault bus [] passed w = None
 beat_fault bus (a ∷ more) passed w =
@@ -68,10 +69,12 @@ beats_after (a ∷ more) beats w = beats
 -- ---- Writes: `issued` are the IDs of the addresses transferred whose last W beat is not, `surplus` counts the last
 -- W beats transferred whose address is not, and `whole` are the IDs of the writes that wait for their response
 
+-- the least of rules 8 and 11 that a response breaks
 abbrev pub response_fault : List ℕ → RawB → Option ℕ
 response_fault whole b =
     least_broken ((8, is_not_exokay b.resp) ∷ (11, is_some (position (λ id. id == b.id) whole)) ∷ [])
 
+-- a list of IDs without the first one that is this ID
 abbrev pub without_first : ℕ → List ℕ → List ℕ
 without_first id [] = []
 without_first id (other ∷ more) = if other == id then more else other ∷ without_first id more

@@ -4,7 +4,7 @@ use Rattle.std.proofs.Common.{suc}
 use Rattle.axi_beats.specs.declared.beat.WBeat.{WBeat}
 use Rattle.axi_history.specs.declared.port.RawAddr.{RawAddr}
 
--- the addresses whose burst is not whole, the number of beats of the first one's burst, and the beats without address
+-- the addresses whose burst isn't whole, how many beats the first one's burst has so far, and the beats without address
 pub record Parting : Type 0 where
   pub addresses : List RawAddr
   pub passed : ℕ

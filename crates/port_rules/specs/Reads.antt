@@ -12,6 +12,7 @@ abbrev pub left_of : ℕ → List Read → Option ℕ
 left_of id [] = None
 left_of id (read ∷ more) = if read.id == id then Some read.left else left_of id more
 
+-- the least of rules 8, 11 and 12 that a read beat breaks
 abbrev pub read_fault : List Read → RawR → Option ℕ
 read_fault reads r =
     least_broken ((8, is_not_exokay r.resp) ∷ (11, is_some (left_of r.id reads)) ∷ (12, beq r.last (unwrap_or (left_of r.id reads) 0 == 1)) ∷ [])

@@ -24,6 +24,7 @@ pub record Held (bus : ℕ) (k : Kept) (history : List PortRound) : Type 0 where
   pub r : k.waits.r ≡ waiting on_r history
   -- what is left over of the addresses and the W beats that were offered
   pub parted : parting (offered on_aw history) 0 (offered on_w history) ≡ record { addresses = k.addresses; passed = k.passed; beats = k.beats }
+  -- rules 3 to 8, 9 and 10 are kept
   pub usable : list_all (keeps_address_rules bus) (offered on_aw history) ≡ true
   pub nine : last_is_on_the_last_beat bus history ≡ true
   pub ten : strobes_are_on_valid_lanes bus history ≡ true
@@ -31,6 +32,7 @@ pub record Held (bus : ℕ) (k : Kept) (history : List PortRound) : Type 0 where
   pub writes : WritesHeld k.writes (transferred on_aw history) (count_by (λ (beat : WBeat). beat.last) (transferred on_w history)) (transferred on_b history)
   pub reads : ReadsHeld k.reads (transferred on_ar history) (transferred on_r history)
 
+-- what a checker keeps, as plain lists
 abbrev pub kept_of : PortChecker → Kept
 kept_of c = record {
   waits = c.waits;
@@ -48,6 +50,7 @@ port_of c = c.port
 abbrev pub rounds_of : PortChecker → ℕ
 rounds_of c = c.rounds
 
+-- a checker stands for the rounds that it was given, from the first one on
 pub record StandsFor (c : PortChecker) (history : List PortRound) : Type 0 where
   pub rounds : c.rounds ≡ length history
   -- the checker keeps what the rounds break first

@@ -18,6 +18,7 @@ pub record Open : Type 0 where
 abbrev pub writes_of : Writes → Open
 writes_of w = record { issued = w.issued.items; surplus = w.surplus; whole = w.whole.items }
 
+-- one more address, and one more last W beat
 abbrev pub with_address : ℕ → Open → Open
 with_address id o = record {
   issued = if nat_lt 0 o.surplus then o.issued else o.issued ++ id ∷ [];
@@ -32,6 +33,7 @@ with_last o = record {
   whole = o.whole ++ take 1 o.issued;
 }
 
+-- what a channel transfers in a round, if anything, added to what is kept
 abbrev pub add_aw : Option RawAddr → Open → Open
 add_aw None o = o
 add_aw (Some a) o = with_address a.id o

@@ -15,4 +15,5 @@ pub record WritesHeld (o : Open) (addresses : List RawAddr) (lasts : ℕ) (respo
   pub surplus : o.surplus ≡ lasts - length addresses
   -- of each ID, as many writes wait for a response as are whole and have none
   pub each : (id : ℕ) → times id o.whole + length (responses_of id responses) ≡ length (writes_of id (take lasts addresses))
+  -- and so of all IDs together
   pub all : length o.whole + length responses ≡ length (take lasts addresses)

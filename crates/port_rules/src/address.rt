@@ -1,4 +1,4 @@
-//! The rules of one address.
+//! The rules of one address, 3 to 8, and of one W beat by its address, 9 and 10.
 ghost use Rattle.std.specs.Prelude.{◌≡◌, ◌<◌, ◌≤◌, ◌^◌, true, IsTrue, Option, None};
 ghost use Rattle.axi_beats.specs.Bus.{IsBusWidth};
 ghost use Rattle.axi_history.specs.PortRules.{request_of, address_rules, least_broken, keeps_address_rules, has_last_where_due, has_strobes_on_valid_lanes, strobes_within};
@@ -7,7 +7,8 @@ use axi_beats::{Addr, Burst, WBeat};
 use axi_history::RawAddr;
 use burst_address::{BurstRule, lanes, legal};
 
-/// The request that an address makes. The kind of the reserved burst code doesn't count.
+/// The request that an address makes. The reserved burst code 3 breaks rule 3, so that the kind that
+/// it is given here doesn't count.
 fn request(a: &RawAddr) -> Addr
     ensures { result ≡ request_of a.now }
 {
@@ -25,7 +26,7 @@ fn request(a: &RawAddr) -> Addr
     }
 }
 
-/// The first rule of 3 to 8 that an address breaks on a bus.
+/// The first rule of 3 to 8 that an address breaks on a bus of this many bytes.
 pub(crate) fn address_fault(a: &RawAddr, bus: u8) -> Option<u8>
     requires { IsBusWidth bus }
     ensures { result ≡ least_broken (address_rules bus a.now) }
@@ -43,7 +44,8 @@ pub(crate) fn address_fault(a: &RawAddr, bus: u8) -> Option<u8>
     }
 }
 
-/// Whether beat `n` of an address has `last` where it is due.
+/// Whether beat `n` of an address, counted from 0, has `last` where it is due, and isn't beyond the
+/// last one. (Rule 9; Arm IHI 0022, write data channel.)
 pub(crate) fn last_fits(a: &RawAddr, n: u32, w: &WBeat) -> bool
     ensures value { result ≡ has_last_where_due a.now n w.now }
     ensures beat { IsTrue result → n ≤ a.now.len }
@@ -53,7 +55,8 @@ pub(crate) fn last_fits(a: &RawAddr, n: u32, w: &WBeat) -> bool
     n <= len && w.last == (n == len)
 }
 
-/// Whether the strobes of beat `n` of an address stand on its valid lanes alone.
+/// Whether the strobes of beat `n` of an address stand on its valid lanes alone. (Rule 10; Arm IHI
+/// 0022, write strobes.)
 pub(crate) fn strobes_fit(a: &RawAddr, n: u32, w: &WBeat, bus: u8) -> bool
     requires beat { n ≤ a.now.len }
     requires start { a.now.addr < 2 ^ 63 }
@@ -65,6 +68,8 @@ pub(crate) fn strobes_fit(a: &RawAddr, n: u32, w: &WBeat, bus: u8) -> bool
     are_within(lower, upper, w.strobe)
 }
 
+/// Whether no strobe stands below lane `lower` or above lane `upper`. Strobe n is bit n of the number,
+/// so that shifts drop the strobes of the lower lanes.
 fn are_within(lower: u8, upper: u8, strobe: u128) -> bool
     requires lower { lower < 128 }
     requires upper { upper < 128 }

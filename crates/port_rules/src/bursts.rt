@@ -1,4 +1,4 @@
-//! W beats, and the addresses that they belong to.
+//! W beats, and the addresses that they belong to, for rules 9 and 10.
 ghost use Rattle.std.specs.Prelude.{◌≡◌, ◌≢◌, ◌+◌, ◌<◌, ◌≤◌, ◌^◌, ◌∷◌, ◌++◌, ◌&&◌, [], true, length, Option, Some, None, IfNone, OnOk, if◌then◌else◌, ℕ};
 ghost use Rattle.std.specs.List.{list_all};
 ghost use Rattle.std.specs.VecDeque.{deque_len, deque_capacity};
@@ -14,14 +14,15 @@ use axi_history::RawAddr;
 use std::alloc::Global;
 use std::collections::VecDeque;
 
-/// The n-th write burst belongs to the n-th address. What is kept are the beats and addresses that
-/// were offered before the other.
+/// What rules 9 and 10 need of earlier rounds. The n-th write burst belongs to the n-th address, and
+/// either may be offered first: what is kept are the addresses that still lack beats, and the beats
+/// that still lack their address.
 #[derive(Drop)]
 pub(crate) struct Bursts {
     bus: u8,
     /// The addresses whose burst isn't whole, oldest first.
     addresses: VecDeque<RawAddr>,
-    /// How many beats there were of the oldest one's burst.
+    /// How many beats were offered of the oldest one's burst.
     passed: u32,
     /// The beats that have no address, oldest first.
     beats: VecDeque<WBeat>,
@@ -30,6 +31,7 @@ pub(crate) struct Bursts {
 }
 
 impl Bursts {
+    /// Nothing was offered on a bus of this many bytes. It takes no memory.
     pub(crate) fn new(alloc: Global, bus: u8) -> Bursts
         requires { IsBusWidth bus }
         ensures bus { result.bus ≡ bus }
@@ -157,6 +159,7 @@ impl Bursts {
         lesser(late, now)
     }
 
+    /// Adds the address of a round, if there is a new one.
     fn add_address(&mut self, aw: &Option<RawAddr>) -> Option<u8>
         requires usable { ForSome aw.now (λ a. is_usable self.old.bus a ≡ true) }
         requires room { deque_len self.old.addresses < deque_capacity self.old.addresses }
@@ -180,6 +183,7 @@ impl Bursts {
         }
     }
 
+    /// Adds the W beat of a round, if there is a new one.
     fn add_beat(&mut self, w: &Option<WBeat>) -> Option<u8>
         requires { deque_len self.old.beats < deque_capacity self.old.beats }
         ensures bus { self.new.bus ≡ self.old.bus }

@@ -1,4 +1,4 @@
-//! `PortChecker`, which stands for the history of a port.
+//! How a checker judges one more round, and what it tells of the rounds so far.
 ghost use Rattle.std.specs.Prelude.{◌≡◌, ◌≢◌, ◌+◌, ◌<◌, ◌≤◌, ◌^◌, ◌∷◌, ◌++◌, [], ℕ, false, List, length, Option, None, Some, IsOk, IfNone, OnOk, Err, vec_len, vec_capacity};
 ghost use Rattle.std.specs.Option.{ForSome};
 ghost use Rattle.std.specs.VecDeque.{deque_len, deque_capacity};
@@ -22,7 +22,7 @@ use axi_history::{PortKind, PortRound};
 use std::alloc::Global;
 
 impl PortChecker {
-    /// A checker of an AXI4 port, which was given no round. It takes no memory.
+    /// A checker of an AXI4 port, not of AXI4-Lite, which was given no round. It takes no memory.
     pub fn new(alloc: Global, port: PortKind) -> PortChecker
         requires kind { port.lite ≡ false }
         requires bus { IsBusWidth port.bus }

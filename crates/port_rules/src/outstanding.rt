@@ -33,6 +33,7 @@ pub(crate) struct Waits {
 }
 
 impl Waits {
+    /// What waits before the first round: nothing.
     pub(crate) fn none() -> Waits
         ensures { result ≡ record { aw = None; w = None; b = None; ar = None; r = None } }
     {
@@ -59,7 +60,7 @@ impl Waits {
     }
 }
 
-/// The first rule that is broken on an address channel.
+/// The first rule that is broken on an address channel, of rules 1 to 8.
 pub(crate) fn address_channel_fault(
     waits: &Option<RawAddr>,
     offer: &Option<Seen<RawAddr>>,
@@ -79,7 +80,8 @@ pub(crate) fn address_channel_fault(
     }
 }
 
-/// The first rule that is broken on W, where `bursts` has all that was offered before.
+/// The first rule that is broken on W, of rules 1, 2, 9 and 10, where `bursts` has what is left over
+/// of all that was offered before. The addresses and W beats of the round are added.
 pub(crate) fn data_channel_fault(bursts: &mut Bursts, waits: &Waits, r: &PortRound) -> Option<u8>
     requires usable { ForSome (new_offer_of waits.now.aw (offer_of r.now.aw))
         (λ a. is_usable bursts.old.bus a ≡ true) }
@@ -116,7 +118,7 @@ pub(crate) fn data_channel_fault(bursts: &mut Bursts, waits: &Waits, r: &PortRou
     bursts.add(&aw, &w)
 }
 
-/// The first rule that is broken on B.
+/// The first rule that is broken on B, of rules 1, 2, 8 and 11.
 pub(crate) fn response_channel_fault(
     writes: &Writes,
     waits: &Option<RawB>,
@@ -135,7 +137,7 @@ pub(crate) fn response_channel_fault(
     }
 }
 
-/// The first rule that is broken on R.
+/// The first rule that is broken on R, of rules 1, 2, 8, 11 and 12.
 pub(crate) fn read_channel_fault(
     reads: &Reads,
     waits: &Option<RawR>,
@@ -154,7 +156,8 @@ pub(crate) fn read_channel_fault(
     }
 }
 
-/// Counts what a round transfers on AW, W and B.
+/// Counts what a round transfers on AW, W and B. The response goes first: the write that it answers
+/// was whole in an earlier round.
 pub(crate) fn transfer_writes(writes: &mut Writes, r: &PortRound)
     requires issued { deque_len writes.old.issued < deque_capacity writes.old.issued }
     requires whole { vec_len writes.old.whole + 2 ≤ vec_capacity writes.old.whole }
@@ -179,7 +182,8 @@ pub(crate) fn transfer_writes(writes: &mut Writes, r: &PortRound)
     }
 }
 
-/// Counts what a round transfers on AR and R.
+/// Counts what a round transfers on AR and R. The read beat goes first: the read that it answers was
+/// asked for in an earlier round.
 pub(crate) fn transfer_reads(reads: &mut Reads, r: &PortRound)
     requires { vec_len reads.old.reads < vec_capacity reads.old.reads }
     ensures reads { reads.new.reads.items ≡

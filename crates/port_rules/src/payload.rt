@@ -1,4 +1,5 @@
-//! What a channel carries, and when it is the same as in the round before.
+//! What a channel carries, and when it is the same as in the round before, for rules 1 and 2. (Arm IHI
+//! 0022, handshake process.)
 ghost use Rattle.std.specs.Prelude.{◌≡◌, ◌==◌, ◌<◌, ◌&&◌, Bool, length, Option, None};
 ghost use Rattle.axi_history.specs.PortHistory.{offer_of};
 ghost use Rattle.axi_history.specs.PortRules.{same_tag, same_address, same_bytes, same_data, same_response, same_read, handshake_rules, least_broken};
@@ -60,12 +61,15 @@ impl Payload for RawR {
     }
 }
 
+/// Whether two tags are equal. The standard has no tags: they are this project's own, and a beat that
+/// waits keeps its tag as it keeps the rest.
 fn is_same_tag(a: Tag, b: Tag) -> bool
     ensures { result ≡ same_tag a b }
 {
     a.txn == b.txn && a.low == b.low && a.high == b.high
 }
 
+/// Whether two beats carry the same bytes, on all 128 lanes.
 #[tactic(auto, using(crate::proofs::PayloadLemmas::bytes_each, crate::proofs::PayloadLemmas::bytes_differ,))]
 fn are_same_lanes(a: &Lanes, b: &Lanes) -> bool
     ensures { result ≡ same_bytes a.now b.now }

@@ -1,4 +1,5 @@
-//! Reads that aren't answered in full.
+//! Reads that aren't answered in full, for rules 11 and 12. (Arm IHI 0022, read data channel and
+//! transaction identifiers.)
 ghost use Rattle.std.specs.Prelude.{◌≡◌, ◌+◌, ◌<◌, ◌≤◌, ◌^◌, ◌∷◌, ◌++◌, [], ◌==◌, length, position, Option, None, OnOk, vec_len, vec_capacity, ℕ};
 ghost use Rattle.port_rules.specs.Reads.{left_of, read_fault, read_one, pending};
 
@@ -6,7 +7,7 @@ use axi_beats::NoMemory;
 use axi_history::{RawAddr, RawR};
 use std::alloc::Global;
 
-/// A read, and how many beats of its answer weren't transferred.
+/// A read, and how many beats of its answer weren't transferred, from 1 to 256.
 #[derive(Clone, Copy, Debug, PartialEq, Eq)]
 pub(crate) struct Read {
     id: u32,
@@ -20,6 +21,7 @@ pub(crate) struct Reads {
 }
 
 impl Reads {
+    /// No read was asked for. It takes no memory.
     pub(crate) fn new(alloc: Global) -> Reads
         ensures { result.reads.items ≡ [] }
     {
@@ -78,7 +80,7 @@ impl Reads {
         });
     }
 
-    /// A read beat was transferred.
+    /// A read beat was transferred: it belongs to the oldest read of its ID.
     #[tactic(auto, using(crate::proofs::PlaceLemmas::read_removed, crate::proofs::PlaceLemmas::read_counted, crate::proofs::PlaceLemmas::read_absent,))]
     pub(crate) fn beat(&mut self, id: u32)
         ensures reads { self.new.reads.items ≡ read_one id self.old.reads.items }

@@ -1,4 +1,4 @@
-//! What a checker is.
+//! What a checker keeps of the rounds of its port, and what it tells of a round.
 ghost use Rattle.std.specs.Prelude.{◌≡◌, ◌+◌, ◌<◌, ◌≤◌, ◌^◌, length};
 
 use crate::bursts::Bursts;
@@ -10,18 +10,20 @@ use axi_history::PortKind;
 /// Why a round isn't accepted.
 #[derive(Clone, Copy, Debug, PartialEq, Eq)]
 pub enum RuleFault {
-    /// The rounds break a rule: the least channel (1 AW, 2 W, 3 B, 4 AR, 5 R) and its least rule.
+    /// The rounds break a rule: the least channel (1 AW, 2 W, 3 B, 4 AR, 5 R) and its least rule, from
+    /// 1 to 12.
     Broken { rule: u8, channel: u8 },
     /// There was no memory for the round, which wasn't added.
     NoMemory,
 }
 
-/// A checker that was given the rounds of one port.
+/// A checker that was given the rounds of one port, from its first round on.
 #[derive(Drop)]
 pub struct PortChecker {
     pub(crate) port: PortKind,
+    /// How many rounds it was given.
     pub(crate) rounds: u32,
-    /// The channel and the rule that were broken first.
+    /// The channel and the rule that were broken first. The fields below change no more from then on.
     pub(crate) fault: Option<(u8, u8)>,
     pub(crate) waits: Waits,
     pub(crate) bursts: Bursts,

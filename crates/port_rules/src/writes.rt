@@ -1,4 +1,5 @@
-//! Writes whose address or whose last W beat was transferred, and that have no response.
+//! Writes whose address or whose last W beat was transferred, and that have no response, for rule 11.
+//! (Arm IHI 0022, dependencies between channel handshake signals.)
 ghost use Rattle.std.specs.Prelude.{◌≡◌, ◌+◌, ◌-◌, ◌<◌, ◌≤◌, ◌^◌, ◌∷◌, ◌++◌, [], ◌==◌, length, Option, None, OnOk, if◌then◌else◌, vec_len, vec_capacity, nat_lt, take, drop, position, ℕ};
 ghost use Rattle.std.specs.VecDeque.{deque_len, deque_capacity};
 ghost use Rattle.port_rules.specs.Kept.{response_fault, without_first};
@@ -9,18 +10,19 @@ use std::alloc::Global;
 use std::collections::VecDeque;
 
 /// The n-th last W beat belongs to the n-th address. What is kept are those that were transferred
-/// before the other, and the writes of which both were.
+/// before the other, and the *whole* writes: those of which both were.
 #[derive(Drop)]
 pub(crate) struct Writes {
     /// The IDs of the addresses whose last W beat wasn't transferred, oldest first.
     issued: VecDeque<u32>,
     /// How many last W beats were transferred whose address wasn't.
     surplus: u32,
-    /// The IDs of the writes that wait for their response.
+    /// The IDs of the whole writes that wait for their response.
     whole: Vec<u32>,
 }
 
 impl Writes {
+    /// Nothing was transferred. It takes no memory.
     pub(crate) fn new(alloc: Global) -> Writes
         ensures issued { result.issued.items ≡ [] }
         ensures surplus { result.surplus ≡ 0 }
@@ -33,7 +35,8 @@ impl Writes {
         }
     }
 
-    /// Makes room for one round.
+    /// Makes room for one round. A round makes one write whole at most, as addresses and last W beats
+    /// never lack each other at once; with room for two nothing need be said of that.
     pub(crate) fn reserve(&mut self) -> Result<(), NoMemory>
         ensures issued { self.new.issued.items ≡ self.old.issued.items }
         ensures surplus { self.new.surplus ≡ self.old.surplus }
@@ -112,7 +115,7 @@ impl Writes {
         }
     }
 
-    /// A response was transferred.
+    /// A response was transferred: it belongs to the oldest whole write of its ID.
     #[tactic(auto, using(crate::proofs::PlaceLemmas::id_removed, crate::proofs::PlaceLemmas::id_absent,))]
     pub(crate) fn response(&mut self, id: u32)
         ensures issued { self.new.issued.items ≡ self.old.issued.items }

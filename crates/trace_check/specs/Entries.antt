@@ -1,4 +1,4 @@
--- What is kept at the place of a link, and the lines of a trace.
+-- How what is kept at the place of a link fits the lines of a trace that were read.
 use Rattle.std.specs.Prelude.{◌≡◌, ◌<◌, ◌≤◌, ℕ, List, Option, Some, None, true}
 use Rattle.std.specs.List.{find, last_or, list_all}
 use Rattle.axi_history.specs.declared.port.PortKind.{PortKind}
@@ -31,7 +31,7 @@ abbrev pub EntryTakes : Option LinkState → PortKind → Type 0
 EntryTakes None kind = Unit {0}
 EntryTakes (Some state) kind = (state.port ≡ kind) × CanGoOn state.judge state.port
 
--- the link is followed up to a line that comes next
+-- what is kept of a link fits the lines before the one that comes next, and has judged no round from that line's on
 abbrev pub EntryFollows : Option LinkState → List PortRound → PortRound → Type 0
 EntryFollows None lines r = find (is_of_link r.link) lines ≡ None
 EntryFollows (Some state) lines r = HasNotJudged state.judge r.round × Follows state.judge state.port lines r.link

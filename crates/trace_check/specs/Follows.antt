@@ -1,4 +1,4 @@
--- What is kept of one link, and the lines of a trace that it was given.
+-- How the judge of one link fits the lines of a trace that were read.
 use Rattle.std.specs.Prelude.{◌≡◌, ◌<◌, ◌≤◌, ◌+◌, ◌*◌, ◌^◌, ℕ, List, Option, Some, None, true, IfSome, length}
 use Rattle.std.specs.List.{find}
 use Rattle.axi_history.specs.declared.port.PortKind.{PortKind}
@@ -23,7 +23,7 @@ abbrev pub Follows : Option LinkJudge → PortKind → List PortRound → ℕ �
 Follows None kind lines link = kind.lite ≡ true
 Follows (Some judge) kind lines link = FollowsLink judge kind lines link
 
--- what a judge needs for two more rounds
+-- What a judge needs for two more rounds: those of a line and of the row before it.
 abbrev pub CanGoOn : Option LinkJudge → PortKind → Type 0
 CanGoOn None kind = Unit {0}
 CanGoOn (Some judge) kind = (port_of judge.checker ≡ kind) × (rounds_of judge.checker + 1 < 2 ^ 31)

@@ -7,7 +7,8 @@ use Rattle.trace_check.specs.declared.verdict.Verdict.TheVariants.{BadTraceLine,
 abbrev pub broken : ℕ → ℕ → ℕ → ℕ → ℕ → Verdict
 broken line round link channel rule = Broken (record { line = line; round = round; link = link; channel = channel; rule = rule })
 
--- no trace line; the same line again; a link that comes before the last one; another bus on the same link
+-- no trace line; the same line again; a link that comes before the last one; another bus on the same link, and another
+-- kind of port
 abbrev pub RefusedLines : Type 0
 RefusedLines =
     (verdict_of (codes "x") ≡ BadTraceLine 1)
@@ -17,7 +18,7 @@ RefusedLines =
     × (verdict_of (codes "1 0 axi 4 - - - - -\n2 0 lite 4 - - - - -\n3 1 lite 4 - - - - -\nx") ≡ BadTraceLine 2)
 
 -- an address that changes while it waits; one that is withdrawn in a round without a line, before a later line or after
--- the last one; the least of two links
+-- the last one; the least of two links; the earlier of two rounds
 abbrev pub BrokenRules : Type 0
 BrokenRules =
     (verdict_of (codes "1 0 axi 4 =0,10,0,2,1,0,1:0:0 - - - -\n2 0 axi 4 +0,14,0,2,1,0,1:0:0 - - - -\n") ≡ broken 2 2 0 1 2)
@@ -26,7 +27,8 @@ BrokenRules =
     × (verdict_of (codes "1 1 axi 4 +0,10,0,2,1,1,1:0:0 - - - -\n1 2 axi 4 +0,10,0,2,1,1,1:0:0 - - - -\n") ≡ broken 1 1 1 1 8)
     × (verdict_of (codes "1 0 axi 4 =0,10,0,2,1,0,1:0:0 - - - -\n2 1 axi 4 +0,10,0,2,1,1,1:0:0 - - - -\n5 0 axi 4 - - - - -\n") ≡ broken 0 2 0 1 1)
 
--- nothing; an address that waits in the last round; what stands after `%%` doesn't count; a line of another kind
+-- nothing; an address that waits in the last round; what stands after `%%` doesn't count; a line of AXI4-Lite goes
+-- before a broken rule
 abbrev pub LegalTraces : Type 0
 LegalTraces =
     (verdict_of (codes "") ≡ Legal 0)

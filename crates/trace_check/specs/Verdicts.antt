@@ -17,6 +17,7 @@ abbrev pub verdict_of_ports : List PortRound → Option ℕ → Verdict
 verdict_of_ports lines None = verdict_of_rules (length lines) (first_broken lines)
 verdict_of_ports lines (Some line) = NotBuilt line
 
+-- where a line is refused, the first such line
 abbrev pub verdict_of_lines : Result (List PortRound) ℕ → Verdict
 verdict_of_lines (Err line) = BadTraceLine line
 verdict_of_lines (Ok lines) = verdict_of_ports lines (number_of (λ (r : PortRound). r.kind.lite) lines)

@@ -1,4 +1,4 @@
-//! The places of the links.
+//! The places of the links in the table of a trace: how one is looked up, added, and given a line.
 ghost use Rattle.std.specs.Prelude.{◌≡◌, ◌≢◌, ◌<◌, ◌≤◌, ◌+◌, ◌∷◌, ◌++◌, [], ℕ, List, length, max, option_map, IfOk, OnOk, IfSome, Some};
 ghost use Rattle.axi_beats.specs.Bus.{IsBusWidth};
 ghost use Rattle.axi_history.specs.declared.port.PortRound.{PortRound as Round};
@@ -12,7 +12,7 @@ use axi_beats::NoMemory;
 use axi_history::PortRound;
 use std::alloc::{AllocError, Global};
 
-/// What is kept of a link.
+/// What is kept of a link, or nothing where no line of it was given.
 pub(crate) fn entry_of(links: &[Option<LinkState>], link: u32) -> Option<&LinkState>
     ensures { option_map (λ state. state.now) result ≡ entry_of links.now link }
 {
@@ -22,7 +22,7 @@ pub(crate) fn entry_of(links: &[Option<LinkState>], link: u32) -> Option<&LinkSt
     }
 }
 
-/// Makes a place for a link, and for those before it.
+/// Makes a place for a link, and for those before it, where there is none. Without memory some places may be added.
 pub(crate) fn grow(links: &mut Vec<Option<LinkState>>, link: u32) -> Result<(), AllocError>
     ensures size { OnOk result (length links.new.items ≡ max (length links.old.items) (link + 1)) }
     ensures entries { OnOk result ((k : ℕ) → entry_of links.new.items k ≡ entry_of links.old.items k) }
@@ -33,7 +33,7 @@ pub(crate) fn grow(links: &mut Vec<Option<LinkState>>, link: u32) -> Result<(), 
     Ok(())
 }
 
-/// Gives a line of this number to its link.
+/// Gives a line of this number to its link, which has a place. Without memory the link is lost.
 pub(crate) fn add_to_link(
     links: &mut Vec<Option<LinkState>>,
     alloc: Global,
@@ -47,8 +47,11 @@ pub(crate) fn add_to_link(
     requires takes { EntryTakes (entry_of links.old.items r.now.link) r.now.kind }
     ensures size { OnOk result (length links.new.items ≡ length links.old.items) }
     ensures others { OnOk result ((k : ℕ) → k ≢ r.now.link → entry_of links.new.items k ≡ entry_of links.old.items k) }
-    ensures entry { OnOk result ((state : _) × (entry_of links.new.items r.now.link ≡ Some state) × (state.port ≡ r.now.kind) × HasJudgedTo state.judge r.now.round
-        × ((lines : List Round) → line ≡ length lines + 1 → EntryFollows (entry_of links.old.items r.now.link) lines r.now → Follows state.judge r.now.kind (lines ++ r.now ∷ []) r.now.link)) }
+    ensures entry { OnOk result ((state : _) × (entry_of links.new.items r.now.link ≡ Some state)
+        × (state.port ≡ r.now.kind) × HasJudgedTo state.judge r.now.round
+        × ((lines : List Round) → line ≡ length lines + 1 →
+        EntryFollows (entry_of links.old.items r.now.link) lines r.now →
+        Follows state.judge r.now.kind (lines ++ r.now ∷ []) r.now.link)) }
 {
     let place = r.link as usize;
     let entry = links[place].take();
@@ -57,7 +60,7 @@ pub(crate) fn add_to_link(
     Ok(())
 }
 
-/// A link with one more line.
+/// A link with one more line, which is its first one where nothing is kept of it.
 fn with_line(
     alloc: Global,
     entry: Option<LinkState>,
@@ -70,7 +73,9 @@ fn with_line(
     requires takes { EntryTakes entry r.now.kind }
     ensures port { IfOk result (λ state. state.port ≡ r.now.kind) }
     ensures rounds { IfOk result (λ state. HasJudgedTo state.judge r.now.round) }
-    ensures follows { IfOk result (λ state. (lines : List Round) → line ≡ length lines + 1 → EntryFollows entry lines r.now → Follows state.judge r.now.kind (lines ++ r.now ∷ []) r.now.link) }
+    ensures follows { IfOk result (λ state. (lines : List Round) → line ≡ length lines + 1 →
+        EntryFollows entry lines r.now →
+        Follows state.judge r.now.kind (lines ++ r.now ∷ []) r.now.link) }
 {
     match entry {
         Some(state) => state.with_line(r, line),

@@ -11,15 +11,16 @@ use crate::link_state::LinkState;
 use crate::verdict::PortFault;
 use axi_beats::NoMemory;
 
-/// What is broken in the first round in which something is, on the least link. The rounds end with the last one of the
-/// trace.
+/// What is broken in the first round in which something is, on the least link. Every link is judged up to round `last`,
+/// the last one of the trace, also where its own lines end earlier.
 pub(crate) fn first_fault(
     links: Vec<Option<LinkState>>,
     last: u64,
 ) -> Result<Option<PortFault>, NoMemory>
     requires size { length links.items ≤ 4096 }
     requires serves { (link : ℕ) → EntryServes (entry_of links.items link) }
-    ensures first { IfOk result (λ first. (lines : List Round) → greatest_round lines ≡ last → length links.items ≡ link_count lines → number_of is_lite lines ≡ None →
+    ensures first { IfOk result (λ first. (lines : List Round) → greatest_round lines ≡ last →
+        length links.items ≡ link_count lines → number_of is_lite lines ≡ None →
         ((link : ℕ) → EntryStands (entry_of links.items link) lines link) → first ≡ first_broken lines) }
 {
     let mut first = None;
@@ -32,10 +33,11 @@ pub(crate) fn first_fault(
     Ok(first)
 }
 
-/// What a link breaks first.
+/// What a link breaks first up to the last round of the trace.
 fn fault_of(entry: Option<LinkState>, last: u64) -> Result<Option<LinkFault>, NoMemory>
     requires serves { EntryServes entry }
-    ensures fault { IfOk result (λ fault. (lines : List Round) (link : ℕ) → greatest_round lines ≡ last → number_of is_lite lines ≡ None →
+    ensures fault { IfOk result (λ fault. (lines : List Round) (link : ℕ) → greatest_round lines ≡ last →
+        number_of is_lite lines ≡ None →
         EntryStands entry lines link → IsFaultOf fault lines link) }
 {
     match entry {

@@ -4,6 +4,7 @@
 //! The verdict is a definition over the lines of the text and the histories that they show, round by round. The judge
 //! reads the lines once, keeps for each link what is outstanding, and answers that verdict. It takes a row of rounds in
 //! which nothing is offered as one round, so that what it costs follows the lines, whatever the numbers of the rounds.
+//! `docs/FORMAT.md` tells what a trace line is, and `docs/PORT_RULES.md` the rules.
 #![tactic(auto)]
 
 mod entries;

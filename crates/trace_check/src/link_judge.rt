@@ -1,7 +1,7 @@
 //! The judge of one link: it is given what the link shows, round by round, and keeps what is broken first.
 //!
 //! Rounds in which nothing is offered come in rows that may be very long. A row is given to the checker as one round,
-//! which it breaks the same rule as.
+//! its first one: the others break no rule that this one doesn't.
 ghost use Rattle.std.specs.Prelude.{◌≡◌, ◌+◌, ◌<◌, ◌≤◌, ◌^◌, ◌∷◌, ◌++◌, [], ℕ, false, List, max, option_map, IfOk, OnOk, IfSome};
 ghost use Rattle.axi_beats.specs.Bus.{IsBusWidth};
 ghost use Rattle.axi_history.specs.PortRules.{axi4_history_fault};
@@ -21,14 +21,18 @@ use std::alloc::Global;
 pub(crate) struct LinkFault {
     /// The number of the line that shows the round, or 0 where none does.
     pub(crate) line: u32,
+    /// The round, from 1.
     pub(crate) round: u64,
+    /// 1 AW, 2 W, 3 B, 4 AR, 5 R.
     pub(crate) channel: u8,
+    /// The rule, from 1 to 12.
     pub(crate) rule: u8,
 }
 
 /// What is known of the rounds of one link from 1 to `rounds`.
 #[derive(Drop)]
 pub(crate) struct LinkJudge {
+    /// It was given these rounds up to the first broken one, each row of rounds without a line as one round.
     pub(crate) checker: PortChecker,
     pub(crate) rounds: u64,
     pub(crate) fault: Option<LinkFault>,
@@ -42,7 +46,8 @@ impl LinkJudge {
         ensures port { port_of result.checker ≡ port }
         ensures given { rounds_of result.checker ≡ 0 }
         ensures rounds { result.rounds ≡ 0 }
-        ensures judged { (shown : ℕ → Round) (number : ℕ → ℕ) → IsJudged result.checker result.fault result.rounds shown number }
+        ensures judged { (shown : ℕ → Round) (number : ℕ → ℕ) →
+            IsJudged result.checker result.fault result.rounds shown number }
     {
         LinkJudge {
             checker: PortChecker::new(alloc, port),
@@ -51,7 +56,7 @@ impl LinkJudge {
         }
     }
 
-    /// The next round, which the line with this number shows, or none where it is 0.
+    /// The next round, which the line with this number shows, or no line where it is 0.
     pub(crate) fn next(&mut self, r: &PortRound, line: u32) -> Result<(), NoMemory>
         requires kind { r.now.kind ≡ port_of self.old.checker }
         requires small { HasSmallAddresses r.now }
@@ -59,8 +64,10 @@ impl LinkJudge {
         ensures port { port_of self.new.checker ≡ port_of self.old.checker }
         ensures given { rounds_of self.new.checker ≤ rounds_of self.old.checker + 1 }
         ensures rounds { OnOk result (self.new.rounds ≡ r.now.round) }
-        ensures judged { OnOk result ((shown : ℕ → Round) (number : ℕ → ℕ) → r.now.round ≡ self.old.rounds + 1 → SameOffers (shown r.now.round) r.now → number r.now.round ≡ line →
-            IsJudged self.old.checker self.old.fault self.old.rounds shown number → IsJudged self.new.checker self.new.fault self.new.rounds shown number) }
+        ensures judged { OnOk result ((shown : ℕ → Round) (number : ℕ → ℕ) → r.now.round ≡ self.old.rounds + 1 →
+            SameOffers (shown r.now.round) r.now → number r.now.round ≡ line →
+            IsJudged self.old.checker self.old.fault self.old.rounds shown number →
+            IsJudged self.new.checker self.new.fault self.new.rounds shown number) }
     {
         if self.fault.is_none() {
             self.fault = fault_in(&mut self.checker, r, line)?;
@@ -76,8 +83,10 @@ impl LinkJudge {
         ensures port { port_of self.new.checker ≡ port_of self.old.checker }
         ensures given { rounds_of self.new.checker ≤ rounds_of self.old.checker + 1 }
         ensures rounds { OnOk result (self.new.rounds ≡ max self.old.rounds upto) }
-        ensures judged { OnOk result ((shown : ℕ → Round) (number : ℕ → ℕ) → ((n : ℕ) → self.old.rounds < n → n ≤ upto → IsQuiet (shown n) × (number n ≡ 0)) →
-            IsJudged self.old.checker self.old.fault self.old.rounds shown number → IsJudged self.new.checker self.new.fault self.new.rounds shown number) }
+        ensures judged { OnOk result ((shown : ℕ → Round) (number : ℕ → ℕ) →
+            ((n : ℕ) → self.old.rounds < n → n ≤ upto → IsQuiet (shown n) × (number n ≡ 0)) →
+            IsJudged self.old.checker self.old.fault self.old.rounds shown number →
+            IsJudged self.new.checker self.new.fault self.new.rounds shown number) }
     {
         if self.rounds < upto {
             self.next(&quiet_round(port, self.rounds + 1), 0)?;

@@ -20,13 +20,14 @@ pub(crate) struct LinkState {
 }
 
 impl LinkState {
-    /// A link of which no line was given.
+    /// A link of which no line was given, with a port of this kind.
     pub(crate) fn new(alloc: Global, port: PortKind) -> LinkState
         requires bus { IsBusWidth port.bus }
         ensures port { result.port ≡ port }
         ensures rounds { HasJudgedTo result.judge 0 }
         ensures serves { CanGoOn result.judge port }
-        ensures follows { (lines : List Round) (link : ℕ) → find (is_of_link link) lines ≡ None → Follows result.judge port lines link }
+        ensures follows { (lines : List Round) (link : ℕ) → find (is_of_link link) lines ≡ None →
+            Follows result.judge port lines link }
     {
         let judge = if port.lite {
             None
@@ -36,7 +37,8 @@ impl LinkState {
         LinkState { port, judge }
     }
 
-    /// The link with its next line, of this number.
+    /// The link with its next line, of this number. The checker is given at most two rounds for it: the row of rounds
+    /// without a line before it, and its own.
     pub(crate) fn with_line(self, r: &PortRound, line: u32) -> Result<LinkState, NoMemory>
         requires kind { r.now.kind ≡ self.port }
         requires serves { CanGoOn self.judge self.port }
@@ -44,7 +46,8 @@ impl LinkState {
         requires first { 1 ≤ r.now.round }
         ensures port { IfOk result (λ after. after.port ≡ self.port) }
         ensures rounds { IfOk result (λ after. HasJudgedTo after.judge r.now.round) }
-        ensures follows { IfOk result (λ after. (lines : List Round) → line ≡ length lines + 1 → HasNotJudged self.judge r.now.round →
+        ensures follows { IfOk result (λ after. (lines : List Round) → line ≡ length lines + 1 →
+            HasNotJudged self.judge r.now.round →
             Follows self.judge self.port lines r.now.link → Follows after.judge self.port (lines ++ r.now ∷ []) r.now.link) }
     {
         let LinkState { port, judge } = self;
@@ -64,7 +67,8 @@ impl LinkState {
     /// What the link breaks first up to the last round of the trace.
     pub(crate) fn fault(self, last: u64) -> Result<Option<LinkFault>, NoMemory>
         requires serves { CanGoOn self.judge self.port }
-        ensures tells { IfOk result (λ fault. (lines : List Round) (link : ℕ) → greatest_round lines ≡ last → self.port.lite ≡ false →
+        ensures tells { IfOk result (λ fault. (lines : List Round) (link : ℕ) → greatest_round lines ≡ last →
+            self.port.lite ≡ false →
             Follows self.judge self.port lines link → TellsOf fault self.port lines link) }
     {
         let LinkState { port, judge } = self;

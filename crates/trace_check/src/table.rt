@@ -29,7 +29,7 @@ pub(crate) struct TraceTable {
     pub(crate) lines: u32,
     /// The round and the link of the last one.
     pub(crate) last: Option<(u64, u32)>,
-    /// The number of the first one of an AXI4-Lite port.
+    /// The number of the first line of an AXI4-Lite port.
     pub(crate) lite: Option<u32>,
 }
 
@@ -46,12 +46,14 @@ impl TraceTable {
         }
     }
 
-    /// Takes a line, or answers that it is refused.
+    /// Takes a line, or answers that it is refused. A trace has fewer than 2^25 lines, as it has at most 2^24 bytes;
+    /// with two rounds a line no checker comes near its 2^31 rounds.
     pub(crate) fn take_line(&mut self, alloc: Global, line: &str) -> Result<bool, NoMemory>
         requires stands { (lines : List Round) × TableStands self.old lines }
         requires few { self.old.lines < 2 ^ 25 }
         ensures lines { IfOk result (λ taken. self.new.lines ≡ self.old.lines + (if taken then 1 else 0)) }
-        ensures taken { IfOk result (λ taken. (lines : List Round) → TableStands self.old lines → TakesLine taken self.new lines (taken_after lines (line_of line.now))) }
+        ensures taken { IfOk result (λ taken. (lines : List Round) → TableStands self.old lines →
+            TakesLine taken self.new lines (taken_after lines (line_of line.now))) }
     {
         match read_trace_line(line) {
             Ok(r) => self.take_round(alloc, &r),
@@ -59,12 +61,14 @@ impl TraceTable {
         }
     }
 
+    /// Takes what a trace line shows, or answers that it may not follow the lines before it.
     fn take_round(&mut self, alloc: Global, r: &PortRound) -> Result<bool, NoMemory>
         requires ranges { IsTraceRound r.now }
         requires stands { (lines : List Round) × TableStands self.old lines }
         requires few { self.old.lines < 2 ^ 25 }
         ensures lines { IfOk result (λ taken. self.new.lines ≡ self.old.lines + (if taken then 1 else 0)) }
-        ensures taken { IfOk result (λ taken. (lines : List Round) → TableStands self.old lines → TakesLine taken self.new lines (taken_after lines (Some r.now))) }
+        ensures taken { IfOk result (λ taken. (lines : List Round) → TableStands self.old lines →
+            TakesLine taken self.new lines (taken_after lines (Some r.now))) }
     {
         if !self.may_follow(r) {
             return Ok(false);
@@ -96,7 +100,8 @@ impl TraceTable {
         requires stands { (lines : List Round) × TableStands self.old lines × (may_follow lines r.now ≡ true) }
         requires few { self.old.lines < 2 ^ 25 }
         ensures lines { OnOk result (self.new.lines ≡ self.old.lines + 1) }
-        ensures stands { OnOk result ((lines : List Round) → TableStands self.old lines → may_follow lines r.now ≡ true → TableStands self.new (lines ++ r.now ∷ [])) }
+        ensures stands { OnOk result ((lines : List Round) → TableStands self.old lines →
+            may_follow lines r.now ≡ true → TableStands self.new (lines ++ r.now ∷ [])) }
     {
         let line = self.lines + 1;
         grow(&mut self.links, r.link)?;

@@ -14,10 +14,11 @@ use axi_beats::NoMemory;
 use plain_text::separator::is_separator;
 use std::alloc::Global;
 
-/// The verdict on a trace of at most 16,777,216 bytes, of which the lines before the first line `%%` count.
+/// The verdict on a trace of at most 16,777,216 bytes, of which the lines before the first line `%%` count, or all
+/// lines where there is none. NoMemory says that there was no memory to judge it.
 ///
-/// A text is read once, line by line. For each line the time follows its length and what is outstanding on its link; the
-/// memory follows the greatest link and what is outstanding.
+/// A text is read once, line by line. For each line the time follows its length and what is outstanding on its link;
+/// the memory follows the greatest link and what is outstanding.
 pub fn judge(alloc: Global, text: &str) -> Result<Verdict, NoMemory>
     requires short { length text.now ≤ 16777216 }
     ensures verdict { IfOk result (λ verdict. verdict ≡ verdict_of text.now) }
@@ -51,7 +52,8 @@ fn read_lines(table: &mut TraceTable, alloc: Global, text: &str) -> Result<Optio
 fn verdict_on(table: TraceTable) -> Result<Verdict, NoMemory>
     requires stands { (lines : List Round) × TableStands table lines }
     requires few { table.lines < 2 ^ 25 }
-    ensures verdict { IfOk result (λ verdict. (lines : List Round) → TableStands table lines → verdict ≡ verdict_of_ports lines (number_of is_lite lines)) }
+    ensures verdict { IfOk result (λ verdict. (lines : List Round) → TableStands table lines →
+        verdict ≡ verdict_of_ports lines (number_of is_lite lines)) }
 {
     let TraceTable {
         links,

@@ -7,11 +7,11 @@ pub struct PortFault {
     pub line: u32,
     /// The round, from 1.
     pub round: u64,
-    /// The link.
+    /// The link, below 4096.
     pub link: u32,
     /// The least channel on which a rule is broken: 1 AW, 2 W, 3 B, 4 AR, 5 R.
     pub channel: u8,
-    /// The least rule that is broken there.
+    /// The least rule that is broken there, from 1 to 12.
     pub rule: u8,
 }
 

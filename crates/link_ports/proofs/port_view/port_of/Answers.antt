@@ -1,3 +1,4 @@
+-- Each of the five channels is shown as its definition says.
 use Rattle.std.proofs.Common.{◌≡◌, [], ◌∷◌, List, Bool, Option, refl, ap₂, ◌∙◌}
 use Rattle.std.specs.Prelude.{option_map, slice_get}
 use Rattle.axi_history.specs.declared.port.Seen.{Seen}

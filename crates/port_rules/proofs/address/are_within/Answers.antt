@@ -1,3 +1,4 @@
+-- The two shifts ask what the definition asks by division.
 use Rattle.std.proofs.Common.{◌≡◌, ◌≤◌, ◌<◌, ◌/◌, ◌*◌, ◌%◌, ◌^◌, ◌==◌, ◌&&◌, leb, Bool, true, sym, ap, ◌∙◌, arith}
 use Rattle.std.proofs.Math.Nat.{div-mul-le_self, mod-eq_of_lt}
 use Rattle.std.proofs.lemmas.Bool.{eq-eqb}

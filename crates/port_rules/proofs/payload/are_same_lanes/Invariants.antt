@@ -1,3 +1,4 @@
+-- The lanes so far carry the same bytes.
 use Rattle.std.proofs.Common.{◌≡◌, ℕ, ◌<◌, get_or}
 use Rattle.port_rules.proofs.payload.are_same_lanes.Given as goal
 

@@ -1,3 +1,4 @@
+-- A link that has lines is judged to the end of the trace.
 use Rattle.std.proofs.Common.{subst, Option}
 use Rattle.trace_check.specs.Entries.{EntryStands}
 use Rattle.trace_check.specs.declared.link_state.LinkState.{LinkState}

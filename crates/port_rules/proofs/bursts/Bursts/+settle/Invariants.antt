@@ -1,3 +1,4 @@
+-- Each call takes one of the beats that have no address, so that the calls end.
 use Rattle.std.specs.VecDeque.{deque_len}
 use Rattle.port_rules.proofs.bursts.Bursts.+settle.Given as goal
 

@@ -1,3 +1,4 @@
+-- The last beat of a read removes it.
 use Rattle.std.proofs.Common.{sym, ◌∙◌, ap, leb}
 use Rattle.std.proofs.lemmas.Bool.{le-leb}
 use Rattle.port_rules.specs.declared.reads.Read.{Read}

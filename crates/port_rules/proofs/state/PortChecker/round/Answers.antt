@@ -1,3 +1,5 @@
+-- What a checker stands for after a round, in each of three cases: a rule was broken before, one is broken in this
+-- round, or none is.
 use Rattle.std.proofs.Common.{◌≡◌, ◌+◌, ℕ, Some, refl, sym, ap, ◌∙◌}
 use Rattle.port_rules.proofs.StandsLemmas.{stays_broken, broken_stays, breaks, broken_told, grows, legal_told, if_none, not_none}
 use Rattle.port_rules.proofs.state.PortChecker.round.Goals as goal

@@ -1,3 +1,4 @@
+-- What the judge keeps after the last row of rounds is what the link breaks first.
 use Rattle.std.proofs.Common.{subst, Option}
 use Rattle.trace_check.specs.Follows.{Follows}
 use Rattle.trace_check.specs.declared.link_judge.LinkJudge.{LinkJudge}

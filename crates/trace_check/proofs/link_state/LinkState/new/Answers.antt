@@ -1,3 +1,4 @@
+-- A new judge follows a link without lines; a port of AXI4-Lite has no judge.
 use Rattle.std.proofs.Common.{sym, subst, Option}
 use Rattle.trace_check.specs.Follows.{Follows}
 use Rattle.trace_check.specs.declared.link_judge.LinkJudge.{LinkJudge}

@@ -1,3 +1,4 @@
+-- The judge follows the link over the rounds before the line, and over the line.
 use Rattle.std.proofs.Common.{subst, Option}
 use Rattle.trace_check.specs.Follows.{Follows, HasNotJudged}
 use Rattle.trace_check.specs.declared.link_judge.LinkJudge.{LinkJudge}

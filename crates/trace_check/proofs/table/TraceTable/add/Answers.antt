@@ -1,3 +1,4 @@
+-- The place of a line's link can take the line, and the table then stands for the lines with this one.
 use Rattle.std.proofs.Common.{◌<◌, ◌+◌, ◌^◌, ◌∙◌, sym, subst, refl, arith, List, Option, Some, length}
 use Rattle.axi_history.specs.declared.port.PortRound.{PortRound}
 use Rattle.trace_check.specs.Entries.{EntryTakes, EntryFollows}

@@ -1,3 +1,4 @@
+-- The port that is kept of a link decides whether a line agrees with all lines before it.
 use Rattle.std.proofs.Common.{◌∙◌, sym, ap, subst, refl, List, Option, Some, None, true}
 use Rattle.trace_check.specs.Entries.{EntryStands}
 use Rattle.trace_check.specs.Table.{entry_of}
