@@ -5,8 +5,8 @@
 
 OTHER is a program with the same words and texts. It reads a topology before the line `%%`; the
 program has a built-in network, whose topology is put before OTHER's input. For each of COUNT seeds
-the traced run of random single words is compared, and then the verdicts on traces of random bursts
-and on traces in which lines were changed, dropped, doubled or swapped. The last line says how many
+the traced run of random bursts is compared, and then the verdicts on traces of random bursts and on
+traces in which lines were changed, dropped, doubled or swapped. The last line says how many
 agreed. Without OTHER, or before the program is built, nothing is compared.
 """
 import os
@@ -25,20 +25,10 @@ def call(program, words, data):
     return done.returncode, done.stdout
 
 
-def word_line(r):
-    """A line of traffic with one whole word."""
-    address = 4 * r.randrange(2048 if r.random() < 0.5 else 8)
-    choice = r.random()
-    if choice < 0.45:
-        data = ''.join('%02x' % r.randrange(256) for _ in range(4))
-        return 'write m %d 0x%x 4 incr %s' % (r.randrange(16), address, data)
-    if choice < 0.9:
-        return 'read m %d 0x%x 4 incr 1' % (r.randrange(16), address)
-    return 'wait m'
-
-
 def burst_line(r):
-    """A line of traffic with a legal burst of some kind."""
+    """A line of traffic: a burst of some kind, mostly a legal one, or now and then a wait."""
+    if r.random() < 0.05:
+        return 'wait m'
     size = r.choice([1, 2, 4])
     kind = r.choice(['fixed', 'incr', 'wrap'])
     beats = {'fixed': r.randint(1, 16), 'incr': r.randint(1, 20), 'wrap': r.choice([2, 4, 8])}[kind]
@@ -55,8 +45,8 @@ def burst_line(r):
     return 'write m %s %s' % (head, ' '.join(words))
 
 
-def traffic(r, line, most):
-    return ''.join(line(r) + '\n' for _ in range(r.randint(0, most))).encode()
+def traffic(r, most):
+    return ''.join(burst_line(r) + '\n' for _ in range(r.randint(0, most))).encode()
 
 
 def changed(r, trace):
@@ -105,9 +95,9 @@ def main():
 
     for number in range(count):
         r = random.Random(seed * 1000003 + number)
-        document = b'%%\n' + traffic(r, word_line, 40)
+        document = b'%%\n' + traffic(r, 40)
         compare('run', ['run', '--trace=all'], document, NETWORK + document)
-        trace = call(other, ['run', '--trace=all'], NETWORK + b'%%\n' + traffic(r, burst_line, 12))[1]
+        trace = call(other, ['run', '--trace=all'], NETWORK + b'%%\n' + traffic(r, 12))[1]
         compare('check', ['check'], trace, trace)
         for _ in range(4):
             broken = changed(r, trace)
