@@ -1,6 +1,7 @@
 pub mod Faults
 pub mod Transfers
 pub mod Memory
+pub mod Standard
 pub mod Status
 pub mod Refusals
 pub mod Traffic

@@ -1,6 +1,6 @@
 //! The source and the sink over the runtime's streams.
 
-ghost use Rattle.std.specs.Prelude.{◌≡◌, ◌<◌, ◌≤◌, length, None, is_err, IfOk, if◌then◌else◌};
+ghost use Rattle.std.specs.Prelude.{◌≡◌, ◌<◌, ◌≤◌, length, is_err, IfOk, if◌then◌else◌};
 ghost use Rattle.std.specs.Io.{ReadsAtMost};
 ghost use Rattle.std.specs.Io.KnownBytes.{ReadConsumes, WriteAppends};
 ghost use Rattle.axi_program.specs.Faults.{HasCause, next_count};
@@ -10,9 +10,10 @@ use super::source::{Failed, Source};
 use std::io::{Read, Write};
 use std::marker::Model;
 
-/// The program's input: a reader of the runtime, each of whose errors is counted. It tells nothing of the bytes.
+/// The program's input: a reader of the runtime, each of whose errors is counted. It passes on the reader's bytes, and
+/// tells what is left where the reader does.
 ///
-/// A clause sees it as the count of its faults.
+/// A clause sees it as the reader and the count of its faults.
 #[derive(Drop)]
 pub struct StdinSource<R: Read> {
     input: R,
@@ -20,34 +21,32 @@ pub struct StdinSource<R: Read> {
 }
 
 impl<R: Read> Model for StdinSource<R> {
-    ghost use Rattle.std.specs.Prelude.{ℕ};
+    ghost use Rattle.axi_program.specs.Standard.{Counted};
 
-    ghost Value = { ℕ };
+    ghost Value = { Counted R };
 
-    ghost view = { λ s. s.faults };
+    ghost view = { λ s. record { stream = s.input; faults = s.faults } };
 }
 
 impl<R: Read> StdinSource<R> {
     /// A source over the runtime's reader.
     pub fn new(input: R) -> StdinSource<R>
-        ensures { result ≡ 0 }
+        ensures { result ≡ record { stream = input; faults = 0 } }
     {
         StdinSource { input, faults: 0 }
     }
 }
 
 impl<R: Read> Source for StdinSource<R> {
-    ghost use Rattle.std.specs.Prelude.{None};
+    ghost left = { λ s. R.remaining s.stream };
 
-    ghost left = { λ _. None };
-
-    ghost faults = { λ s. s };
+    ghost faults = { λ s. s.faults };
 
     fn read(&mut self, buf: &mut [u8]) -> Result<usize, Failed>
         ensures bound { ReadsAtMost result buf.new }
-        ensures bytes { ReadConsumes None None result buf.new }
-        ensures cause { HasCause self.old self.new result }
-        ensures count { self.new ≡ (if is_err result then next_count self.old else self.old) }
+        ensures bytes { ReadConsumes (R.remaining self.old.stream) (R.remaining self.new.stream) result buf.new }
+        ensures cause { HasCause self.old.faults self.new.faults result }
+        ensures count { self.new.faults ≡ (if is_err result then next_count self.old.faults else self.old.faults) }
     {
         match self.input.read(buf) {
             Ok(count) => Ok(count),
@@ -60,9 +59,9 @@ impl<R: Read> Source for StdinSource<R> {
 }
 
 /// The program's output: a writer of the runtime, each of whose errors is counted, and each write that takes nothing.
-/// It tells nothing of the bytes.
+/// It passes on each piece, and tells what was written where the writer does.
 ///
-/// A clause sees it as the count of its faults.
+/// A clause sees it as the writer and the count of its faults.
 #[derive(Drop)]
 pub struct StdoutSink<W: Write> {
     output: W,
@@ -70,36 +69,34 @@ pub struct StdoutSink<W: Write> {
 }
 
 impl<W: Write> Model for StdoutSink<W> {
-    ghost use Rattle.std.specs.Prelude.{ℕ};
+    ghost use Rattle.axi_program.specs.Standard.{Counted};
 
-    ghost Value = { ℕ };
+    ghost Value = { Counted W };
 
-    ghost view = { λ s. s.faults };
+    ghost view = { λ s. record { stream = s.output; faults = s.faults } };
 }
 
 impl<W: Write> StdoutSink<W> {
     /// A sink over the runtime's writer.
     pub fn new(output: W) -> StdoutSink<W>
-        ensures { result ≡ 0 }
+        ensures { result ≡ record { stream = output; faults = 0 } }
     {
         StdoutSink { output, faults: 0 }
     }
 }
 
 impl<W: Write> Sink for StdoutSink<W> {
-    ghost use Rattle.std.specs.Prelude.{None};
+    ghost written = { λ s. W.contents s.stream };
 
-    ghost written = { λ _. None };
-
-    ghost faults = { λ s. s };
+    ghost faults = { λ s. s.faults };
 
     fn write(&mut self, piece: &[u8]) -> Result<usize, Failed>
         requires { 0 < length piece.now }
         ensures some { IfOk result (λ n. 0 < n) }
         ensures bound { IfOk result (λ n. n ≤ length piece.now) }
-        ensures bytes { WriteAppends None None result piece.now }
-        ensures cause { HasCause self.old self.new result }
-        ensures count { self.new ≡ (if is_err result then next_count self.old else self.old) }
+        ensures bytes { WriteAppends (W.contents self.old.stream) (W.contents self.new.stream) result piece.now }
+        ensures cause { HasCause self.old.faults self.new.faults result }
+        ensures count { self.new.faults ≡ (if is_err result then next_count self.old.faults else self.old.faults) }
     {
         match self.output.write(piece) {
             Ok(count) if count > 0 => Ok(count),
