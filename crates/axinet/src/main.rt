@@ -1,6 +1,10 @@
 //! The program: the words, the streams and the exit code of the process around the top call.
 #![tactic(auto)]
 
+ghost use Rattle.std.specs.Prelude.{◌≡◌};
+ghost use Rattle.std.specs.Process.{exit_status};
+ghost use Rattle.axi_program.specs.Status.{exit_code};
+
 use axi_program::{OpenGate, Status, StdinSource, StdoutSink, axinet};
 use std::env::{self, Env};
 use std::io;
@@ -33,11 +37,18 @@ fn complaint(status: &Status) -> Option<&'static str> {
     }
 }
 
+/// How the process ends for a status.
+fn exit(status: &Status) -> ExitCode
+    ensures { exit_status result ≡ exit_code status.now }
+{
+    ExitCode::from(status.code())
+}
+
 fn main(rt: HostRuntime) -> ExitCode {
     let status = call(&rt);
     if let Some(line) = complaint(&status) {
         // Where standard error fails there is nobody left to tell.
         let _ = rt.eprintln(line);
     }
-    ExitCode::from(status.code())
+    exit(&status)
 }
