@@ -1,6 +1,7 @@
 pub mod AddressLemmas
 pub mod BeatLemmas
 pub mod HeldLemmas
+pub mod KeptLemmas
 pub mod LegalLemmas
 pub mod PartingLemmas
 pub mod PayloadLemmas

@@ -2,6 +2,7 @@
 use Rattle.std.proofs.Common.{◌≡◌, ℕ, ◌+◌, ◌∷◌, [], ◌++◌, ◌&&◌, ◌||◌, Bool, true, false, List, length, suc, refl, sym, ap, add-one, ◌∙◌, inl, inr, arith}
 use Rattle.std.specs.Prelude.{zip, not, if◌then◌else◌}
 use Rattle.std.specs.List.{list_all}
+use Rattle.std.proofs.Math.Bool.{and-true, and_assoc}
 use Rattle.std.proofs.lemmas.Bool.{cases_Bool, and_parts, false≢true}
 use Rattle.axi_beats.specs.declared.beat.WBeat.{WBeat}
 use Rattle.axi_history.specs.declared.port.RawAddr.{RawAddr}
@@ -43,23 +44,23 @@ beat_left (a ∷ more) n (v ∷ beats) w =
       | inr e ↦ rw e (beat_left (a ∷ more) (suc n) beats w)
     ]
 
-late_left : (a : RawAddr) (n : ℕ) (beats : List WBeat) → parting (a ∷ []) n beats ≡ (if has_whole beats then record { addresses = []; passed = 0; beats = after_first beats } else record { addresses = a ∷ []; passed = n + length beats; beats = after_first beats })
-late_left a n [] = ap (λ (m : ℕ). record { addresses = a ∷ []; passed = m; beats = [] }) (let e : n ≡ n + 0 = omega arith in e)
-late_left a n (w ∷ beats) =
+early_left : (a : RawAddr) (n : ℕ) (beats : List WBeat) → parting (a ∷ []) n beats ≡ (if has_whole beats then record { addresses = []; passed = 0; beats = after_first beats } else record { addresses = a ∷ []; passed = n + length beats; beats = after_first beats })
+early_left a n [] = ap (λ (m : ℕ). record { addresses = a ∷ []; passed = m; beats = [] }) (let e : n ≡ n + 0 = omega arith in e)
+early_left a n (w ∷ beats) =
     elim (cases_Bool w.last) [
       | inl e ↦ rw e refl
-      | inr e ↦ rw e (late_left a (suc n) beats ∙ ap (λ (m : ℕ). if has_whole beats then record { addresses = []; passed = 0; beats = after_first beats } else record { addresses = a ∷ []; passed = m; beats = after_first beats }) (let s : suc n + length beats ≡ n + suc (length beats) = omega arith in s))
+      | inr e ↦ rw e (early_left a (suc n) beats ∙ ap (λ (m : ℕ). if has_whole beats then record { addresses = []; passed = 0; beats = after_first beats } else record { addresses = a ∷ []; passed = m; beats = after_first beats }) (let s : suc n + length beats ≡ n + suc (length beats) = omega arith in s))
     ]
 
-late_address : (a : RawAddr) (beats : List WBeat) → parting (a ∷ []) 0 beats ≡ with_address (record { addresses = []; passed = 0; beats = beats }) a
-late_address a beats =
+early_with_address : (a : RawAddr) (beats : List WBeat) → parting (a ∷ []) 0 beats ≡ with_address (record { addresses = []; passed = 0; beats = beats }) a
+early_with_address a beats =
     elim (cases_Bool (has_whole beats)) [
-      | inl e ↦ late_left a 0 beats ∙ rw e refl
-      | inr e ↦ late_left a 0 beats ∙ rw e (ap (λ (m : ℕ). record { addresses = a ∷ []; passed = m; beats = after_first beats }) (let z : 0 + length beats ≡ length beats = omega arith in z))
+      | inl e ↦ early_left a 0 beats ∙ rw e refl
+      | inr e ↦ early_left a 0 beats ∙ rw e (ap (λ (m : ℕ). record { addresses = a ∷ []; passed = m; beats = after_first beats }) (let z : 0 + length beats ≡ length beats = omega arith in z))
     ]
 
 pub address_left : (addresses : List RawAddr) (n : ℕ) (beats : List WBeat) (a : RawAddr) → (addresses ≡ [] → n ≡ 0) → parting (addresses ++ a ∷ []) n beats ≡ with_address (parting addresses n beats) a
-address_left [] n beats a start = rw (start refl) (late_address a beats)
+address_left [] n beats a start = rw (start refl) (early_with_address a beats)
 address_left (first ∷ more) n [] a start = refl
 address_left (first ∷ more) n (w ∷ beats) a start =
     elim (cases_Bool w.last) [
@@ -69,14 +70,6 @@ address_left (first ∷ more) n (w ∷ beats) a start =
 
 -- ---- a question about each beat
 
-and_assoc : (a b c : Bool) → (a && (b && c)) ≡ ((a && b) && c)
-and_assoc true b c = refl
-and_assoc false b c = refl
-
-and_one : (b : Bool) → (b && true) ≡ b
-and_one true = refl
-and_one false = refl
-
 guarded : (k x y : Bool) → k ≡ true → ((not k || x) && y) ≡ (x && y)
 guarded true x y e = refl
 guarded false x y e = absurd (false≢true e)
@@ -84,12 +77,12 @@ guarded false x y e = absurd (false≢true e)
 -- one more question at the end, in both cases of a beat before
 in_both : (q b : Bool) (p r : Parting) (x y x' y' : Bool) (new : Parting → Bool) → x' ≡ (x && new p) → y' ≡ (y && new r) →
     (q && (if b then x' else y')) ≡ ((q && (if b then x else y)) && new (if b then p else r))
-in_both q true p r x y x' y' new e f = ap (λ (c : Bool). q && c) e ∙ and_assoc q x (new p)
-in_both q false p r x y x' y' new e f = ap (λ (c : Bool). q && c) f ∙ and_assoc q y (new r)
+in_both q true p r x y x' y' new e f = ap (λ (c : Bool). q && c) e ∙ sym (and_assoc q x (new p))
+in_both q false p r x y x' y' new e f = ap (λ (c : Bool). q && c) f ∙ sym (and_assoc q y (new r))
 
 at_end : (q b x : Bool) → x ≡ true → (q && (if b then x else true)) ≡ q
-at_end q true x e = ap (λ (c : Bool). q && c) e ∙ and_one q
-at_end q false x e = and_one q
+at_end q true x e = ap (λ (c : Bool). q && c) e ∙ and-true q
+at_end q false x e = and-true q
 
 module _ (question : RawAddr → ℕ → WBeat → Bool) where
   abbrev pub judged : List RawAddr → ℕ → List WBeat → Bool
@@ -102,9 +95,9 @@ module _ (question : RawAddr → ℕ → WBeat → Bool) where
   now_of [] passed w = true
   now_of (a ∷ more) passed w = question a passed w
 
-  abbrev pub late_of : List RawAddr → List WBeat → RawAddr → Bool
-  late_of [] beats a = each_beat (question a) 0 (first_burst beats)
-  late_of (first ∷ more) beats a = true
+  abbrev pub early_of : List RawAddr → List WBeat → RawAddr → Bool
+  early_of [] beats a = each_beat (question a) 0 (first_burst beats)
+  early_of (first ∷ more) beats a = true
 
   nothing_judged : (more : List RawAddr) → judged more 0 [] ≡ true
   nothing_judged [] = refl
@@ -117,21 +110,21 @@ module _ (question : RawAddr → ℕ → WBeat → Bool) where
       in_both (question a n v) v.last (parting more 0 beats) (parting (a ∷ more) (suc n) beats) (judged more 0 beats) (judged (a ∷ more) (suc n) beats) (judged more 0 (beats ++ w ∷ [])) (judged (a ∷ more) (suc n) (beats ++ w ∷ []))
       (λ p. now_of p.addresses p.passed w) (beat_judged more 0 beats w) (beat_judged (a ∷ more) (suc n) beats w)
 
-  late_case : (a : RawAddr) (n : ℕ) (w : WBeat) (b x : Bool) (front : List WBeat) → x ≡ each_beat (question a) (suc n) front →
+  early_case : (a : RawAddr) (n : ℕ) (w : WBeat) (b x : Bool) (front : List WBeat) → x ≡ each_beat (question a) (suc n) front →
       (question a n w && (if b then true else x)) ≡ each_beat (question a) n (if b then w ∷ [] else w ∷ front)
-  late_case a n w true x front e = refl
-  late_case a n w false x front e = ap (λ (c : Bool). question a n w && c) e
+  early_case a n w true x front e = refl
+  early_case a n w false x front e = ap (λ (c : Bool). question a n w && c) e
 
-  late_judged : (a : RawAddr) (n : ℕ) (beats : List WBeat) → judged (a ∷ []) n beats ≡ each_beat (question a) n (first_burst beats)
-  late_judged a n [] = refl
-  late_judged a n (w ∷ beats) = late_case a n w w.last (judged (a ∷ []) (suc n) beats) (first_burst beats) (late_judged a (suc n) beats)
+  early_judged : (a : RawAddr) (n : ℕ) (beats : List WBeat) → judged (a ∷ []) n beats ≡ each_beat (question a) n (first_burst beats)
+  early_judged a n [] = refl
+  early_judged a n (w ∷ beats) = early_case a n w w.last (judged (a ∷ []) (suc n) beats) (first_burst beats) (early_judged a (suc n) beats)
 
-  pub address_judged : (addresses : List RawAddr) (n : ℕ) (beats : List WBeat) (a : RawAddr) → (addresses ≡ [] → n ≡ 0) → judged (addresses ++ a ∷ []) n beats ≡ (judged addresses n beats && late_of (parting addresses n beats).addresses (parting addresses n beats).beats a)
-  address_judged [] n beats a start = rw (start refl) (late_judged a 0 beats)
+  pub address_judged : (addresses : List RawAddr) (n : ℕ) (beats : List WBeat) (a : RawAddr) → (addresses ≡ [] → n ≡ 0) → judged (addresses ++ a ∷ []) n beats ≡ (judged addresses n beats && early_of (parting addresses n beats).addresses (parting addresses n beats).beats a)
+  address_judged [] n beats a start = rw (start refl) (early_judged a 0 beats)
   address_judged (first ∷ more) n [] a start = refl
   address_judged (first ∷ more) n (w ∷ beats) a start =
       in_both (question first n w) w.last (parting more 0 beats) (parting (first ∷ more) (suc n) beats) (judged more 0 beats) (judged (first ∷ more) (suc n) beats) (judged (more ++ a ∷ []) 0 beats) (judged (first ∷ (more ++ a ∷ [])) (suc n) beats)
-      (λ p. late_of p.addresses p.beats a) (address_judged more 0 beats a (λ _. refl)) (address_judged (first ∷ more) (suc n) beats a (λ nil. absurd cc))
+      (λ p. early_of p.addresses p.beats a) (address_judged more 0 beats a (λ _. refl)) (address_judged (first ∷ more) (suc n) beats a (λ nil. absurd cc))
 
   -- ---- the same question, asked burst by burst
 
@@ -146,13 +139,13 @@ module _ (question : RawAddr → ℕ → WBeat → Bool) where
   from_zero bus (a ∷ more) (burst ∷ parts) keep = guarded (keeps_address_rules bus a) _ _ (and_parts _ _ keep).0
 
   joined : (bus : ℕ) (a : RawAddr) (more : List RawAddr) (n : ℕ) (w : WBeat) (parts : List (List WBeat)) → each_from bus n (a ∷ more) (joined_to_first w parts) ≡ (question a n w && each_from bus (suc n) (a ∷ more) parts)
-  joined bus a [] n w [] = and_one (question a n w && true)
-  joined bus a (b ∷ more) n w [] = and_one (question a n w && true)
-  joined bus a more n w (burst ∷ parts) = sym (and_assoc (question a n w) (each_beat (question a) (suc n) burst) (each_addressed_beat bus question (zip more parts)))
+  joined bus a [] n w [] = and-true (question a n w && true)
+  joined bus a (b ∷ more) n w [] = and-true (question a n w && true)
+  joined bus a more n w (burst ∷ parts) = and_assoc (question a n w) (each_beat (question a) (suc n) burst) (each_addressed_beat bus question (zip more parts))
 
   from_case : (bus : ℕ) (a : RawAddr) (more : List RawAddr) (n : ℕ) (w : WBeat) (b x y : Bool) (parts : List (List WBeat)) → each_addressed_beat bus question (zip more parts) ≡ x → each_from bus (suc n) (a ∷ more) parts ≡ y →
       each_from bus n (a ∷ more) (if b then (w ∷ []) ∷ parts else joined_to_first w parts) ≡ (question a n w && (if b then x else y))
-  from_case bus a more n w true x y parts e f = ap (λ (c : Bool). c && each_addressed_beat bus question (zip more parts)) (and_one (question a n w)) ∙ ap (λ (c : Bool). question a n w && c) e
+  from_case bus a more n w true x y parts e f = ap (λ (c : Bool). c && each_addressed_beat bus question (zip more parts)) (and-true (question a n w)) ∙ ap (λ (c : Bool). question a n w && c) e
   from_case bus a more n w false x y parts e f = joined bus a more n w parts ∙ ap (λ (c : Bool). question a n w && c) f
 
   pub judged_from : (bus : ℕ) (addresses : List RawAddr) (n : ℕ) (beats : List WBeat) → list_all (keeps_address_rules bus) addresses ≡ true → each_from bus n addresses (bursts beats) ≡ judged addresses n beats

@@ -11,7 +11,7 @@ use Rattle.port_rules.specs.StandsFor.{Held}
 use Rattle.port_rules.specs.Unanswered.{writes_asked, writes_answered, reads_asked, reads_answered, unanswered_writes, unanswered_reads}
 use Rattle.port_rules.proofs.LegalLemmas.{whole_beginning}
 use Rattle.port_rules.proofs.ReadLemmas.{reads_start}
-use Rattle.port_rules.proofs.RoundLemmas.{kept}
+use Rattle.port_rules.proofs.KeptLemmas.{kept}
 use Rattle.port_rules.proofs.WriteLemmas.{writes_start, writes_counted}
 
 writes_held : (bus : ℕ) (k : Kept) (h : List PortRound) → Held bus k h → length k.writes.issued + length k.writes.whole + writes_answered h ≡ writes_asked h

@@ -3,7 +3,7 @@
 use Rattle.std.specs.Prelude.{ℕ, List, Option, Some, None, nat_lt, if◌then◌else◌}
 use Rattle.axi_beats.specs.declared.beat.WBeat.{WBeat}
 use Rattle.axi_history.specs.declared.port.RawAddr.{RawAddr}
-use Rattle.port_rules.specs.Kept.{late_fault, addresses_with, passed_with, beats_with, beat_fault, addresses_after, passed_after, beats_after}
+use Rattle.port_rules.specs.Kept.{early_beats_fault, addresses_with, passed_with, beats_with, beat_fault, addresses_after, passed_after, beats_after}
 
 -- the lesser of two rules
 abbrev pub lesser : Option ℕ → Option ℕ → Option ℕ
@@ -12,9 +12,9 @@ lesser (Some rule) None = Some rule
 lesser (Some rule) (Some other) = if nat_lt other rule then Some other else Some rule
 
 -- where the round offers an address that did not wait, and where it doesn't
-abbrev pub late_fault_of : ℕ → Option RawAddr → List RawAddr → List WBeat → Option ℕ
-late_fault_of bus None addresses beats = None
-late_fault_of bus (Some a) addresses beats = late_fault bus addresses beats a
+abbrev pub early_beats_fault_of : ℕ → Option RawAddr → List RawAddr → List WBeat → Option ℕ
+early_beats_fault_of bus None addresses beats = None
+early_beats_fault_of bus (Some a) addresses beats = early_beats_fault bus addresses beats a
 
 abbrev pub addresses_then : Option RawAddr → List RawAddr → List WBeat → List RawAddr
 addresses_then None addresses beats = addresses
@@ -48,4 +48,4 @@ beats_done (Some w) addresses beats = beats_after addresses beats w
 -- the least of rules 9 and 10 that both break
 abbrev pub data_fault : ℕ → Option RawAddr → Option WBeat → List RawAddr → ℕ → List WBeat → Option ℕ
 data_fault bus aw w addresses passed beats =
-    lesser (late_fault_of bus aw addresses beats) (beat_fault_of bus w (addresses_then aw addresses beats) (passed_then aw addresses beats passed))
+    lesser (early_beats_fault_of bus aw addresses beats) (beat_fault_of bus w (addresses_then aw addresses beats) (passed_then aw addresses beats passed))

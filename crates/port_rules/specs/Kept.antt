@@ -32,9 +32,9 @@ beats_fault bus a n strobes beats =
 
 -- A new address. It breaks rule 9 or 10 only by beats that came before it, and has such beats only where no earlier
 -- address lacks beats.
-abbrev pub late_fault : ℕ → List RawAddr → List WBeat → RawAddr → Option ℕ
-late_fault bus [] beats a = beats_fault bus a 0 true (first_burst beats)
-late_fault bus (first ∷ more) beats a = None
+abbrev pub early_beats_fault : ℕ → List RawAddr → List WBeat → RawAddr → Option ℕ
+early_beats_fault bus [] beats a = beats_fault bus a 0 true (first_burst beats)
+early_beats_fault bus (first ∷ more) beats a = None
 
 abbrev pub addresses_with : List RawAddr → List WBeat → RawAddr → List RawAddr
 addresses_with [] beats a = if has_whole beats then [] else a ∷ []

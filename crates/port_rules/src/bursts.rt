@@ -4,9 +4,9 @@ ghost use Rattle.std.specs.List.{list_all};
 ghost use Rattle.std.specs.VecDeque.{deque_len, deque_capacity};
 ghost use Rattle.axi_beats.specs.Bus.{IsBusWidth};
 ghost use Rattle.axi_history.specs.PortRules.{has_strobes_on_valid_lanes};
-ghost use Rattle.port_rules.specs.Judged.{lesser as lesser_of, late_fault_of, addresses_then, passed_then, beats_then, beat_fault_of, addresses_done, passed_done, beats_done, data_fault};
+ghost use Rattle.port_rules.specs.Judged.{lesser as lesser_of, early_beats_fault_of, addresses_then, passed_then, beats_then, beat_fault_of, addresses_done, passed_done, beats_done, data_fault};
 ghost use Rattle.std.specs.Option.{ForSome};
-ghost use Rattle.port_rules.specs.Kept.{is_usable, first_burst, after_first, has_whole, beats_fault, late_fault, addresses_with, passed_with, beats_with, beat_fault, addresses_after, passed_after, beats_after};
+ghost use Rattle.port_rules.specs.Kept.{is_usable, first_burst, after_first, has_whole, beats_fault, early_beats_fault, addresses_with, passed_with, beats_with, beat_fault, addresses_after, passed_after, beats_after};
 
 use crate::address::{last_fits, strobes_fit};
 use axi_beats::{NoMemory, WBeat};
@@ -68,7 +68,7 @@ impl Bursts {
         requires room { deque_len self.old.addresses < deque_capacity self.old.addresses }
         ensures bus { self.new.bus ≡ self.old.bus }
         ensures fault { result ≡
-            late_fault self.old.bus self.old.addresses.items self.old.beats.items a.now }
+            early_beats_fault self.old.bus self.old.addresses.items self.old.beats.items a.now }
         ensures addresses { result ≢ Some 9 →
             self.new.addresses.items ≡
             addresses_with self.old.addresses.items self.old.beats.items a.now }
@@ -151,12 +151,12 @@ impl Bursts {
             let beats = beats_then aw.now self.old.addresses.items self.old.beats.items in
             IfNone result (self.new.beats.items ≡ beats_done w.now addresses beats) }
     {
-        let late = self.add_address(aw);
-        if late == Some(9) {
-            return late;
+        let early = self.add_address(aw);
+        if early == Some(9) {
+            return early;
         }
         let now = self.add_beat(w);
-        lesser(late, now)
+        lesser(early, now)
     }
 
     /// Adds the address of a round, if there is a new one.
@@ -165,7 +165,7 @@ impl Bursts {
         requires room { deque_len self.old.addresses < deque_capacity self.old.addresses }
         ensures bus { self.new.bus ≡ self.old.bus }
         ensures fault { result ≡
-            late_fault_of self.old.bus aw.now self.old.addresses.items self.old.beats.items }
+            early_beats_fault_of self.old.bus aw.now self.old.addresses.items self.old.beats.items }
         ensures addresses { result ≢ Some 9 →
             self.new.addresses.items ≡
             addresses_then aw.now self.old.addresses.items self.old.beats.items }
