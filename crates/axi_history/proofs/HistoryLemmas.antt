@@ -1,12 +1,13 @@
--- Histories with more rounds: what a channel has transferred, what waits on it, and what is broken first.
-use Rattle.std.proofs.Common.{◌≡◌, ℕ, ◌∷◌, [], ◌++◌, List, Option, Some, None, refl, sym, ap, ◌∙◌, append_assoc}
-use Rattle.std.specs.Option.{option_to_list}
+-- What is broken first, and histories with more rounds.
+use Rattle.std.proofs.Common.{◌≡◌, ℕ, ◌∷◌, [], ◌++◌, Bool, true, false, List, Option, Some, None, refl, sym, ap, ◌∙◌, append_assoc}
+use Rattle.std.specs.Prelude.{if◌then◌else◌}
+use Rattle.std.specs.Option.{option_map, option_to_list}
 use Rattle.std.proofs.lemmas.List.{append-nil}
 use Rattle.std.proofs.lemmas.List.Elements.{filter_map-append}
 use Rattle.axi_history.specs.declared.port.PortRound.{PortRound}
 use Rattle.axi_history.specs.declared.port.Seen.{Seen}
 use Rattle.axi_history.specs.PortHistory.{transfer_of, wait_of, transferred, waiting}
-use Rattle.axi_history.specs.PortRules.{or_else, axi4_fault, first_fault, axi4_history_fault}
+use Rattle.axi_history.specs.PortRules.{least_broken, or_else, on_channel, axi4_fault, first_fault, axi4_history_fault}
 
 -- ---- the first of some answers
 
@@ -22,6 +23,28 @@ module _ {X : Type 0} where
   pub else_parts : (a b : Option X) → or_else a b ≡ None → (a ≡ None) × (b ≡ None)
   else_parts None b e = (refl, e)
   else_parts (Some x) b e = absurd cc
+
+-- ---- the rules that are broken
+
+choose : (kept : Bool) (rule : ℕ) (z x y : Option ℕ) → z ≡ or_else x y → (if kept then z else Some rule) ≡ or_else (if kept then x else Some rule) y
+choose true rule z x y e = e
+choose false rule z x y e = refl
+
+pub least_append : (xs ys : List (ℕ × Bool)) → least_broken (xs ++ ys) ≡ or_else (least_broken xs) (least_broken ys)
+least_append [] ys = refl
+least_append (x ∷ xs) ys = choose x.1 x.0 (least_broken (xs ++ ys)) (least_broken xs) (least_broken ys) (least_append xs ys)
+
+-- a channel on which no rule is broken, and five of them
+pub channel_kept : (channel : ℕ) (rules : List (ℕ × Bool)) → on_channel channel rules ≡ None → least_broken rules ≡ None
+channel_kept channel rules none = go (least_broken rules) none
+  where
+    go : (o : Option ℕ) → option_map {U = ℕ × ℕ} (λ rule. (channel, rule)) o ≡ None → o ≡ None
+    go None e = refl
+    go (Some rule) e = absurd cc
+
+pub channels_kept : (aw w b ar r : List (ℕ × Bool)) → least_broken aw ≡ None → least_broken w ≡ None → least_broken b ≡ None → least_broken ar ≡ None → least_broken r ≡ None →
+    or_else (on_channel 1 aw) (or_else (on_channel 2 w) (or_else (on_channel 3 b) (or_else (on_channel 4 ar) (on_channel 5 r)))) ≡ None
+channels_kept aw w b ar r no_aw no_w no_b no_ar no_r = rw (no_aw, no_w, no_b, no_ar, no_r) refl
 
 -- ---- one more round of a channel
 

@@ -28,7 +28,7 @@ own_answers_within asked replies t order =
     )
 
 -- a write asks for one answer
-beats_of-writes : (addresses : List Addr) → beats_of (map write_asked addresses) ≡ length addresses
+pub beats_of-writes : (addresses : List Addr) → beats_of (map write_asked addresses) ≡ length addresses
 beats_of-writes [] = refl
 beats_of-writes (a ∷ addresses) = omega (arith, beats_of-writes addresses)
 

@@ -12,7 +12,7 @@ use Rattle.axi_trail.proofs.StreamFacts.{prefix_nil}
 use Rattle.axi_trail.proofs.WaitingFacts.{pending-past, pending-within, complete-past, complete-within}
 
 module _ {X : Type 0} where
-  agree_tail : (x y : X) (xs ys : List X) → Agree (x ∷ xs) (y ∷ ys) → Agree xs ys
+  pub agree_tail : (x y : X) (xs ys : List X) → Agree (x ∷ xs) (y ∷ ys) → Agree xs ys
   agree_tail x y xs ys agree = record { same = λ place past in_xs in_ys. agree.same (suc place) past (omega arith) (omega arith) }
 
   -- of two lists that agree, the shorter is the beginning of the longer

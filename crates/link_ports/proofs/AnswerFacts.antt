@@ -11,6 +11,7 @@ use Rattle.axi_beats.specs.declared.beat.RBeat.{RBeat}
 use Rattle.axi_history.specs.PortHistory.{beats_asked, ends_a_request}
 use Rattle.axi_history.specs.PortRules.{writes_of, responses_of, read_beats_of, reads_of}
 use Rattle.axi_trail.specs.Words.{Mark, InOrderOfId, burst_marks, marks, completed, write_asked, burst_asked, write_reply, read_reply, mark_of_data, mark_of_reply, id_of_address, id_of_asked, id_of_reply, beats_of}
+use Rattle.axi_trail.proofs.DataFacts.{beats_of-writes}
 use Rattle.axi_trail.proofs.FilterFacts.{of_key-map, of_key-append, of_key-cons, filter_map, length-burst_marks, length-marks}
 use Rattle.axi_trail.proofs.PrefixFacts.{prefix_length}
 use Rattle.flight.specs.Entries.{of_key}
@@ -126,10 +127,6 @@ module _ (addresses : List Addr) (taken : List RBeat) (r : RBeat) (later : List 
       ∙ ap (λ reads. ends_a_request reads (length (read_beats_of r.id (map seen_read_beat taken)))) (sym (seen_reads r.id addresses))
 
 -- ---- write responses
-
-beats_of-writes : (addresses : List Addr) → beats_of (map write_asked addresses) ≡ length addresses
-beats_of-writes [] = refl
-beats_of-writes (a ∷ addresses) = omega (arith, beats_of-writes addresses)
 
 -- a beat of write data is seen as it is
 pub itself : (beats : List WBeat) → map seen_itself beats ≡ beats

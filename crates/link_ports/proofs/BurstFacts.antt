@@ -8,6 +8,7 @@ use Rattle.axi_history.specs.PortRules.{each_beat, has_last_where_due}
 use Rattle.axi_trail.specs.Streams.{IsPrefix, Agree}
 use Rattle.axi_trail.specs.Words.{Mark, burst_marks, mark_of_data, number_of_data}
 use Rattle.axi_trail.proofs.FilterFacts.{of_key-cons, of_key-skip}
+use Rattle.axi_trail.proofs.MarkFacts.{agree_tail}
 use Rattle.axi_trail.proofs.PrefixFacts.{prefix_cons, prefix_same}
 use Rattle.flight.specs.Entries.{of_key}
 
@@ -20,9 +21,6 @@ pub record FirstBurst (number len : ℕ) (beats : List WBeat) (marked : List Mar
   pub own : IsPrefix (map mark_of_data burst) (burst_marks number len)
   pub ended : (others ≡ []) ⊎ (length burst ≡ suc len)
   pub agree : Agree (map mark_of_data others) marked
-
-agree_tail : {X : Type 0} (x y : X) (xs ys : List X) → Agree (x ∷ xs) (y ∷ ys) → Agree xs ys
-agree_tail x y xs ys agree = record { same = λ place past in_xs in_ys. agree.same (suc place) past (omega arith) (omega arith) }
 
 agree_head : {X : Type 0} (x y : X) (xs ys : List X) → Agree (x ∷ xs) (y ∷ ys) → x ≡ y
 agree_head x y xs ys agree = agree.same 0 x (omega arith) (omega arith)

@@ -11,6 +11,7 @@ use Rattle.axi_history.specs.declared.port.PortKind.{PortKind}
 use Rattle.axi_history.specs.declared.port.PortRound.{PortRound}
 use Rattle.axi_history.specs.declared.port.RawAddr.{RawAddr}
 use Rattle.axi_history.specs.PortRules.{last_is_on_the_last_beat, strobes_are_on_valid_lanes, same_address, same_data, same_response, same_read, handshake_rules, least_broken, rules_of_offer, address_rules, response_rules, read_beat_rules, response_follows_write, read_beat_follows_address, read_last_is_on_the_last_beat, writes_of, responses_of, reads_of, read_beats_of}
+use Rattle.axi_history.proofs.SameLemmas.{address_itself, data_itself, response_itself, read_itself}
 use Rattle.axi_link.specs.LinkView.{LinkView}
 use Rattle.axi_link.specs.Moves.{takes_from}
 use Rattle.axi_link.specs.Table.{link_of}
@@ -29,7 +30,7 @@ use Rattle.link_ports.specs.PortView.{seen_address, seen_itself, seen_response, 
 use Rattle.link_ports.proofs.AddressFacts.{legal_kept, last_is_legal, never_exokay}
 use Rattle.link_ports.proofs.AnswerFacts.{itself, response_follows, read_follows, read_ends}
 use Rattle.link_ports.proofs.DataFacts.{lasts_kept, strobes_kept, left_at_first}
-use Rattle.link_ports.proofs.HandshakeFacts.{data_itself, address_itself, response_itself, read_itself, handshake_kept}
+use Rattle.link_ports.proofs.HandshakeFacts.{handshake_kept}
 use Rattle.link_ports.proofs.ViewFacts.{waiting_are_offered_again, transferred_are_trails, offered_are_trails}
 
 pub grows_itself : (now : Progress) → Grows now now

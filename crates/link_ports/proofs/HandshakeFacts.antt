@@ -1,13 +1,6 @@
 -- What is offered again is the same, so rules 1 and 2 are kept.
-use Rattle.std.proofs.Common.{◌≡◌, ℕ, Bool, true, false, ◌==◌, cond, List, [], ◌∷◌, ◌++◌, Option, Some, None, refl, sym, ap, subst}
-use Rattle.std.proofs.lemmas.Bool.{and_from, eq-eqb}
-use Rattle.std.specs.Bool.{beq}
-use Rattle.axi_beats.specs.declared.beat.Tag.{Tag}
-use Rattle.axi_beats.specs.declared.beat.WBeat.{WBeat}
-use Rattle.axi_history.specs.declared.port.RawAddr.{RawAddr}
-use Rattle.axi_history.specs.declared.port.RawB.{RawB}
-use Rattle.axi_history.specs.declared.port.RawR.{RawR}
-use Rattle.axi_history.specs.PortRules.{same_tag, same_address, same_bytes, same_data, same_response, same_read, handshake_rules, least_broken}
+use Rattle.std.proofs.Common.{◌≡◌, ℕ, Bool, true, cond, List, ◌++◌, Option, Some, None, refl, sym, ap, subst}
+use Rattle.axi_history.specs.PortRules.{handshake_rules, least_broken}
 use Rattle.link_ports.specs.PortLaws.{IsOffered}
 
 module _ {Y : Type 0} (same : Y → Y → Bool) (itself : (y : Y) → same y y ≡ true) where

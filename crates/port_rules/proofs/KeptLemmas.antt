@@ -15,7 +15,7 @@ use Rattle.axi_history.specs.declared.port.RawR.{RawR}
 use Rattle.axi_history.specs.declared.port.Seen.{Seen}
 use Rattle.axi_history.specs.PortHistory.{offer_of, transfer_of, transferred, waiting, offered, ends_a_request, on_aw, on_w, on_b, on_ar, on_r}
 use Rattle.axi_history.specs.PortRules.{same_data, same_response, same_read, handshake_rules, least_broken, or_else, rules_of_offer, keeps_address_rules, last_is_on_the_last_beat, strobes_are_on_valid_lanes, response_rules, read_beat_rules, is_not_exokay, responses_of, writes_of, read_beats_of, reads_of, write_address_rules, write_data_rules, write_response_rules, read_address_rules, read_data_rules, axi4_fault}
-use Rattle.axi_history.proofs.HistoryLemmas.{else_parts, transferred_more, waiting_more}
+use Rattle.axi_history.proofs.HistoryLemmas.{else_parts, least_append, channel_kept, transferred_more, waiting_more}
 use Rattle.port_rules.specs.Judged.{addresses_then, passed_then, beats_then, addresses_done, passed_done, beats_done}
 use Rattle.port_rules.specs.Offers.{new_offer}
 use Rattle.port_rules.specs.Parting.{Parting, parting}
@@ -28,7 +28,7 @@ use Rattle.port_rules.specs.StandsFor.{Held}
 use Rattle.port_rules.proofs.HeldLemmas.{data_left}
 use Rattle.port_rules.proofs.WriteLemmas.{last_kept, address_kept as write_address_kept, response_kept}
 use Rattle.port_rules.proofs.ReadLemmas.{read_kept, address_kept}
-use Rattle.port_rules.proofs.RoundLemmas.{Grown, grown, on_none, least_append}
+use Rattle.port_rules.proofs.RoundLemmas.{Grown, grown}
 
 kept_eight : (x y : Bool) → least_broken ((8, x) ∷ (11, y) ∷ []) ≡ None → y ≡ true
 kept_eight true true e = refl
@@ -165,8 +165,8 @@ kept bus k h r held none =
     let p3 = else_parts (on_fault 3 (least_broken (write_response_rules h r))) (or_else (on_fault 4 (least_broken (read_address_rules bus h r))) (on_fault 5 (least_broken (read_data_rules h r)))) p2.1 in
     let p4 = else_parts (on_fault 4 (least_broken (read_address_rules bus h r))) (on_fault 5 (least_broken (read_data_rules h r))) p3.1 in
     let beats = (9, last_is_on_the_last_beat bus (h ++ r ∷ [])) ∷ (10, strobes_are_on_valid_lanes bus (h ++ r ∷ [])) ∷ [] in
-    let w = else_parts (least_broken (handshake_rules same_data (waiting on_w h) (offer_of r.w))) (least_broken beats) (sym (least_append (handshake_rules same_data (waiting on_w h) (offer_of r.w)) beats) ∙ on_none 2 (least_broken (write_data_rules bus h r)) p2.0) in
-    let g : Grown bus h r = grown bus k h r held (on_none 1 (least_broken (write_address_rules bus h r)) p1.0) w.0 in
+    let w = else_parts (least_broken (handshake_rules same_data (waiting on_w h) (offer_of r.w))) (least_broken beats) (sym (least_append (handshake_rules same_data (waiting on_w h) (offer_of r.w)) beats) ∙ channel_kept 2 (write_data_rules bus h r) p2.0) in
+    let g : Grown bus h r = grown bus k h r held (channel_kept 1 (write_address_rules bus h r) p1.0) w.0 in
     let both = kept_nine (last_is_on_the_last_beat bus (h ++ r ∷ [])) (strobes_are_on_valid_lanes bus (h ++ r ∷ [])) w.1 in
     record {
       aw = sym (waiting_more on_aw h r);
@@ -178,6 +178,6 @@ kept bus k h r held none =
       usable = subst (λ (xs : List RawAddr). list_all (keeps_address_rules bus) xs ≡ true) (sym g.aw) g.usable;
       nine = both.0;
       ten = both.1;
-      writes = writes_kept bus k h r held (on_none 3 (least_broken (write_response_rules h r)) p3.0);
-      reads = reads_kept bus k h r held (on_none 5 (least_broken (read_data_rules h r)) p4.1);
+      writes = writes_kept bus k h r held (channel_kept 3 (write_response_rules h r) p3.0);
+      reads = reads_kept bus k h r held (channel_kept 5 (read_data_rules h r) p4.1);
     }

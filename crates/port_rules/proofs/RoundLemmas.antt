@@ -1,6 +1,6 @@
 -- A round is judged by what is kept as by the rules on whole histories.
-use Rattle.std.proofs.Common.{◌≡◌, ℕ, ◌∷◌, [], ◌++◌, Bool, true, false, List, Option, Some, None, refl, sym, ap, ◌∙◌}
-use Rattle.std.specs.Prelude.{count_by, zip, if◌then◌else◌}
+use Rattle.std.proofs.Common.{◌≡◌, ℕ, ◌∷◌, [], ◌++◌, true, List, Option, Some, None, refl, sym, ap, ◌∙◌}
+use Rattle.std.specs.Prelude.{count_by, zip}
 use Rattle.std.specs.Option.{option_to_list}
 use Rattle.std.specs.List.{list_all}
 use Rattle.std.proofs.lemmas.Bool.{and_from}
@@ -12,7 +12,7 @@ use Rattle.axi_history.specs.declared.port.RawB.{RawB}
 use Rattle.axi_history.specs.declared.port.RawR.{RawR}
 use Rattle.axi_history.specs.PortHistory.{offer_of, transferred, waiting, offered, bursts, on_aw, on_w, on_b, on_ar, on_r}
 use Rattle.axi_history.specs.PortRules.{same_address, same_data, same_response, same_read, handshake_rules, least_broken, or_else, rules_of_offer, address_rules, keeps_address_rules, has_last_where_due, has_strobes_on_valid_lanes, last_is_on_the_last_beat, strobes_are_on_valid_lanes, each_addressed_beat, response_rules, read_beat_rules, write_address_rules, write_data_rules, write_response_rules, read_address_rules, read_data_rules, axi4_fault}
-use Rattle.axi_history.proofs.HistoryLemmas.{else_parts}
+use Rattle.axi_history.proofs.HistoryLemmas.{else_parts, least_append, channel_kept}
 use Rattle.axi_history.proofs.SameLemmas.{addresses_equal, data_equal}
 use Rattle.port_rules.specs.Kept.{response_fault}
 use Rattle.port_rules.specs.Reads.{read_fault}
@@ -26,24 +26,11 @@ use Rattle.port_rules.proofs.HeldLemmas.{offered_more, data_told}
 use Rattle.port_rules.proofs.WriteLemmas.{judges_response}
 use Rattle.port_rules.proofs.ReadLemmas.{judges_read}
 
--- ---- the least of some rules
-
+-- what counts only where nothing is answered before
 module _ {X : Type 0} where
   else_same : (a b c : Option X) → (a ≡ None → b ≡ c) → or_else a b ≡ or_else a c
   else_same None b c same = same refl
   else_same (Some x) b c same = refl
-
-pub on_none : (channel : ℕ) (fault : Option ℕ) → on_fault channel fault ≡ None → fault ≡ None
-on_none channel None e = refl
-on_none channel (Some rule) e = absurd cc
-
-choose : (kept : Bool) (rule : ℕ) (z x y : Option ℕ) → z ≡ or_else x y → (if kept then z else Some rule) ≡ or_else (if kept then x else Some rule) y
-choose true rule z x y e = e
-choose false rule z x y e = refl
-
-pub least_append : (xs ys : List (ℕ × Bool)) → least_broken (xs ++ ys) ≡ or_else (least_broken xs) (least_broken ys)
-least_append [] ys = refl
-least_append (x ∷ xs) ys = choose x.1 x.0 (least_broken (xs ++ ys)) (least_broken xs) (least_broken ys) (least_append xs ys)
 
 -- ---- what the round before has left waiting
 
@@ -121,7 +108,7 @@ told bus k h r held =
     let after_w = λ (b ar rd : Option ℕ). or_else (on_fault 3 b) (or_else (on_fault 4 ar) (on_fault 5 rd)) in
     ap (λ (o : Option ℕ). or_else (on_fault 1 o) (or_else (on_fault 2 (w_fault bus k r)) (or_else (on_fault 3 (b_fault k r)) (or_else (on_fault 4 (ar_fault bus k r)) (on_fault 5 (r_fault k r)))))) (aw_same bus k h r held)
     ∙ else_same (on_fault 1 one) _ _ (λ none.
-    ap (λ (o : Option ℕ). or_else (on_fault 2 o) (or_else (on_fault 3 (b_fault k r)) (or_else (on_fault 4 (ar_fault bus k r)) (on_fault 5 (r_fault k r))))) (w_same bus k h r held (on_none 1 one none))
+    ap (λ (o : Option ℕ). or_else (on_fault 2 o) (or_else (on_fault 3 (b_fault k r)) (or_else (on_fault 4 (ar_fault bus k r)) (on_fault 5 (r_fault k r))))) (w_same bus k h r held (channel_kept 1 (write_address_rules bus h r) none))
     ∙ ap (λ (o : Option ℕ). or_else (on_fault 2 two) (or_else (on_fault 3 o) (or_else (on_fault 4 (ar_fault bus k r)) (on_fault 5 (r_fault k r))))) (b_same bus k h r held)
     ∙ ap (λ (o : Option ℕ). or_else (on_fault 2 two) (or_else (on_fault 3 three) (or_else (on_fault 4 o) (on_fault 5 (r_fault k r))))) (ar_same bus k h r held)
     ∙ ap (λ (o : Option ℕ). or_else (on_fault 2 two) (or_else (on_fault 3 three) (or_else (on_fault 4 four) (on_fault 5 o)))) (r_same bus k h r held))
