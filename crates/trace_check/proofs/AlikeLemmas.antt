@@ -1,8 +1,8 @@
 -- Rounds that are judged alike, and rows of rounds in which nothing is offered.
-use Rattle.std.proofs.Common.{◌≡◌, ℕ, ◌∷◌, [], ◌++◌, Bool, true, false, List, Option, Some, None, refl, sym, ap, ◌∙◌, append_assoc}
-use Rattle.std.specs.Prelude.{zip, length, take, sum, count_by, nat_lt, if◌then◌else◌}
+use Rattle.std.proofs.Common.{◌≡◌, ℕ, ◌∷◌, [], ◌++◌, Bool, List, Option, Some, None, refl, sym, ap, ◌∙◌, append_assoc}
+use Rattle.std.specs.Prelude.{zip, length, take, sum, count_by, nat_lt}
 use Rattle.std.specs.Bool.{beq}
-use Rattle.std.specs.Option.{option_to_list, option_map}
+use Rattle.std.specs.Option.{option_to_list}
 use Rattle.std.proofs.lemmas.List.{append-nil}
 use Rattle.axi_beats.specs.declared.beat.WBeat.{WBeat}
 use Rattle.axi_history.specs.declared.port.PortRound.{PortRound}
@@ -12,41 +12,11 @@ use Rattle.axi_history.specs.declared.port.RawR.{RawR}
 use Rattle.axi_history.specs.declared.port.Seen.{Seen}
 use Rattle.axi_history.specs.PortHistory.{offer_of, transfer_of, wait_of, transferred, waiting, offered, bursts, whole_writes, ends_a_request, on_aw, on_w, on_b, on_ar, on_r}
 use Rattle.axi_history.specs.PortRules.{same_address, same_data, same_response, same_read, handshake_rules, least_broken, or_else, on_channel, rules_of_offer, address_rules, has_last_where_due, has_strobes_on_valid_lanes, each_addressed_beat, addressed_bursts, last_is_on_the_last_beat, strobes_are_on_valid_lanes, is_not_exokay, writes_of, responses_of, read_beats_of, reads_of, response_rules, read_beat_rules, write_address_rules, write_data_rules, write_response_rules, read_address_rules, read_data_rules, axi4_fault, first_fault, axi4_history_fault}
-use Rattle.port_rules.proofs.HeldLemmas.{transferred_more, waiting_more}
+use Rattle.axi_history.proofs.HistoryLemmas.{else_parts, least_append, channel_kept, channels_kept, transferred_more, waiting_more, first_append, fault_stays, fault_anew}
 use Rattle.trace_check.specs.Alike.{Alike, SameOffers, IsQuiet}
 use Rattle.trace_check.specs.QuietRounds.{QuietRoundsAreOne}
 
--- ---- one more round
-
-module _ {X : Type 0} where
-  else_none : (a : Option X) → or_else a None ≡ a
-  else_none None = refl
-  else_none (Some x) = refl
-
-  else_assoc : (a b c : Option X) → or_else a (or_else b c) ≡ or_else (or_else a b) c
-  else_assoc None b c = refl
-  else_assoc (Some x) b c = refl
-
-first_more : (fault : List PortRound → PortRound → Option (ℕ × ℕ)) (earlier h : List PortRound) (r : PortRound) → first_fault fault earlier (h ++ r ∷ []) ≡ or_else (first_fault fault earlier h) (fault (earlier ++ h) r)
-first_more fault earlier [] r = else_none (fault earlier r) ∙ ap (λ (xs : List PortRound). fault xs r) (sym (append-nil earlier))
-first_more fault earlier (x ∷ h) r =
-    ap (λ (o : Option (ℕ × ℕ)). or_else (fault earlier x) o) (first_more fault (earlier ++ x ∷ []) h r ∙ ap (λ (xs : List PortRound). or_else (first_fault fault (earlier ++ x ∷ []) h) (fault xs r)) (append_assoc earlier (x ∷ []) h))
-    ∙ else_assoc (fault earlier x) (first_fault fault (earlier ++ x ∷ []) h) (fault (earlier ++ (x ∷ h)) r)
-
-pub history_more : (bus : ℕ) (h : List PortRound) (r : PortRound) → axi4_history_fault bus (h ++ r ∷ []) ≡ or_else (axi4_history_fault bus h) (axi4_fault bus h r)
-history_more bus h r = first_more (axi4_fault bus) [] h r
-
--- what is broken stays so, and what is broken anew is what the last round breaks
-pub stays : (bus : ℕ) (h : List PortRound) (r : PortRound) (f : ℕ × ℕ) → axi4_history_fault bus h ≡ Some f → axi4_history_fault bus (h ++ r ∷ []) ≡ Some f
-stays bus h r f broken = history_more bus h r ∙ ap (λ (o : Option (ℕ × ℕ)). or_else o (axi4_fault bus h r)) broken
-
-pub anew : (bus : ℕ) (h : List PortRound) (r : PortRound) → axi4_history_fault bus h ≡ None → axi4_history_fault bus (h ++ r ∷ []) ≡ axi4_fault bus h r
-anew bus h r legal = history_more bus h r ∙ ap (λ (o : Option (ℕ × ℕ)). or_else o (axi4_fault bus h r)) legal
-
 -- ---- what is alike
-
-pub alike_refl : (h : List PortRound) → Alike h h
-alike_refl h = record { aw_waits = refl; w_waits = refl; b_waits = refl; ar_waits = refl; r_waits = refl; aw_moved = refl; w_moved = refl; b_moved = refl; ar_moved = refl; r_moved = refl }
 
 pub alike_trans : (f g h : List PortRound) → Alike f g → Alike g h → Alike f h
 alike_trans f g h a b = record {
@@ -202,39 +172,11 @@ quiet_data waits o nine ten e f kept =
     ∙ ap (λ (v : Option (Seen WBeat)). least_broken (handshake_rules same_data None (offer_of v) ++ (9, nine) ∷ (10, ten) ∷ [])) f
     ∙ kept
 
-none_of : (channel : ℕ) (rules : List (ℕ × Bool)) → least_broken rules ≡ None → on_channel channel rules ≡ None
-none_of channel rules e = ap (λ (o : Option ℕ). option_map {U = ℕ × ℕ} (λ rule. (channel, rule)) o) e
-
-of_none : (channel : ℕ) (o : Option ℕ) → option_map {U = ℕ × ℕ} (λ rule. (channel, rule)) o ≡ None → o ≡ None
-of_none channel None e = refl
-of_none channel (Some rule) e = absurd cc
-
-no_channel : (aw w b ar r : List (ℕ × Bool)) → least_broken aw ≡ None → least_broken w ≡ None → least_broken b ≡ None → least_broken ar ≡ None → least_broken r ≡ None → by_channel aw w b ar r ≡ None
-no_channel aw w b ar r e1 e2 e3 e4 e5 =
-    ap (λ (v : Option (ℕ × ℕ)). or_else v (or_else (on_channel 2 w) (or_else (on_channel 3 b) (or_else (on_channel 4 ar) (on_channel 5 r))))) (none_of 1 aw e1)
-    ∙ ap (λ (v : Option (ℕ × ℕ)). or_else v (or_else (on_channel 3 b) (or_else (on_channel 4 ar) (on_channel 5 r)))) (none_of 2 w e2)
-    ∙ ap (λ (v : Option (ℕ × ℕ)). or_else v (or_else (on_channel 4 ar) (on_channel 5 r))) (none_of 3 b e3)
-    ∙ ap (λ (v : Option (ℕ × ℕ)). or_else v (on_channel 5 r)) (none_of 4 ar e4)
-    ∙ none_of 5 r e5
-
-module _ {X : Type 0} where
-  parts_none : (a b : Option X) → or_else a b ≡ None → (a ≡ None) × (b ≡ None)
-  parts_none None b e = (refl, e)
-  parts_none (Some x) b e = absurd cc
-
 data_kept : (aw w b ar r : List (ℕ × Bool)) → by_channel aw w b ar r ≡ None → least_broken w ≡ None
 data_kept aw w b ar r e =
-    let rest = parts_none (on_channel 1 aw) _ e in
-    let after = parts_none (on_channel 2 w) _ rest.1 in
-    of_none 2 (least_broken w) after.0
-
-choose_kept : (kept : Bool) (rule : ℕ) (rest : Option ℕ) (P : Type 0) → (rest ≡ None → P) → (if kept then rest else Some rule) ≡ None → P
-choose_kept true rule rest P go e = go e
-choose_kept false rule rest P go e = absurd cc
-
-later_kept : (xs ys : List (ℕ × Bool)) → least_broken (xs ++ ys) ≡ None → least_broken ys ≡ None
-later_kept [] ys e = e
-later_kept (x ∷ xs) ys e = choose_kept x.1 x.0 (least_broken (xs ++ ys)) (least_broken ys ≡ None) (later_kept xs ys) e
+    let rest = else_parts (on_channel 1 aw) _ e in
+    let after = else_parts (on_channel 2 w) _ rest.1 in
+    channel_kept 2 w after.0
 
 -- a round in which nothing is offered breaks nothing after another such round that breaks nothing
 pub quiet_again : (bus : ℕ) (h : List PortRound) (q r : PortRound) → IsQuiet q → IsQuiet r → axi4_fault bus h q ≡ None → axi4_fault bus (h ++ q ∷ []) r ≡ None
@@ -242,12 +184,12 @@ quiet_again bus h q r a o kept =
     let g : List PortRound = h ++ q ∷ [] in
     let same : Alike (g ++ r ∷ []) g = alike_quiet h q r a o in
     let of_data : least_broken (write_data_rules bus h q) ≡ None = data_kept (write_address_rules bus h q) (write_data_rules bus h q) (write_response_rules h q) (read_address_rules bus h q) (read_data_rules h q) kept in
-    let both : least_broken ((9, last_is_on_the_last_beat bus g) ∷ (10, strobes_are_on_valid_lanes bus g) ∷ []) ≡ None = later_kept (handshake_rules same_data (waiting on_w h) (offer_of q.w)) ((9, last_is_on_the_last_beat bus g) ∷ (10, strobes_are_on_valid_lanes bus g) ∷ []) of_data in
+    let both : least_broken ((9, last_is_on_the_last_beat bus g) ∷ (10, strobes_are_on_valid_lanes bus g) ∷ []) ≡ None = (else_parts _ _ (sym (least_append (handshake_rules same_data (waiting on_w h) (offer_of q.w)) ((9, last_is_on_the_last_beat bus g) ∷ (10, strobes_are_on_valid_lanes bus g) ∷ [])) ∙ of_data)).1 in
     let both' : least_broken ((9, last_is_on_the_last_beat bus (g ++ r ∷ [])) ∷ (10, strobes_are_on_valid_lanes bus (g ++ r ∷ [])) ∷ []) ≡ None =
     ap (λ (v : Bool). least_broken ((9, v) ∷ (10, strobes_are_on_valid_lanes bus (g ++ r ∷ [])) ∷ [])) (nine_alike bus (g ++ r ∷ []) g same)
     ∙ ap (λ (v : Bool). least_broken ((9, last_is_on_the_last_beat bus g) ∷ (10, v) ∷ [])) (ten_alike bus (g ++ r ∷ []) g same)
     ∙ both in
-    no_channel (write_address_rules bus g r) (write_data_rules bus g r) (write_response_rules g r) (read_address_rules bus g r) (read_data_rules g r)
+    channels_kept (write_address_rules bus g r) (write_data_rules bus g r) (write_response_rules g r) (read_address_rules bus g r) (read_data_rules g r)
     (quiet_rules same_address (waiting on_aw g) r.aw (address_rules bus) (waiting_more on_aw h q ∙ ap wait_of a.aw) o.aw)
     (quiet_data (waiting on_w g) r.w (last_is_on_the_last_beat bus (g ++ r ∷ [])) (strobes_are_on_valid_lanes bus (g ++ r ∷ [])) (waiting_more on_w h q ∙ ap wait_of a.w) o.w both')
     (quiet_rules same_response (waiting on_b g) r.b (response_rules g) (waiting_more on_b h q ∙ ap wait_of a.b) o.b)
@@ -264,24 +206,18 @@ pub again_same : (bus : ℕ) (h : List PortRound) (q r : PortRound) → IsQuiet 
 again_same bus h q r a o = go (axi4_history_fault bus (h ++ q ∷ [])) refl
   where
     legal : (f : Option (ℕ × ℕ)) → axi4_history_fault bus h ≡ f → axi4_history_fault bus (h ++ q ∷ []) ≡ None → axi4_fault bus h q ≡ None
-    legal None e kept = sym (anew bus h q e) ∙ kept
-    legal (Some f) e kept = let bad : Some f ≡ None = sym (stays bus h q f e) ∙ kept in absurd cc
+    legal None e kept = sym (fault_anew bus h q e) ∙ kept
+    legal (Some f) e kept = let bad : Some f ≡ None = sym (fault_stays bus h q f e) ∙ kept in absurd cc
 
     go : (f : Option (ℕ × ℕ)) → axi4_history_fault bus (h ++ q ∷ []) ≡ f → axi4_history_fault bus ((h ++ q ∷ []) ++ r ∷ []) ≡ axi4_history_fault bus (h ++ q ∷ [])
-    go (Some f) e = stays bus (h ++ q ∷ []) r f e ∙ sym e
-    go None e = anew bus (h ++ q ∷ []) r e ∙ quiet_again bus h q r a o (legal (axi4_history_fault bus h) refl e) ∙ sym e
+    go (Some f) e = fault_stays bus (h ++ q ∷ []) r f e ∙ sym e
+    go None e = fault_anew bus (h ++ q ∷ []) r e ∙ quiet_again bus h q r a o (legal (axi4_history_fault bus h) refl e) ∙ sym e
 
 first_alike : (bus : ℕ) (h g later : List PortRound) → Alike h g → first_fault (axi4_fault bus) h later ≡ first_fault (axi4_fault bus) g later
 first_alike bus h g [] a = refl
 first_alike bus h g (r ∷ later) a =
     ap (λ (o : Option (ℕ × ℕ)). or_else o (first_fault (axi4_fault bus) (h ++ r ∷ []) later)) (judged_alike bus h g r r a (same_refl r))
     ∙ ap (λ (o : Option (ℕ × ℕ)). or_else (axi4_fault bus g r) o) (first_alike bus (h ++ r ∷ []) (g ++ r ∷ []) later (alike_more h g r r a (same_refl r)))
-
-first_append : (fault : List PortRound → PortRound → Option (ℕ × ℕ)) (earlier xs ys : List PortRound) → first_fault fault earlier (xs ++ ys) ≡ or_else (first_fault fault earlier xs) (first_fault fault (earlier ++ xs) ys)
-first_append fault earlier [] ys = ap (λ (v : List PortRound). first_fault fault v ys) (sym (append-nil earlier))
-first_append fault earlier (x ∷ xs) ys =
-    ap (λ (o : Option (ℕ × ℕ)). or_else (fault earlier x) o) (first_append fault (earlier ++ x ∷ []) xs ys ∙ ap (λ (v : List PortRound). or_else (first_fault fault (earlier ++ x ∷ []) xs) (first_fault fault v ys)) (append_assoc earlier (x ∷ []) xs))
-    ∙ else_assoc (fault earlier x) (first_fault fault (earlier ++ x ∷ []) xs) (first_fault fault (earlier ++ (x ∷ xs)) ys)
 
 twice : (bus : ℕ) (h : List PortRound) (q r : PortRound) (later : List PortRound) → IsQuiet q → IsQuiet r → axi4_history_fault bus (((h ++ q ∷ []) ++ r ∷ []) ++ later) ≡ axi4_history_fault bus ((h ++ q ∷ []) ++ later)
 twice bus h q r later a o =

@@ -7,6 +7,7 @@ use Rattle.std.proofs.lemmas.Bool.{lt-ltb, le-ltb, le-leb, lt-leb}
 use Rattle.axi_history.specs.declared.port.PortKind.{PortKind}
 use Rattle.axi_history.specs.declared.port.PortRound.{PortRound}
 use Rattle.axi_history.specs.PortRules.{or_else}
+use Rattle.axi_history.proofs.HistoryLemmas.{else_none}
 use Rattle.trace_check.specs.Entries.{EntryStands, LinkStands}
 use Rattle.trace_check.specs.Faults.{EntryServes, IsFaultOf, broken_by, earlier_of, fault_on, with_link}
 use Rattle.trace_check.specs.Follows.{TellsOf}
@@ -56,12 +57,6 @@ told_fault fault s lines link e t = record {
   within = t.within;
 }
 
-pub no_fault : (lines : List PortRound) (link : ℕ) → find (is_of_link link) lines ≡ None → IsFaultOf None lines link
-no_fault lines link none = record {
-  told = λ n h. ap (λ (o : Option PortRound). option_map (λ (f : ℕ × ℕ). let v : PortFault = record { line = number_in lines link n; round = n; link = link; channel = f.0; rule = f.1 } in v) (fault_of_port lines link n (option_map (λ (r : PortRound). r.kind) o))) none;
-  within = tt;
-}
-
 -- ---- rounds
 
 broken_round : (lines : List PortRound) (n link : ℕ) (b : PortFault) → broken_at lines n link ≡ Some b → b.round ≡ n
@@ -102,17 +97,13 @@ module _ (lines : List PortRound) (answer more : ℕ → Option PortFault) (link
       ∙ ap (λ b. if b then None else Some (record { line = number_in lines link f.round; round = f.round; link = link; channel = f.channel; rule = f.rule })) (le-ltb f.round f.round le)
       ∙ ap (λ (n : ℕ). let v : Option PortFault = Some (record { line = n; round = f.round; link = link; channel = f.channel; rule = f.rule }) in v) (sym line)
 
-  else_nothing : (a b : Option PortFault) → b ≡ None → or_else a b ≡ a
-  else_nothing None b e = e
-  else_nothing (Some x) b e = refl
-
   same_before : (m : ℕ) → m ≤ top → m ≤ f.round → least (λ n. or_else (answer n) (more n)) m ≡ least answer m
   same_before zero h le = refl
   same_before (suc m) h le =
       let lt : m < top = omega arith in
       let lt' : m < f.round = omega arith in
       ap (λ (o : Option PortFault). or_else o (or_else (answer m) (more m))) (same_before m (omega arith) (omega arith))
-      ∙ ap (λ (o : Option PortFault). or_else (least answer m) o) (else_nothing (answer m) (more m) (none_before m lt lt'))
+      ∙ ap (λ (o : Option PortFault). or_else (least answer m) o) (ap (or_else (answer m)) (none_before m lt lt') ∙ else_none (answer m))
 
   earlier_when : (b : PortFault) → b.round ≤ f.round → earlier_of (Some b) link f ≡ Some b
   earlier_when b le = ap (λ v. if v then Some b else Some (fault_on link f)) (le-leb b.round f.round le)
@@ -162,11 +153,7 @@ unchanged : (answer more : ℕ → Option PortFault) (m : ℕ) → ((n : ℕ) �
 unchanged answer more zero none = refl
 unchanged answer more (suc m) none =
     ap (λ (o : Option PortFault). or_else o (or_else (answer m) (more m))) (unchanged answer more m (λ n h. none n (omega arith)))
-    ∙ ap (λ (o : Option PortFault). or_else (least answer m) o) (nothing (answer m) (more m) (none m (omega arith)))
-  where
-    nothing : (a b : Option PortFault) → b ≡ None → or_else a b ≡ a
-    nothing None b e = e
-    nothing (Some x) b e = refl
+    ∙ ap (λ (o : Option PortFault). or_else (least answer m) o) (ap (or_else (answer m)) (none m (omega arith)) ∙ else_none (answer m))
 
 -- what the links below a number break first
 abbrev pub broken_below : List PortRound → ℕ → Option PortFault

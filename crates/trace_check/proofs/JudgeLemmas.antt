@@ -7,13 +7,14 @@ use Rattle.std.proofs.lemmas.Bool.Decides.{eqb_tells}
 use Rattle.axi_history.specs.declared.port.PortKind.{PortKind}
 use Rattle.axi_history.specs.declared.port.PortRound.{PortRound}
 use Rattle.axi_history.specs.PortRules.{axi4_fault, axi4_history_fault}
+use Rattle.axi_history.proofs.HistoryLemmas.{fault_stays, fault_anew}
 use Rattle.port_rules.specs.declared.state.PortChecker.{PortChecker}
 use Rattle.port_rules.specs.StandsFor.{StandsFor, port_of}
 use Rattle.trace_check.specs.Alike.{SameOffers, IsQuiet}
 use Rattle.trace_check.specs.Histories.{history}
 use Rattle.trace_check.specs.Judged.{fault_by, IsChecked, IsJudged}
 use Rattle.trace_check.specs.declared.link_judge.LinkFault.{LinkFault}
-use Rattle.trace_check.proofs.AlikeLemmas.{stays, anew, alike_more, alike_trans, alike_quiet, judged_alike, again_same}
+use Rattle.trace_check.proofs.AlikeLemmas.{alike_more, alike_trans, alike_quiet, judged_alike, again_same}
 
 -- the channel and the rule of a fault
 abbrev pub told_by : Option LinkFault → Option (ℕ × ℕ)
@@ -48,8 +49,8 @@ module _ (c c' : PortChecker) (fault : Option LinkFault) (line k : ℕ) (r : Por
       let bus : ℕ = (port_of c).bus in
       let old : IsChecked c (history shown k) = j.checked refl in
       let legal : axi4_history_fault bus (history shown k) ≡ None = j.told k (omega arith) in
-      let now : axi4_fault bus old.given r ≡ told_by fault = sym (anew bus old.given r old.legal) ∙ told old.given old.stands in
-      let here : axi4_history_fault bus (history shown (suc k)) ≡ told_by fault = anew bus (history shown k) (shown (suc k)) legal ∙ judged_alike bus (history shown k) old.given (shown (suc k)) r old.alike same ∙ now in
+      let now : axi4_fault bus old.given r ≡ told_by fault = sym (fault_anew bus old.given r old.legal) ∙ told old.given old.stands in
+      let here : axi4_history_fault bus (history shown (suc k)) ≡ told_by fault = fault_anew bus (history shown k) (shown (suc k)) legal ∙ judged_alike bus (history shown k) old.given (shown (suc k)) r old.alike same ∙ now in
       let all : (m : ℕ) → m ≤ suc k → axi4_history_fault bus (history shown m) ≡ fault_by fault m =
       λ m h. elim (at_most m k h) [
         | inl le ↦ (let lt : m < suc k = omega arith in j.told m le ∙ sym (fault_before fault line (suc k) m at lt))
@@ -81,7 +82,7 @@ broken_suc c f k shown number j =
     let bus : ℕ = (port_of c).bus in
     let within : f.round ≤ k = j.within.0 in
     let was : axi4_history_fault bus (history shown k) ≡ Some (f.channel, f.rule) = j.told k (omega arith) ∙ fault_later f k within in
-    let here : axi4_history_fault bus (history shown (suc k)) ≡ Some (f.channel, f.rule) = stays bus (history shown k) (shown (suc k)) (f.channel, f.rule) was in
+    let here : axi4_history_fault bus (history shown (suc k)) ≡ Some (f.channel, f.rule) = fault_stays bus (history shown k) (shown (suc k)) (f.channel, f.rule) was in
     record {
       told = λ m h. elim (at_most m k h) [
         | inl le ↦ j.told m le

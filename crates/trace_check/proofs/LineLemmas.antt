@@ -1,5 +1,6 @@
 -- One more line of a trace.
 use Rattle.std.proofs.Common.{◌≡◌, ◌≢◌, ℕ, ◌+◌, ◌∷◌, [], ◌++◌, Bool, true, false, List, Option, Some, None, refl, ap, ◌∙◌, arith, length, max, eq-eqb}
+use Rattle.std.proofs.Math.Bool.{and-false}
 use Rattle.std.specs.Prelude.{if◌then◌else◌, ◌==◌, ◌&&◌}
 use Rattle.std.specs.List.{find}
 use Rattle.std.specs.Option.{option_map, unwrap_or}
@@ -7,6 +8,7 @@ use Rattle.std.proofs.lemmas.Bool.{ne_eqb}
 use Rattle.axi_history.specs.declared.port.PortKind.{PortKind}
 use Rattle.axi_history.specs.declared.port.PortRound.{PortRound}
 use Rattle.axi_history.specs.PortRules.{or_else}
+use Rattle.axi_history.proofs.HistoryLemmas.{else_none}
 use Rattle.trace_check.specs.Histories.{is_line_of, is_of_link, shown_in, quiet_round, number_of, number_in, greatest_round, link_count}
 
 -- ---- the first line with a property, and its number
@@ -43,11 +45,7 @@ number_more p (x ∷ xs) r = go (p x) (number_more p xs r)
     go false e = ap (option_map (λ m. m + 1)) e ∙ up (number_of p xs) (p r) (length xs + 1) ∙ ap (λ n. or_else (option_map (λ m. m + 1) (number_of p xs)) (numbered (p r) n)) longer
 
 pub find_other : (p : PortRound → Bool) (xs : List PortRound) (r : PortRound) → p r ≡ false → find p (xs ++ r ∷ []) ≡ find p xs
-find_other p xs r e = found_more p xs r ∙ ap (λ b. or_else (find p xs) (found b r)) e ∙ none (find p xs)
-  where
-    none : (o : Option PortRound) → or_else o None ≡ o
-    none None = refl
-    none (Some x) = refl
+find_other p xs r e = found_more p xs r ∙ ap (λ b. or_else (find p xs) (found b r)) e ∙ else_none (find p xs)
 
 pub find_here : (p : PortRound → Bool) (xs : List PortRound) (r : PortRound) → p r ≡ true → find p xs ≡ None → find p (xs ++ r ∷ []) ≡ Some r
 find_here p xs r e n = found_more p xs r ∙ ap (λ b. or_else (find p xs) (found b r)) e ∙ ap (λ (o : Option PortRound). or_else o (Some r)) n
@@ -56,17 +54,10 @@ pub find_stays : (p : PortRound → Bool) (xs : List PortRound) (r x : PortRound
 find_stays p xs r x n = found_more p xs r ∙ ap (λ (o : Option PortRound). or_else o (found (p r) r)) n
 
 pub number_other : (p : PortRound → Bool) (xs : List PortRound) (r : PortRound) → p r ≡ false → number_of p (xs ++ r ∷ []) ≡ number_of p xs
-number_other p xs r e = number_more p xs r ∙ ap (λ b. or_else (number_of p xs) (numbered b (length xs + 1))) e ∙ none (number_of p xs)
-  where
-    none : (o : Option ℕ) → or_else o None ≡ o
-    none None = refl
-    none (Some x) = refl
+number_other p xs r e = number_more p xs r ∙ ap (λ b. or_else (number_of p xs) (numbered b (length xs + 1))) e ∙ else_none (number_of p xs)
 
 pub number_here : (p : PortRound → Bool) (xs : List PortRound) (r : PortRound) → p r ≡ true → number_of p xs ≡ None → number_of p (xs ++ r ∷ []) ≡ Some (length xs + 1)
 number_here p xs r e n = number_more p xs r ∙ ap (λ b. or_else (number_of p xs) (numbered b (length xs + 1))) e ∙ ap (λ (o : Option ℕ). or_else o (Some (length xs + 1))) n
-
-pub number_stays : (p : PortRound → Bool) (xs : List PortRound) (r : PortRound) (n : ℕ) → number_of p xs ≡ Some n → number_of p (xs ++ r ∷ []) ≡ Some n
-number_stays p xs r n e = number_more p xs r ∙ ap (λ (o : Option ℕ). or_else o (numbered (p r) (length xs + 1))) e
 
 pub number_none : (p : PortRound → Bool) (xs : List PortRound) → find p xs ≡ None → number_of p xs ≡ None
 number_none p [] e = refl
@@ -85,11 +76,7 @@ pub is_not_in : (r : PortRound) (round link : ℕ) → r.round ≢ round → is_
 is_not_in r round link ne = ap (λ b. b && (r.link == link)) (ne_eqb r.round round ne)
 
 pub is_not_on : (r : PortRound) (round link : ℕ) → r.link ≢ link → is_line_of round link r ≡ false
-is_not_on r round link ne = ap (λ b. (r.round == round) && b) (ne_eqb r.link link ne) ∙ neither (r.round == round)
-  where
-    neither : (b : Bool) → (b && false) ≡ false
-    neither true = refl
-    neither false = refl
+is_not_on r round link ne = ap (λ b. (r.round == round) && b) (ne_eqb r.link link ne) ∙ and-false (r.round == round)
 
 pub no_line : (xs : List PortRound) (round link : ℕ) → find (is_of_link link) xs ≡ None → find (is_line_of round link) xs ≡ None
 no_line [] round link e = refl

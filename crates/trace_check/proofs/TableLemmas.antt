@@ -1,7 +1,8 @@
 -- The table of a trace with one more line.
-use Rattle.std.proofs.Common.{◌≡◌, ◌≢◌, ℕ, ◌+◌, ◌*◌, ◌^◌, ◌<◌, ◌≤◌, ◌∷◌, [], ◌++◌, ◌⊎◌, inl, inr, Bool, true, false, List, Option, Some, None, refl, sym, ap, subst, ◌∙◌, arith, length, length-append, max, eq-eqb, suc, zero}
+use Rattle.std.proofs.Common.{◌≡◌, ◌≢◌, ℕ, ◌+◌, ◌*◌, ◌^◌, ◌<◌, ◌≤◌, ◌∷◌, [], ◌++◌, ◌⊎◌, inl, inr, Bool, true, false, List, Option, Some, None, refl, sym, ap, subst, ◌∙◌, arith, length, length-append, max, eq-eqb}
 use Rattle.std.specs.Prelude.{if◌then◌else◌, ◌==◌, ◌&&◌, ◌||◌, not, nat_lt}
 use Rattle.std.specs.Bool.{beq}
+use Rattle.std.specs.Cmp.{booleans_Decides}
 use Rattle.std.specs.List.{find, last_or, list_all}
 use Rattle.std.specs.Option.{option_map}
 use Rattle.std.proofs.lemmas.Bool.{and_parts, and_from, ltb-true, eqb-true, ne_eqb, false≢true}
@@ -21,14 +22,6 @@ use Rattle.trace_check.specs.declared.link_state.LinkState.{LinkState}
 use Rattle.trace_check.specs.declared.table.TraceTable.{TraceTable}
 use Rattle.trace_check.proofs.JudgeLemmas.{judged_same}
 use Rattle.trace_check.proofs.LineLemmas.{find_other, find_here, find_stays, number_more, is_not_on, shown_other, numbered_other, greatest_more, count_more}
-
--- ---- places without a link
-
-pub entry_more : (links : List (Option LinkState)) (k : ℕ) → entry_of (links ++ None ∷ []) k ≡ entry_of links k
-entry_more [] zero = refl
-entry_more [] (suc k) = refl
-entry_more (x ∷ links) zero = refl
-entry_more (x ∷ links) (suc k) = entry_more links k
 
 -- ---- what comes after what
 
@@ -73,25 +66,15 @@ not_judged (Some j) r p =
 
 -- ---- the ports of a link
 
-beq_equal : (x y : Bool) → beq x y ≡ true → x ≡ y
-beq_equal true true e = refl
-beq_equal true false e = absurd (false≢true e)
-beq_equal false true e = absurd (false≢true e)
-beq_equal false false e = refl
-
 pub same_port : (a b : PortKind) → is_same_port a b ≡ true → a ≡ b
 same_port a b e =
     let p = and_parts (beq a.lite b.lite) (a.bus == b.bus) e in
-    let lite : a.lite ≡ b.lite = beq_equal a.lite b.lite p.0 in
+    let lite : a.lite ≡ b.lite = (booleans_Decides a.lite b.lite).0 p.0 in
     let bus : a.bus ≡ b.bus = eqb-true a.bus b.bus p.1 in
     ap (λ (v : Bool). record { lite = v; bus = a.bus }) lite ∙ ap (λ (v : ℕ). record { lite = b.lite; bus = v }) bus
 
 port_is_same : (a : PortKind) → is_same_port a a ≡ true
-port_is_same a = and_from (beq a.lite a.lite) (a.bus == a.bus) (same a.lite) (eq-eqb a.bus a.bus refl)
-  where
-    same : (b : Bool) → beq b b ≡ true
-    same true = refl
-    same false = refl
+port_is_same a = and_from (beq a.lite a.lite) (a.bus == a.bus) ((booleans_Decides a.lite a.lite).1 refl) (eq-eqb a.bus a.bus refl)
 
 -- no line of the link
 all_agree : (xs : List PortRound) (r : PortRound) → find (is_of_link r.link) xs ≡ None → list_all (agrees_with r) xs ≡ true
@@ -107,10 +90,6 @@ disagree : (xs : List PortRound) (r x : PortRound) → find (is_of_link r.link) 
 disagree [] r x e other = absurd cc
 disagree (y ∷ xs) r x e other = go (y.link == r.link) (disagree xs r x) e
   where
-    and_false : (b : Bool) → (b && false) ≡ false
-    and_false true = refl
-    and_false false = refl
-
     go : (b : Bool) → (find (is_of_link r.link) xs ≡ Some x → is_same_port x.kind r.kind ≡ false → list_all (agrees_with r) xs ≡ false) → (if b then Some y else find (is_of_link r.link) xs) ≡ Some x → ((not b || is_same_port y.kind r.kind) && list_all (agrees_with r) xs) ≡ false
     go true h n =
         let same : y ≡ x = cc in
@@ -138,9 +117,6 @@ entry_agrees (Some s) xs r e answer is = is ∙ go (is_same_port s.port r.kind) 
     go false other =
         let f = first_of xs r.link s.port e.port in
         other ∙ sym (disagree xs r f.0 f.1 (ap (λ (v : PortKind). is_same_port v r.kind) f.2 ∙ other))
-
-pub port_told : (state : LinkState) (kind : PortKind) (answer : Bool) → answer ≡ is_same_port state.port kind → is_same_port state.port kind ≡ answer
-port_told state kind answer e = sym e
 
 -- the port of a link that has a state, where a line may follow
 agree_at : (xs : List PortRound) (r x : PortRound) → find (is_of_link r.link) xs ≡ Some x → list_all (agrees_with r) xs ≡ true → x.kind ≡ r.kind
@@ -273,14 +249,3 @@ table_grows t after xs r small s may lines last lite size others state is port t
             subst (λ (entry : Option LinkState). EntryStands entry (xs ++ r ∷ []) link) (sym (others link e.1)) (entry_other (entry_of t.links.items link) xs r link ne p.0 (s.links link)))
       ];
     }
-
-pub table_empty : (t : TraceTable) → t.lines ≡ 0 → t.last ≡ None → t.lite ≡ None → t.links.items ≡ [] → TableStands t []
-table_empty t lines last lite links = record {
-  count = lines;
-  last = last;
-  greatest = ap round_of last;
-  lite = lite;
-  size = ap length links;
-  few = (let none : length t.links.items ≡ 0 = ap length links in omega arith);
-  links = λ link. subst (λ (entries : List (Option LinkState)). EntryStands (entry_of entries link) [] link) (sym links) refl;
-}

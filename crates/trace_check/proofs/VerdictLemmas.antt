@@ -8,6 +8,7 @@ use Rattle.std.proofs.lemmas.Bool.Decides.{eqb_tells}
 use Rattle.axi_history.specs.declared.port.PortKind.{PortKind}
 use Rattle.axi_history.specs.declared.port.PortRound.{PortRound}
 use Rattle.axi_history.specs.PortRules.{or_else, axi4_history_fault}
+use Rattle.axi_history.proofs.HistoryLemmas.{else_parts}
 use Rattle.trace_check.specs.Histories.{broken_at, broken_in, fault_of_link, fault_of_port, first_broken, greatest_round, history, is_of_link, least, link_count, number_in, number_of, port_of_link, shown_in}
 use Rattle.trace_check.specs.Lines.{judged_lines, shown_by}
 use Rattle.trace_check.specs.Table.{is_lite}
@@ -19,10 +20,6 @@ use Rattle.trace_check.specs.declared.verdict.Verdict.TheVariants.{Broken, Legal
 -- ---- the least number at which something is answered
 
 module _ {A : Type 0} where
-  else_parts : (a b : Option A) → or_else a b ≡ None → (a ≡ None) × (b ≡ None)
-  else_parts None b e = (refl, e)
-  else_parts (Some x) b e = absurd cc
-
   least_none : (answer : ℕ → Option A) (n : ℕ) → least answer n ≡ None → (m : ℕ) → m < n → answer m ≡ None
   least_none answer zero e m h = absurd (omega arith)
   least_none answer (suc n) e m h =
