@@ -1,11 +1,11 @@
-//! The fields of a line: numbers, bits, lanes and tags, each read and written.
+//! The fields of a line, each read and written: numbers, bits, lanes and tags.
 
 ghost use Rattle.std.specs.Prelude.{◌≡◌, ◌+◌, ◌<◌, ◌≤◌, ◌++◌, ◌∷◌, ◌^◌, [], IfSome, length, option_map};
 ghost use Rattle.std.specs.Fmt.{decimal};
 ghost use Rattle.plain_text.specs.Printing.{hexadecimal};
 ghost use Rattle.axi_beats.specs.Bus.{IsBusWidth};
 ghost use Rattle.trace_text.specs.Form.{bit_text, lanes_text, tag_text};
-ghost use Rattle.trace_text.specs.Reading.{bit_before, bit_of, decimal_before, hexadecimal_before, lanes_before, lanes_of, tag_of};
+ghost use Rattle.trace_text.specs.Reading.{bit_before, bit_of, decimal_before, hexadecimal_before, lanes_of, tag_of};
 
 use axi_beats::{Lanes, Tag};
 use plain_text::fields::field_before;
