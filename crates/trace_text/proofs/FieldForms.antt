@@ -11,10 +11,11 @@ use Rattle.plain_text.specs.Printing.{hexadecimal}
 use Rattle.plain_text.proofs.FieldLaws.{Avoids, Avoids-append, bind_some, some_is, before_is_exact}
 use Rattle.plain_text.proofs.SpellingLaws.{decimal_is_exact, Avoids-decimal, both_true}
 use Rattle.plain_text.proofs.HexadecimalLaws.{hexadecimal_is_exact, Avoids-hexadecimal}
+use Rattle.axi_beats.specs.Bus.{is_bus_width}
 use Rattle.axi_beats.specs.declared.beat.Tag.{Tag}
 use Rattle.axi_history.specs.declared.port.PortKind.{PortKind}
 use Rattle.trace_text.specs.Form.{bit_text, kind_text, tag_text}
-use Rattle.trace_text.specs.Ranges.{IsTraceTag, is_bus, is_port_kind}
+use Rattle.trace_text.specs.Ranges.{IsTraceTag, is_port_kind}
 use Rattle.trace_text.specs.Reading.{bit_before, bit_of, decimal_before, decimal_below, hexadecimal_before, hexadecimal_below, kind_before, lite_of, round_before, tag_of}
 use Rattle.trace_text.proofs.LanesLaws.{bus_within}
 
@@ -26,7 +27,7 @@ passes true x y e = (refl, cc)
 passes false x y e = absurd cc
 
 pub port_bus_within : (kind : PortKind) → IsTrue (is_port_kind kind) → kind.bus ≤ 128
-port_bus_within kind fits = bus_within kind.bus (both_true (is_bus kind.bus) (not kind.lite || leb kind.bus 8) fits).0
+port_bus_within kind fits = bus_within kind.bus (both_true (is_bus_width kind.bus) (not kind.lite || leb kind.bus 8) fits).0
 
 module _ {A B : Type 0} {read : List ℕ → Option (A × List ℕ)} {write : A → List ℕ → List ℕ} {Fits : A → Type 0} (exact : IsExactBefore read write Fits) where
   -- the value of a step that was read, and the rest

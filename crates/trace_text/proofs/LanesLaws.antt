@@ -1,13 +1,13 @@
 -- Lanes are read one after the other.
 use Rattle.std.proofs.Common.{◌≡◌, ℕ, zero, suc, ◌+◌, ◌-◌, ◌*◌, ◌<◌, ◌≤◌, List, [], ◌∷◌, ◌++◌, Option, Some, None, length, take, drop, get_or, set, cond, eqb, refl, ap, sym, ◌∙◌, append_assoc, arith}
-use Rattle.std.specs.Prelude.{IsTrue, option_map, replicate}
+use Rattle.std.specs.Prelude.{option_map, replicate}
 use Rattle.std.proofs.lemmas.Bool.{eq-eqb, ne_eqb}
 use Rattle.std.proofs.lemmas.List.{append-nil, take_more_set, drop_more, drop-drop, drop-set-lt, length-set, take-append-drop, length-take, drop_all}
 use Rattle.plain_text.specs.Exact.{◌>>=◌}
 use Rattle.plain_text.specs.Spelling.{read_pair, read_pairs}
 use Rattle.plain_text.proofs.FieldLaws.{bind_some, some_is}
 use Rattle.std.proofs.lemmas.Bool.Decides.{nat_tests}
-use Rattle.trace_text.specs.Ranges.{is_bus}
+use Rattle.axi_beats.specs.Bus.{IsBusWidth}
 use Rattle.trace_text.specs.Reading.{lanes_of}
 
 -- two digits for each byte
@@ -97,5 +97,5 @@ IsReading-ends word bus lanes h within long =
     let whole : take bus lanes ++ replicate (128 - bus) 0 ≡ lanes = ap (λ (t : List ℕ). take bus lanes ++ t) (sym h.above) ∙ take-append-drop bus lanes in
     rw (read, count, eq-eqb bus bus refl, whole) refl
 
-pub bus_within : (bus : ℕ) → IsTrue (is_bus bus) → bus ≤ 128
+pub bus_within : (bus : ℕ) → IsBusWidth bus → bus ≤ 128
 bus_within bus h = grind (arith, nat_tests)

@@ -1,6 +1,7 @@
 -- What a trace line can show: the ranges of its fields. (Arm IHI 0022, channel signals.)
-use Rattle.std.specs.Prelude.{◌≡◌, ◌<◌, ◌≤◌, ◌-◌, ◌^◌, ◌==◌, ◌&&◌, ◌||◌, not, nat_le, ℕ, Bool, List, IfSome, IsTrue, drop, length, replicate}
+use Rattle.std.specs.Prelude.{◌≡◌, ◌<◌, ◌≤◌, ◌-◌, ◌^◌, ◌&&◌, ◌||◌, not, nat_le, ℕ, Bool, List, IfSome, IsTrue, drop, length, replicate}
 use Rattle.plain_text.specs.ExactLaws.{AreBytes}
+use Rattle.axi_beats.specs.Bus.{is_bus_width}
 use Rattle.axi_beats.specs.declared.beat.Tag.{Tag}
 use Rattle.axi_beats.specs.declared.beat.WBeat.{WBeat}
 use Rattle.axi_history.specs.declared.port.RawAddr.{RawAddr}
@@ -9,13 +10,9 @@ use Rattle.axi_history.specs.declared.port.RawR.{RawR}
 use Rattle.axi_history.specs.declared.port.PortKind.{PortKind}
 use Rattle.axi_history.specs.declared.port.PortRound.{PortRound}
 
--- so many bytes are a width that a bus can have
-abbrev pub is_bus : ℕ → Bool
-is_bus bus = bus == 4 || bus == 8 || bus == 16 || bus == 32 || bus == 64 || bus == 128
-
 -- a port of AXI4, or one of AXI4-Lite, whose bus has 4 or 8 bytes
 abbrev pub is_port_kind : PortKind → Bool
-is_port_kind kind = is_bus kind.bus && (not kind.lite || nat_le kind.bus 8)
+is_port_kind kind = is_bus_width kind.bus && (not kind.lite || nat_le kind.bus 8)
 
 -- 128 lanes of a byte each, of which those from the bus upwards are 0
 pub record IsOnBus (bus : ℕ) (lanes : List ℕ) : Type 0 where

@@ -14,9 +14,12 @@
 ghost use Rattle.trace_text.specs.LineLaws.{LinesAreExact, LinesAreUnique};
 
 mod answers;
+mod channel;
+mod fields;
 mod reading;
 #[cfg(test)]
 mod tests;
+mod trace_beat;
 mod writing;
 
 pub use answers::render_answers;

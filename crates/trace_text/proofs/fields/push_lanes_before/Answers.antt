@@ -1,7 +1,7 @@
 use Rattle.std.proofs.Common.{ℕ, List, ◌<◌, ◌∷◌, ◌++◌, [], length, take, ap, ◌∙◌, arith}
 use Rattle.plain_text.specs.Printing.{pairs}
 use Rattle.trace_text.proofs.WritingLaws.{pairs-none, pairs-more}
-use Rattle.trace_text.proofs.writing.push_lanes_before.Goals as goal
+use Rattle.trace_text.proofs.fields.push_lanes_before.Goals as goal
 
 pub loop-lane-init : goal.loop-lane-init
 loop-lane-init c = (pairs-none c.args.line.now, omega arith)

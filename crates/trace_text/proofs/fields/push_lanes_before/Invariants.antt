@@ -1,7 +1,7 @@
 -- The lanes so far are written.
 use Rattle.std.proofs.Common.{◌≡◌, ◌+◌, ◌*◌, ◌++◌, length, take}
 use Rattle.plain_text.specs.Printing.{pairs}
-use Rattle.trace_text.proofs.writing.push_lanes_before.Given as goal
+use Rattle.trace_text.proofs.fields.push_lanes_before.Given as goal
 
 abbrev pub invariant-loop-lane : goal.invariant-loop-lane
 invariant-loop-lane l =

@@ -1,7 +1,7 @@
 use Rattle.std.proofs.Common.{◌≡◌, ℕ, ◌<◌, ◌+◌, ◌*◌, None, length, rules, arith, sym, subst}
 use Rattle.trace_text.specs.Reading.{lanes_of}
 use Rattle.trace_text.proofs.LanesLaws.{IsReading, IsReading-none, IsReading-more, IsReading-fails, IsReading-ends, lanes_of-other_length, bus_within}
-use Rattle.trace_text.proofs.reading.lanes_of.Goals as goal
+use Rattle.trace_text.proofs.fields.lanes_of.Goals as goal
 
 pub returns-then-word-from : goal.returns-then-word-from
 returns-then-word-from c = sym (lanes_of-other_length c.args.bus c.args.word.now (search rules))

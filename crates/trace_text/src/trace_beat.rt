@@ -1,0 +1,163 @@
+//! The beats of the channels, each as the text of its fields.
+
+ghost use Rattle.std.specs.Prelude.{◌≡◌, ℕ, ◌+◌, ◌≤◌, ◌++◌, List, Option, length};
+ghost use Rattle.axi_beats.specs.Bus.{IsBusWidth};
+ghost use Rattle.trace_text.specs.Form.{address_text, read_data_text, response_text, write_data_text};
+ghost use Rattle.trace_text.specs.Reading.{address_of, read_data_of, response_of, write_data_of};
+
+use crate::fields::{
+    bit_before, decimal_before, greatest_strobe, hexadecimal_before, lanes_of, push_bit_before,
+    push_decimal_before, push_hexadecimal_before, push_lanes_before, push_tag, tag_of,
+};
+use axi_beats::WBeat;
+use axi_history::{RawAddr, RawB, RawR};
+use plain_text::fields::field_before;
+use plain_text::line_buffer::LineBuffer;
+
+/// A beat that a channel of a trace line can offer.
+pub(crate) trait TraceBeat: Copy {
+    // The text of a beat's fields, on a bus of so many bytes.
+    ghost text_of: { ℕ → Self → List ℕ };
+
+    // The beat whose fields the text is, on a bus of so many bytes, if there is one.
+    ghost read_of: { ℕ → List ℕ → Option Self };
+
+    /// Writes the beat's fields on this bus.
+    fn push(&self, line: &mut LineBuffer, bus: u8)
+        requires bus { bus ≤ 128 }
+        requires space { length line.old + 500 ≤ LineBuffer.ROOM }
+        ensures text { line.new ≡ line.old ++ text_of bus self.now }
+        ensures room { length line.new ≤ length line.old + 500 };
+
+    /// The beat whose fields on this bus the text is, if there is one.
+    fn read(text: &[u8], bus: u8) -> Option<Self>
+        requires { IsBusWidth bus }
+        ensures { result ≡ read_of bus text.now };
+}
+
+// A beat of AW or AR.
+impl TraceBeat for RawAddr {
+    ghost text_of = { λ bus beat. address_text beat };
+
+    ghost read_of = { λ bus text. address_of text };
+
+    #[tactic(auto, unfolding(crate::specs::Form::address_text))]
+    fn push(&self, line: &mut LineBuffer, _bus: u8) {
+        push_decimal_before(line, u64::from(self.id), b',');
+        push_hexadecimal_before(line, u128::from(self.addr), b',');
+        push_decimal_before(line, u64::from(self.len), b',');
+        push_decimal_before(line, u64::from(self.size), b',');
+        push_decimal_before(line, u64::from(self.burst), b',');
+        push_bit_before(line, self.lock, b',');
+        push_tag(line, &self.tag);
+    }
+
+    #[tactic(auto, unfolding(crate::specs::Reading::address_of))]
+    fn read(text: &[u8], _bus: u8) -> Option<RawAddr> {
+        let (id, rest) = decimal_before(text, b',', 1 << 32)?;
+        let (addr, rest) = hexadecimal_before(rest, b',', (1 << 63) - 1)?;
+        let (len, rest) = decimal_before(rest, b',', 256)?;
+        let (size, rest) = decimal_before(rest, b',', 8)?;
+        let (burst, rest) = decimal_before(rest, b',', 4)?;
+        let (lock, rest) = bit_before(rest, b',')?;
+        let tag = tag_of(rest)?;
+        Some(RawAddr {
+            id: id as u32,
+            addr: addr as u64,
+            len: len as u8,
+            size: size as u8,
+            burst: burst as u8,
+            lock,
+            tag,
+        })
+    }
+}
+
+// A beat of W.
+impl TraceBeat for WBeat {
+    ghost text_of = { write_data_text };
+
+    ghost read_of = { write_data_of };
+
+    #[tactic(auto, unfolding(crate::specs::Form::write_data_text))]
+    fn push(&self, line: &mut LineBuffer, bus: u8) {
+        push_lanes_before(line, &self.lanes, bus, b',');
+        push_hexadecimal_before(line, self.strobe, b',');
+        push_bit_before(line, self.last, b',');
+        push_tag(line, &self.tag);
+    }
+
+    #[tactic(auto, unfolding(crate::specs::Reading::write_data_of, crate::specs::Reading::lanes_before))]
+    fn read(text: &[u8], bus: u8) -> Option<WBeat> {
+        let (word, rest) = field_before(text, b',')?;
+        let lanes = lanes_of(word, bus)?;
+        let (strobe, rest) = hexadecimal_before(rest, b',', greatest_strobe(bus))?;
+        let (last, rest) = bit_before(rest, b',')?;
+        let tag = tag_of(rest)?;
+        Some(WBeat {
+            lanes,
+            strobe,
+            last,
+            tag,
+        })
+    }
+}
+
+// A beat of B.
+impl TraceBeat for RawB {
+    ghost text_of = { λ bus beat. response_text beat };
+
+    ghost read_of = { λ bus text. response_of text };
+
+    #[tactic(auto, unfolding(crate::specs::Form::response_text))]
+    fn push(&self, line: &mut LineBuffer, _bus: u8) {
+        push_decimal_before(line, u64::from(self.id), b',');
+        push_decimal_before(line, u64::from(self.resp), b',');
+        push_tag(line, &self.tag);
+    }
+
+    #[tactic(auto, unfolding(crate::specs::Reading::response_of))]
+    fn read(text: &[u8], _bus: u8) -> Option<RawB> {
+        let (id, rest) = decimal_before(text, b',', 1 << 32)?;
+        let (resp, rest) = decimal_before(rest, b',', 4)?;
+        let tag = tag_of(rest)?;
+        Some(RawB {
+            id: id as u32,
+            resp: resp as u8,
+            tag,
+        })
+    }
+}
+
+// A beat of R.
+impl TraceBeat for RawR {
+    ghost text_of = { read_data_text };
+
+    ghost read_of = { read_data_of };
+
+    #[tactic(auto, unfolding(crate::specs::Form::read_data_text))]
+    fn push(&self, line: &mut LineBuffer, bus: u8) {
+        push_decimal_before(line, u64::from(self.id), b',');
+        push_lanes_before(line, &self.lanes, bus, b',');
+        push_decimal_before(line, u64::from(self.resp), b',');
+        push_bit_before(line, self.last, b',');
+        push_tag(line, &self.tag);
+    }
+
+    #[tactic(auto, unfolding(crate::specs::Reading::read_data_of, crate::specs::Reading::lanes_before))]
+    fn read(text: &[u8], bus: u8) -> Option<RawR> {
+        let (id, rest) = decimal_before(text, b',', 1 << 32)?;
+        let (word, rest) = field_before(rest, b',')?;
+        let lanes = lanes_of(word, bus)?;
+        let (resp, rest) = decimal_before(rest, b',', 4)?;
+        let (last, rest) = bit_before(rest, b',')?;
+        let tag = tag_of(rest)?;
+        Some(RawR {
+            id: id as u32,
+            lanes,
+            resp: resp as u8,
+            last,
+            tag,
+        })
+    }
+}
