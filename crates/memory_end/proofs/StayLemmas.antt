@@ -10,10 +10,11 @@ use Rattle.axi_beats.specs.declared.beat.WBeat.{WBeat}
 use Rattle.axi_beats.specs.declared.response.Resp.TheVariants.{Okay}
 use Rattle.axi_link.specs.LinkView.{LinkView}
 use Rattle.axi_link.specs.Table.{head_of, has_room, passing}
+use Rattle.burst_address.specs.Formulas.{beats_of}
 use Rattle.memory_end.specs.declared.config.MemoryConfig.{MemoryConfig}
 use Rattle.memory_end.specs.declared.entry.WriteEntry.{WriteEntry}
 use Rattle.memory_end.specs.declared.entry.ReadEntry.{ReadEntry}
-use Rattle.memory_end.specs.Beats.{Byte, all_written, beats_of, written_bytes}
+use Rattle.memory_end.specs.Beats.{Byte, all_written, written_bytes}
 use Rattle.memory_end.specs.Laws.{KeepsArguments, NewIsMemory, StaysMemory}
 use Rattle.memory_end.specs.MemoryState.{AreLinesAmong, IsReadEntry, IsRequest, IsWriteEntry}
 use Rattle.memory_end.specs.MemoryTable.{after_aw, after_ar, after_b, after_r, after_w, fits, lacks_data, memory_link, memory_aw, memory_ar, memory_b, memory_r, memory_w, next_beat, oldest_lacking, put_read, store_after, store_with, with_beat, with_data}

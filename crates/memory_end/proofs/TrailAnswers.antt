@@ -17,9 +17,9 @@ use Rattle.axi_trail.proofs.OrderFacts.{own_beats, prefix_total}
 use Rattle.axi_trail.proofs.PrefixFacts.{prefix_filter, prefix_flat_map, prefix_length, prefix_map, prefix_of_key, prefix_of_same, prefix_same, prefix_take}
 use Rattle.axi_trail.proofs.SlackFacts.{in_order_goes_up}
 use Rattle.axi_trail.proofs.StreamFacts.{prefix_itself, prefix_trans}
+use Rattle.burst_address.specs.Formulas.{beats_of}
 use Rattle.flight.specs.Entries.{of_key}
 use Rattle.memory_end.specs.Accesses.{BeatOf, accesses_of, allowed_bytes, beats_of_parts, filled_bytes}
-use Rattle.memory_end.specs.Beats.{beats_of}
 use Rattle.memory_end.specs.Events.{Access}
 use Rattle.memory_end.specs.MemoryTable.{answer_to}
 use Rattle.memory_end.specs.MemoryTrail.{MemoryAnswers}
