@@ -100,14 +100,6 @@ placed-passing : (script : List ScriptItem) (b : Bool) (o : Option ℕ) → plac
 placed-passing script true o = refl
 placed-passing script false o = refl
 
--- there is a transaction at a place of the script
-pub placed-some : (script : List ScriptItem) (o : Option ℕ) → IfSome o (λ place. place < length script) → is_some (placed script o) ≡ is_some o
-placed-some script None within = refl
-placed-some [] (Some place) within = absurd (omega arith)
-placed-some (item ∷ items) (Some place) within =
-    let there : Option ScriptItem → Bool = λ o. is_some {T = ℕ × ScriptItem} (option_map {T = ScriptItem} {U = ℕ × ScriptItem} (λ i. (place, i)) o)
-    in ap there (slice_get-get_or (item ∷ items) place item within)
-
 pub byte-more : (b : Bool) → bool_byte b ≡ more b
 byte-more true = refl
 byte-more false = refl
@@ -155,10 +147,6 @@ module _ (links : List LinkView) (s : ManagerState) where
         in let short = script-short s.script is.is_script
         in let most = count_by-le-length is_answered (note_read round s.bus s.script (manager_r links s) (note_write round (manager_b links s) s.answers))
         in omega (arith, short, most, kept.counted, kept.one_each)
-
-    -- the answers after B and R are as many as the transactions
-    pub answers-all : (answers : List AnswerView) → answers ≡ note_read round s.bus s.script (manager_r links s) (note_write round (manager_b links s) s.answers) → length answers ≡ length s.script
-    answers-all answers same = ap (length {A = AnswerView}) same ∙ (after-r links s round counts is).one_each
 
 module _ {X : Type 0} where
   -- one more fits where one did before an answer was taken

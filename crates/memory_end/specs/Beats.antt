@@ -1,6 +1,6 @@
 -- The bytes of a beat: their lanes and addresses (Arm IHI 0022, data read and write structure), and what a beat reads
 -- and writes.
-use Rattle.std.specs.Prelude.{◌==◌, ◌+◌, ◌-◌, ◌*◌, ◌/◌, ◌&&◌, ℕ, Bool, List, map, filter, fold, nat_le, nat_lt, if◌then◌else◌, slice_index}
+use Rattle.std.specs.Prelude.{◌==◌, ◌+◌, ◌-◌, ◌&&◌, ℕ, Bool, List, map, filter, fold, nat_le, nat_lt, if◌then◌else◌, slice_index}
 use Rattle.std.specs.List.{range_with_len}
 use Rattle.std.specs.Int.{bit_at}
 use Rattle.axi_beats.specs.declared.beat.Addr.{Addr}
