@@ -7,11 +7,14 @@ use Rattle.std.specs.List.{refill}
 use Rattle.std.specs.Option.{option_map}
 use Rattle.flight.specs.Entries.{place_of, of_key, without_oldest}
 
-none-shift : (o : Option ℕ) → option_map suc o ≡ None → o ≡ None
+pub some-inner : {X : Type 0} (x y : X) → Some x ≡ Some y → x ≡ y
+some-inner x y e = cc
+
+pub none-shift : (o : Option ℕ) → option_map suc o ≡ None → o ≡ None
 none-shift None e = refl
 none-shift (Some n) e = absurd (cc)
 
-shift-none : (o : Option ℕ) → o ≡ None → option_map suc o ≡ None
+pub shift-none : (o : Option ℕ) → o ≡ None → option_map suc o ≡ None
 shift-none None e = refl
 shift-none (Some n) e = absurd (cc)
 
