@@ -1,5 +1,5 @@
 -- The bytes of an answer, and those that were read for it.
-use Rattle.std.proofs.Common.{◌≡◌, ℕ, ◌+◌, ◌-◌, ◌<◌, ◌≤◌, ◌&&◌, suc, Bool, true, false, cond, List, [], ◌∷◌, ◌++◌, length, map, take, drop, refl, sym, ◌∙◌, ap, arith, leb, ltb, length-append}
+use Rattle.std.proofs.Common.{◌≡◌, ℕ, ◌+◌, ◌-◌, ◌<◌, ◌≤◌, ◌&&◌, suc, Bool, true, false, cond, List, [], ◌∷◌, ◌++◌, length, map, take, drop, refl, sym, ◌∙◌, ap, arith, leb, ltb, length-append, append_assoc}
 use Rattle.std.specs.Prelude.{filter, flat_map, slice_range}
 use Rattle.std.specs.List.{range_with_len}
 use Rattle.std.proofs.lemmas.Bool.{le-leb, lt-ltb}
@@ -86,11 +86,7 @@ bytes_on-more [] r (s ∷ lanes) span rest e =
 bytes_on-more (b ∷ beats) r [] span rest e = absurd (cc)
 bytes_on-more (b ∷ beats) r (s ∷ lanes) span rest e =
     ap (λ t. slice_range b.lanes s.low (s.high + 1) ++ t) (bytes_on-more beats r lanes span rest e)
-    ∙ sym (assoc (slice_range b.lanes s.low (s.high + 1)) (bytes_on beats lanes) (slice_range r.lanes span.low (span.high + 1)))
-  where
-    assoc : (xs ys zs : List ℕ) → (xs ++ ys) ++ zs ≡ xs ++ (ys ++ zs)
-    assoc [] ys zs = refl
-    assoc (x ∷ xs) ys zs = ap (λ t. x ∷ t) (assoc xs ys zs)
+    ∙ sym (append_assoc (slice_range b.lanes s.low (s.high + 1)) (bytes_on beats lanes) (slice_range r.lanes span.low (span.high + 1)))
 
 -- a part of a list that tells each lane
 slice-range : (g : ℕ → ℕ) (end low count : ℕ) → 0 < count → low + count ≤ end → slice_range (map g (range_with_len 0 end)) low (low + count - 1 + 1) ≡ map g (range_with_len low count)

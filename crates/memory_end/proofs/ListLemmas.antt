@@ -1,10 +1,11 @@
 -- Facts on ranges, on folds over a part of them, and on padded lists.
-use Rattle.std.proofs.Common.{◌≡◌, ◌≢◌, ℕ, ◌+◌, ◌<◌, ◌≤◌, suc, zero, Bool, true, false, cond, List, [], ◌∷◌, ◌++◌, map, replicate, refl, sym, ◌∙◌, ap, arith, add-one, inl, inr, Some, subst}
-use Rattle.std.specs.Prelude.{All, filter, fold, slice_get, slice_set}
+use Rattle.std.proofs.Common.{◌≡◌, ◌≢◌, ℕ, ◌+◌, ◌<◌, ◌≤◌, suc, zero, Bool, true, false, cond, List, [], ◌∷◌, ◌++◌, map, replicate, refl, sym, ◌∙◌, ap, arith, add-one, inl, inr, Some, subst, append-nil}
+use Rattle.std.specs.Prelude.{All, AllPairs, Contains, filter, fold, slice_get, slice_set}
 use Rattle.std.specs.List.{range_with_len, AllByRecursion}
 use Rattle.std.proofs.lemmas.Bool.{cases_eq}
 use Rattle.std.proofs.lemmas.List.Elements.{filter-append}
 use Rattle.std.proofs.lemmas.List.Sums.{fold-append}
+use Rattle.std.proofs.lemmas.List.FromFn.{get_or-range_with_len, length-range_with_len}
 
 -- one number more
 pub range-more : (a n : ℕ) → range_with_len a (n + 1) ≡ range_with_len a n ++ (a + n) ∷ []
@@ -25,10 +26,6 @@ fold-range-more_passing f b p n e =
     ap (fold f b) (filter-range-more p n ∙ ap (λ c. filter p (range_with_len 0 n) ++ cond c (n ∷ []) []) e)
     ∙ fold-append f b (filter p (range_with_len 0 n)) (n ∷ [])
 
-append-nil : {X : Type 0} (xs : List X) → xs ++ [] ≡ xs
-append-nil [] = refl
-append-nil (x ∷ xs) = ap (λ t. x ∷ t) (append-nil xs)
-
 pub fold-range-more_failing : {B : Type 0} (f : B → ℕ → B) (b : B) (p : ℕ → Bool) (n : ℕ) → p n ≡ false → fold f b (filter p (range_with_len 0 (n + 1))) ≡ fold f b (filter p (range_with_len 0 n))
 fold-range-more_failing f b p n e =
     ap (fold f b) (filter-range-more p n ∙ ap (λ c. filter p (range_with_len 0 n) ++ cond c (n ∷ []) []) e ∙ append-nil (filter p (range_with_len 0 n)))
@@ -42,6 +39,17 @@ filter-range-below p a (suc n) end le =
       | true ↦ (omega arith, rest)
       | false ↦ rest
     ]
+
+-- a range ascends, and has each number from its first one on
+pub range-ascends : (a n : ℕ) → AllPairs (λ i j. i < j) (range_with_len a n)
+range-ascends a n i j d before within =
+    let long = length-range_with_len a n in
+    let low = get_or-range_with_len a n i d (omega arith) in
+    let high = get_or-range_with_len a n j d (omega arith) in
+    omega arith
+
+pub range-contains : (a n x : ℕ) → x < n → Contains (range_with_len a n) (a + x)
+range-contains a n x within = (x, subst (λ (m : ℕ). x < m) (sym (length-range_with_len a n)) within, get_or-range_with_len a n x (a + x) within)
 
 -- functions that agree on a range
 pub map-range-agree : (f g : ℕ → ℕ) (a n : ℕ) → ((k : ℕ) → a ≤ k → k < a + n → f k ≡ g k) → map f (range_with_len a n) ≡ map g (range_with_len a n)

@@ -10,6 +10,7 @@ use Rattle.axi_beats.specs.declared.beat.WBeat.{WBeat}
 use Rattle.axi_beats.specs.declared.response.Resp.TheVariants.{Okay}
 use Rattle.axi_link.specs.LinkView.{LinkView}
 use Rattle.axi_link.specs.Table.{head_of, has_room, passing}
+use Rattle.axi_link.proofs.KeepLemmas.{passing-has}
 use Rattle.burst_address.specs.Formulas.{beats_of}
 use Rattle.memory_end.specs.declared.config.MemoryConfig.{MemoryConfig}
 use Rattle.memory_end.specs.declared.entry.WriteEntry.{WriteEntry}
@@ -85,11 +86,6 @@ module _ (config : MemoryConfig) (lines : List ℕ) where
       let new : WriteEntry = record { request = request; taken = 0; worst = Okay } in
       All-append P entries (new ∷ []) all (All-cons P new [] record { request = word; lines_kept = kept; taken = omega arith } (All-nil P))
 
--- what holds of a head holds of what is taken of it
-taken-is : (P : Addr → Type 0) (may : Bool) (o : Option Addr) → IfSome o P → IfSome (passing may o) P
-taken-is P true o is = is
-taken-is P false o is = tt
-
 module _ (config : MemoryConfig) where
   after_r-stays : (store : Store) (link : LinkView) (entries : List ReadEntry) → All (IsReadEntry config) entries → All (IsReadEntry config) (after_r (put_read config store link entries) entries)
   after_r-stays store link [] all =
@@ -122,10 +118,10 @@ memory-stays round links state is can =
     let link : LinkView = memory_link links state in
     let keeps : Keeps state.store (store_after state.config (memory_w links state) state.write_entries state.store) =
     store_after-keeps state.config (memory_w links state) state.write_entries state.store in
-    let words : IfSome (memory_aw links state) (IsRequest state.config.bus) = taken-is (IsRequest state.config.bus) (fits state.write_entries) (head_of link.aw) can.aw in
+    let words : IfSome (memory_aw links state) (IsRequest state.config.bus) = passing-has (IsRequest state.config.bus) (fits state.write_entries) (head_of link.aw) can.aw in
     let kept : IfSome (memory_aw links state) (AreLinesAmong state.config state.store.lines) =
-    taken-is (AreLinesAmong state.config state.store.lines) (fits state.write_entries) (head_of link.aw) can.aw_lines in
-    let reads : IfSome (memory_ar links state) (IsRequest state.config.bus) = taken-is (IsRequest state.config.bus) (fits state.read_entries) (head_of link.ar) can.ar in
+    passing-has (AreLinesAmong state.config state.store.lines) (fits state.write_entries) (head_of link.aw) can.aw_lines in
+    let reads : IfSome (memory_ar links state) (IsRequest state.config.bus) = passing-has (IsRequest state.config.bus) (fits state.read_entries) (head_of link.ar) can.ar in
     let answered : List WriteEntry = after_b (memory_b links state) state.write_entries in
     let filled : List WriteEntry = after_w state.config (memory_w links state) answered in
     let writes : All (IsWriteEntry state.config state.store.lines) (after_aw (memory_aw links state) filled) =

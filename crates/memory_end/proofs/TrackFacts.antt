@@ -20,7 +20,7 @@ use Rattle.memory_end.specs.declared.entry.WriteEntry.{WriteEntry}
 abbrev pub beats_of_all : List Addr → ℕ
 beats_of_all addresses = beats_by len_of_address addresses
 
-worst-assoc : (a b c : Resp) → worst_of (worst_of a b) c ≡ worst_of a (worst_of b c)
+pub worst-assoc : (a b c : Resp) → worst_of (worst_of a b) c ≡ worst_of a (worst_of b c)
 worst-assoc Okay b c = refl
 worst-assoc SlvErr Okay c = refl
 worst-assoc SlvErr SlvErr Okay = refl

@@ -7,7 +7,7 @@ use Rattle.axi_beats.specs.declared.beat.Addr.{Addr}
 use Rattle.axi_beats.specs.declared.beat.WBeat.{WBeat}
 use Rattle.axi_link.specs.LinkView.{LinkView}
 use Rattle.axi_link.specs.Table.{head_of, link_of, put_of}
-use Rattle.axi_link.proofs.KeepLemmas.{All-moved}
+use Rattle.axi_link.proofs.KeepLemmas.{All-moved, passing-has}
 use Rattle.burst_address.proofs.Beats.{beat-count}
 use Rattle.burst_address.specs.Bytes.{burst_bytes}
 use Rattle.burst_address.specs.Legal.{IsLegal}
@@ -24,7 +24,7 @@ use Rattle.memory_end.proofs.StayLemmas.{memory-stays}
 use Rattle.memory_end.specs.MemoryState.{AreLinesAmong, IsMemory, IsRequest}
 use Rattle.memory_end.specs.MemoryTable.{CanMemory, memory_out}
 use Rattle.memory_end.specs.declared.config.MemoryConfig.{MemoryConfig}
-use Rattle.net_rounds.proofs.Choosing.{All-slice_get, IfSome-both, IfSome-map, passing-has}
+use Rattle.net_rounds.proofs.Choosing.{All-slice_get, IfSome-both, IfSome-map}
 use Rattle.net_rounds.proofs.NotesLemmas.{FewNotes, few-keeps}
 use Rattle.net_rounds.proofs.Pair.{Pair, decided, moved, pair_after}
 use Rattle.net_rounds.proofs.ScriptPlaces.{placed-of}
