@@ -25,9 +25,9 @@ abbrev pub is_write_at : ℕ → ℕ → Event → Bool
 is_write_at node address e = e.write && (e.node == node) && (e.address == address)
 
 -- what a place holds after these accesses: what the last write there wrote, else what it held before
-abbrev pub held_after : ℕ → ℕ → ℕ → List Event → ℕ
-held_after node address before [] = before
-held_after node address before (e ∷ more) = held_after node address (if is_write_at node address e then e.value else before) more
+abbrev pub value_after : ℕ → ℕ → ℕ → List Event → ℕ
+value_after node address before [] = before
+value_after node address before (e ∷ more) = value_after node address (if is_write_at node address e then e.value else before) more
 
 -- an access belongs to a transaction of its number and direction, at that one's target
 abbrev pub IsOf : List Transaction → Event → Type 0
@@ -43,4 +43,4 @@ pub record Delivered (transactions : List Transaction) (events : List Event) (an
   pub whole : All (λ (t : Transaction). IsAnswered t answers → map shown (events_of t.number events) ≡ map wanted (due t)) transactions
   -- a read sees what the latest write before it wrote there, and else the subordinate's fill byte
   pub reads_latest :
-      All (λ (t : Transaction). (earlier later : List Event) (e : Event) → events ≡ earlier ++ e ∷ later → e.number ≡ t.number → e.write ≡ false → e.value ≡ held_after e.node e.address t.fill earlier) transactions
+      All (λ (t : Transaction). (earlier later : List Event) (e : Event) → events ≡ earlier ++ e ∷ later → e.number ≡ t.number → e.write ≡ false → e.value ≡ value_after e.node e.address t.fill earlier) transactions

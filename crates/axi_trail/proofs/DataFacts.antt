@@ -1,7 +1,7 @@
 -- A write is answered after its data.
-use Rattle.std.proofs.Common.{◌≡◌, ℕ, ◌≤◌, suc, zero, List, [], ◌∷◌, length, map, take, drop, refl, sym, ◌∙◌, ap, inl, inr, arith, filter}
+use Rattle.std.proofs.Common.{◌≡◌, ℕ, ◌≤◌, suc, zero, List, [], ◌∷◌, length, map, take, refl, sym, ◌∙◌, ap, inl, inr, arith, filter}
 use Rattle.std.proofs.lemmas.Bool.{cases_lt}
-use Rattle.std.proofs.lemmas.List.{length-map, take-append-drop, take-map}
+use Rattle.std.proofs.lemmas.List.{length-map, take-map}
 use Rattle.axi_beats.specs.declared.beat.Addr.{Addr}
 use Rattle.flight.specs.Entries.{of_key, count_of}
 use Rattle.axi_trail.specs.ContractLaws.{AnsweredHaveTheirData}
@@ -12,7 +12,7 @@ use Rattle.axi_trail.proofs.FilterFacts.{of_key-of_key, of_key-map, length-by_co
 use Rattle.axi_trail.proofs.MarkFacts.{agree_prefix, completed_are_complete}
 use Rattle.axi_trail.proofs.OrderFacts.{at_most_asked, own_ids, own_beats, prefix_total}
 use Rattle.axi_trail.proofs.PrefixFacts.{prefix_length, prefix_map, prefix_flat_map, prefix_of_key}
-use Rattle.axi_trail.proofs.StreamFacts.{prefix_trans}
+use Rattle.axi_trail.proofs.StreamFacts.{prefix_first, prefix_trans}
 use Rattle.axi_trail.proofs.WaitingFacts.{complete-beats}
 
 -- a transaction has no more answers than its requests ask for
@@ -31,9 +31,6 @@ own_answers_within asked replies t order =
 pub beats_of-writes : (addresses : List Addr) → beats_of (map write_asked addresses) ≡ length addresses
 beats_of-writes [] = refl
 beats_of-writes (a ∷ addresses) = omega (arith, beats_of-writes addresses)
-
-prefix_first : {X : Type 0} (n : ℕ) (xs : List X) → IsPrefix (take n xs) xs
-prefix_first n xs = record { rest = drop n xs; whole = sym (take-append-drop n xs) }
 
 length-take_le : {X : Type 0} (n : ℕ) (xs : List X) → length (take n xs) ≤ n
 length-take_le zero xs = omega arith

@@ -11,7 +11,7 @@ use Rattle.axi_trail.specs.LinkContracts.{Asks, Answers, Requests, WholeBeforeTh
 use Rattle.axi_trail.specs.Schedule.{Share, bytes_on}
 use Rattle.axi_trail.specs.Streams.{IsPrefix}
 use Rattle.axi_trail.specs.Words.{Asked, Reply, marks, write_asked, burst_asked, write_reply, read_reply, mark_of_data, mark_of_reply, id_of_asked, id_of_reply, number_of_address, number_of_data, number_of_response, number_of_read_data}
-use Rattle.axi_trail.proofs.FilterFacts.{of_key-skip, of_key-one}
+use Rattle.axi_trail.proofs.FilterFacts.{of_key-one, of_key-other, of_key-skip}
 use Rattle.axi_trail.proofs.MarkFacts.{prefix_agree}
 use Rattle.axi_trail.proofs.StreamFacts.{prefix_nil, prefix_itself}
 
@@ -19,12 +19,9 @@ use Rattle.axi_trail.proofs.StreamFacts.{prefix_nil, prefix_itself}
 at_each : (P : ℕ → Type 0) (n : ℕ) → P n → ((t : ℕ) → n ≢ t → P t) → (t : ℕ) → P t
 at_each P n here elsewhere t = elim (cases_eq n t) [ inl e ↦ subst P e here | inr ne ↦ elsewhere t ne ]
 
--- no beat of another number is in a list of one beat, or of two of one number
-none_of : {X : Type 0} (key_of : X → ℕ) (x : X) (t : ℕ) → key_of x ≢ t → of_key key_of t (x ∷ []) ≡ []
-none_of key_of x t ne = of_key-skip key_of t x [] ne
-
+-- no beat of another number is in a list of two of one number
 none_of_two : {X : Type 0} (key_of : X → ℕ) (x y : X) (t : ℕ) → key_of x ≢ t → key_of y ≢ t → of_key key_of t (x ∷ y ∷ []) ≡ []
-none_of_two key_of x y t ne ne' = of_key-skip key_of t x (y ∷ []) ne ∙ none_of key_of y t ne'
+none_of_two key_of x y t ne ne' = of_key-skip key_of t x (y ∷ []) ne ∙ of_key-other key_of t y ne'
 
 empty_prefix : {X : Type 0} (xs ys : List X) → xs ≡ [] → IsPrefix xs ys
 empty_prefix xs ys e = record { rest = ys; whole = ap (λ t. t ++ ys) (sym e) }
@@ -45,7 +42,7 @@ module _ (shares : ℕ → Share) (id_width : ℕ) (issued : ℕ → Bool) (show
   own_parts : (t : ℕ) → IsPrefix (map without_id (of_key number_of_address t (address ∷ []))) (shares t).parts
   own_parts = at_each (λ t. IsPrefix (map without_id (of_key number_of_address t (address ∷ []))) (shares t).parts) address.tag.txn
       (subst (λ (xs : List Addr). IsPrefix (map without_id xs) (shares address.tag.txn).parts) (sym (of_key-one number_of_address address.tag.txn address refl)) whole)
-      (λ t ne. empty_prefix (map without_id (of_key number_of_address t (address ∷ []))) (shares t).parts (ap (map without_id) (none_of number_of_address address t ne)))
+      (λ t ne. empty_prefix (map without_id (of_key number_of_address t (address ∷ []))) (shares t).parts (ap (map without_id) (of_key-other number_of_address t address ne)))
 
   none_earlier : WholeBeforeTheNext shares (shown address ∷ [])
   none_earlier before a after t e earlier =
@@ -82,7 +79,7 @@ example_asks = record {
       (never_nil 0 (3 ∷ 1 ∷ 1 ∷ [])) (λ t ne. ap (λ s. s.chain) (no_read t ne)) refl;
   data_is_the_schedules = at_each (λ t. IsPrefix (of_key number_of_data t (write_data_beat ∷ [])) (flat_map (λ beats. beats) (example_plan.writes t).write_data)) 8
       (prefix_itself (write_data_beat ∷ []))
-      (λ t ne. empty_prefix (of_key number_of_data t (write_data_beat ∷ [])) (flat_map (λ beats. beats) (example_plan.writes t).write_data) (none_of number_of_data write_data_beat t ne));
+      (λ t ne. empty_prefix (of_key number_of_data t (write_data_beat ∷ [])) (flat_map (λ beats. beats) (example_plan.writes t).write_data) (of_key-other number_of_data t write_data_beat ne));
   data_follows_addresses = prefix_agree (prefix_itself (mark_of_data write_data_beat ∷ []));
 }
 
@@ -91,14 +88,14 @@ example_answers = record {
   answers_in_order_of_id = at_each (λ id. IsPrefix (map mark_of_reply (of_key id_of_reply id (write_reply write_response ∷ []))) (marks (of_key id_of_asked id (write_asked write_address ∷ [])))) 2
       (prefix_itself (mark_of_reply (write_reply write_response) ∷ []))
       (λ id ne. empty_prefix (map mark_of_reply (of_key id_of_reply id (write_reply write_response ∷ []))) (marks (of_key id_of_asked id (write_asked write_address ∷ [])))
-      (ap (map mark_of_reply) (none_of id_of_reply (write_reply write_response) id ne)));
+      (ap (map mark_of_reply) (of_key-other id_of_reply id (write_reply write_response) ne)));
   reads_in_order_of_id = at_each (λ id. IsPrefix (map mark_of_reply (of_key id_of_reply id (read_reply first_read_data ∷ read_reply last_read_data ∷ []))) (marks (of_key id_of_asked id (burst_asked read_address ∷ [])))) 3
       (prefix_itself (mark_of_reply (read_reply first_read_data) ∷ mark_of_reply (read_reply last_read_data) ∷ []))
       (λ id ne. empty_prefix (map mark_of_reply (of_key id_of_reply id (read_reply first_read_data ∷ read_reply last_read_data ∷ []))) (marks (of_key id_of_asked id (burst_asked read_address ∷ [])))
       (ap (map mark_of_reply) (none_of_two id_of_reply (read_reply first_read_data) (read_reply last_read_data) id ne ne)));
   responses_are_the_schedules = at_each (λ t. IsPrefix (map (λ b. b.resp) (of_key number_of_response t (write_response ∷ []))) (example_plan.writes t).responses) 8
       (prefix_itself (Okay ∷ []))
-      (λ t ne. empty_prefix (map (λ b. b.resp) (of_key number_of_response t (write_response ∷ []))) (example_plan.writes t).responses (ap (map (λ b. b.resp)) (none_of number_of_response write_response t ne)));
+      (λ t ne. empty_prefix (map (λ b. b.resp) (of_key number_of_response t (write_response ∷ []))) (example_plan.writes t).responses (ap (map (λ b. b.resp)) (of_key-other number_of_response t write_response ne)));
   read_responses_are_the_schedules = at_each (λ t. IsPrefix (map (λ r. r.resp) (of_key number_of_read_data t (first_read_data ∷ last_read_data ∷ []))) (example_plan.reads t).responses) 7
       (prefix_itself (Okay ∷ Okay ∷ []))
       (λ t ne. empty_prefix (map (λ r. r.resp) (of_key number_of_read_data t (first_read_data ∷ last_read_data ∷ []))) (example_plan.reads t).responses
@@ -106,7 +103,7 @@ example_answers = record {
   answered_after_its_data = at_each (λ id. IsPrefix (map mark_of_reply (of_key id_of_reply id (write_reply write_response ∷ []))) (marks (of_key id_of_asked id (write_asked write_address ∷ [])))) 2
       (prefix_itself (mark_of_reply (write_reply write_response) ∷ []))
       (λ id ne. empty_prefix (map mark_of_reply (of_key id_of_reply id (write_reply write_response ∷ []))) (marks (of_key id_of_asked id (write_asked write_address ∷ [])))
-      (ap (map mark_of_reply) (none_of id_of_reply (write_reply write_response) id ne)));
+      (ap (map mark_of_reply) (of_key-other id_of_reply id (write_reply write_response) ne)));
   done_when_answered = at_each (λ t. 0 < length (example_plan.writes t).parts → length (example_plan.writes t).parts ≤ length (of_key number_of_response t (write_response ∷ [])) → IsTrue (example_progress.written t)) 8
       (λ some all. refl)
       (λ t ne some all. absurd (omega (arith, ap (λ s. length s.parts) (no_write t ne))));

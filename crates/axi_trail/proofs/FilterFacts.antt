@@ -67,13 +67,6 @@ module _ {X : Type 0} where
   pub of_key-push_other : (f : X → ℕ) (key : ℕ) (xs : List X) (x : X) → f x ≢ key → of_key f key (xs ++ x ∷ []) ≡ of_key f key xs
   of_key-push_other f key xs x ne = of_key-append f key xs (x ∷ []) ∙ ap (λ t. of_key f key xs ++ t) (of_key-other f key x ne) ∙ append-nil (of_key f key xs)
 
-  pub length-of_key-le : (f : X → ℕ) (key : ℕ) (xs : List X) → length (of_key f key xs) ≤ length xs
-  length-of_key-le f key [] = omega arith
-  length-of_key-le f key (x ∷ xs) =
-      let go : (b : Bool) → length (cond b (x ∷ of_key f key xs) (of_key f key xs)) ≤ suc (length xs) =
-      elim [ true ↦ omega (arith, length-of_key-le f key xs) | false ↦ omega (arith, length-of_key-le f key xs) ]
-      in go (f x == key)
-
   -- the filter of a list of images
   pub of_key-map : {Y : Type 0} (f : Y → ℕ) (g : X → Y) (key : ℕ) (xs : List X) → of_key f key (map g xs) ≡ map g (of_key (λ x. f (g x)) key xs)
   of_key-map f g key [] = refl

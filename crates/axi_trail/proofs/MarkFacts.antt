@@ -10,6 +10,7 @@ use Rattle.axi_trail.specs.Words.{Mark, Asked, EndsAtLast, owed_marks, pending_a
 use Rattle.axi_trail.proofs.FilterFacts.{filter_cons, filter_skip, burst_selected, burst_left_out, length-burst_marks}
 use Rattle.axi_trail.proofs.StreamFacts.{prefix_nil}
 use Rattle.axi_trail.proofs.WaitingFacts.{pending-past, pending-within, complete-past, complete-within}
+use Rattle.flight.proofs.HeldFacts.{drop_nothing}
 
 module _ {X : Type 0} where
   pub agree_tail : (x y : X) (xs ys : List X) → Agree (x ∷ xs) (y ∷ ys) → Agree xs ys
@@ -45,12 +46,8 @@ drop_past count [] ys le = ap (λ n. drop n ys) (omega arith)
 drop_past zero (x ∷ xs) ys le = absurd (omega arith)
 drop_past (suc count) (x ∷ xs) ys le = drop_past count xs ys (omega arith) ∙ ap (λ n. drop n ys) (omega arith)
 
-drop_none : (count : ℕ) → drop {A = Mark} count [] ≡ []
-drop_none zero = refl
-drop_none (suc count) = refl
-
 pub pending_owe_the_rest : (count : ℕ) (asked : List Asked) → drop count (marks asked) ≡ flat_map owed_marks (pending len_of_asked count asked)
-pending_owe_the_rest count [] = drop_none count
+pending_owe_the_rest count [] = drop_nothing count
 pending_owe_the_rest count (a ∷ asked) = elim (cases_lt a.len count) [
   | inl lt ↦
       drop_past count (marks_of a) (marks asked) (omega (arith, length-burst_marks a.number a.len))

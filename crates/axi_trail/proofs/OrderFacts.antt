@@ -28,7 +28,7 @@ module _ {X : Type 0} where
   pub prefix_total : {xs ys zs : List X} → IsPrefix xs zs → IsPrefix ys zs → length xs ≤ length ys → IsPrefix xs ys
   prefix_total {xs} {ys} p q le = front_of xs ys p.rest q.rest (sym p.whole ∙ q.whole) le
 
-  length-filter_le : (test : X → Bool) (xs : List X) → length (filter test xs) ≤ length xs
+  pub length-filter_le : (test : X → Bool) (xs : List X) → length (filter test xs) ≤ length xs
   length-filter_le test [] = omega arith
   length-filter_le test (x ∷ xs) =
       let go : (b : Bool) → length (cond b (x ∷ filter test xs) (filter test xs)) ≤ suc (length xs) =

@@ -1,6 +1,6 @@
 -- Facts on lists of beats that grow.
-use Rattle.std.proofs.Common.{◌≡◌, ℕ, suc, zero, Bool, true, false, cond, List, [], ◌∷◌, ◌++◌, refl, sym, ◌∙◌, ap, append_assoc, append-nil}
-use Rattle.std.proofs.lemmas.List.{take-append-drop}
+use Rattle.std.proofs.Common.{◌≡◌, ℕ, suc, zero, Bool, true, false, cond, List, [], ◌∷◌, ◌++◌, refl, sym, ◌∙◌, ap, append_assoc, append-nil, ◌≤◌, length, take, drop, arith}
+use Rattle.std.proofs.lemmas.List.{length-append, take-append-drop}
 use Rattle.axi_link.specs.Moves.{without_head}
 use Rattle.axi_trail.specs.Streams.{over, picked, beat_taken, IsPrefix}
 use Rattle.axi_trail.specs.Trail.{IsQueue}
@@ -17,6 +17,17 @@ module _ {X : Type 0} where
 
   pub prefix_trans : {xs ys zs : List X} → IsPrefix xs ys → IsPrefix ys zs → IsPrefix xs zs
   prefix_trans {xs} {ys} {zs} p q = record { rest = p.rest ++ q.rest; whole = q.whole ∙ ap (λ t. t ++ q.rest) p.whole ∙ append_assoc xs p.rest q.rest }
+
+  pub prefix_first : (n : ℕ) (xs : List X) → IsPrefix (take n xs) xs
+  prefix_first n xs = record { rest = drop n xs; whole = sym (take-append-drop n xs) }
+
+  -- a beginning that is as long as its list is the list
+  pub prefix_whole : (xs ys : List X) → IsPrefix xs ys → length ys ≤ length xs → ys ≡ xs
+  prefix_whole xs ys p le = p.whole ∙ without_rest p.rest (omega (arith, ap length p.whole, length-append xs p.rest))
+    where
+      without_rest : (rest : List X) → length rest ≡ 0 → xs ++ rest ≡ xs
+      without_rest [] none = append-nil xs
+      without_rest (x ∷ rest) none = absurd (omega arith)
 
   -- the head of a queue, and what is left without it
   pub taken_and_left : (takes : Bool) (queue : List X) → beat_taken takes queue ++ without_head takes queue ≡ queue

@@ -16,7 +16,7 @@ written-append (x ∷ xs) ys (None ∷ us) vs e = written-append xs ys us vs (om
 written-append (x ∷ xs) ys (Some u ∷ us) vs e = ap (λ t. (x, u) ∷ t) (written-append xs ys us vs (omega arith))
 
 -- addresses past the values are not written
-written-past : (ys : List ℕ) → written ys [] ≡ []
+pub written-past : (ys : List ℕ) → written ys [] ≡ []
 written-past [] = refl
 written-past (y ∷ ys) = refl
 

@@ -7,11 +7,14 @@ use Rattle.std.specs.List.{refill}
 use Rattle.std.specs.Option.{option_map}
 use Rattle.flight.specs.Entries.{place_of, of_key, without_oldest}
 
-none-shift : (o : Option ℕ) → option_map suc o ≡ None → o ≡ None
+pub some-inner : {X : Type 0} (x y : X) → Some x ≡ Some y → x ≡ y
+some-inner x y e = cc
+
+pub none-shift : (o : Option ℕ) → option_map suc o ≡ None → o ≡ None
 none-shift None e = refl
 none-shift (Some n) e = absurd (cc)
 
-shift-none : (o : Option ℕ) → o ≡ None → option_map suc o ≡ None
+pub shift-none : (o : Option ℕ) → o ≡ None → option_map suc o ≡ None
 shift-none None e = refl
 shift-none (Some n) e = absurd (cc)
 
@@ -83,14 +86,6 @@ of_key-without_other key_of key other (x ∷ xs) ne =
       | false ↦ λ h. ap (λ t. cond (key_of x == other) (x ∷ t) t) (of_key-without_other key_of key other xs ne)
     ]
     in go (key_of x == key) refl
-
--- the keys of what is left without the oldest
-pub map-without : {X Y : Type 0} (f : X → Y) (key_of : Y → ℕ) (key : ℕ) (entries : List X) → map f (without_oldest (λ x. key_of (f x)) key entries) ≡ without_oldest key_of key (map f entries)
-map-without f key_of key [] = refl
-map-without f key_of key (x ∷ xs) =
-    let go : (b : Bool) → map f (cond b xs (x ∷ without_oldest (λ y. key_of (f y)) key xs)) ≡ cond b (map f xs) (f x ∷ without_oldest key_of key (map f xs)) =
-    elim [ true ↦ refl | false ↦ ap (λ t. f x ∷ t) (map-without f key_of key xs) ]
-    in go (key_of (f x) == key)
 
 -- to write an entry with the key of the one that stands there keeps all keys
 pub map-set_same : {X : Type 0} (key_of : X → ℕ) (entries : List X) (place : ℕ) (entry : X) → slice_get (map key_of entries) place ≡ Some (key_of entry) → map key_of (slice_set entries place entry) ≡ map key_of entries

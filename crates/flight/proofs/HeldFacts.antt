@@ -102,7 +102,7 @@ held_after-answer before (k ∷ keys) answers key le =
 held_after-none : (before keys : List ℕ) (k : ℕ) → held_after before (k ∷ keys) [] ≡ (request_at (length before) k) ∷ held_after (before ++ k ∷ []) keys []
 held_after-none before keys k = ap (λ t. cond t (held_after (before ++ k ∷ []) keys []) ((request_at (length before) k) ∷ held_after (before ++ k ∷ []) keys [])) (le-ltb (count_of k before) 0 (omega arith))
 
-drop_nothing : {X : Type 0} (n : ℕ) → drop {A = X} n [] ≡ []
+pub drop_nothing : {X : Type 0} (n : ℕ) → drop {A = X} n [] ≡ []
 drop_nothing zero = refl
 drop_nothing (suc n) = refl
 

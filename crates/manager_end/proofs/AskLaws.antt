@@ -13,7 +13,7 @@ use Rattle.flight.specs.Entries.{of_key}
 use Rattle.axi_trail.proofs.FilterFacts.{of_key-append, of_key-cons, of_key-skip}
 use Rattle.axi_trail.proofs.MarkFacts.{prefix_agree}
 use Rattle.axi_trail.proofs.PrefixFacts.{Agree_fronts, prefix_after, prefix_flat_map, prefix_map, prefix_of_key, prefix_of_same, prefix_same}
-use Rattle.axi_trail.proofs.StreamFacts.{prefix_itself, prefix_nil}
+use Rattle.axi_trail.proofs.StreamFacts.{prefix_first, prefix_itself, prefix_nil, prefix_trans}
 use Rattle.axi_trail.specs.LinkContracts.{OneIdAtATime, Requests, WholeBeforeTheNext}
 use Rattle.axi_trail.specs.Schedule.{Progress, Schedule}
 use Rattle.axi_trail.specs.Streams.{Agree, IsPrefix}
@@ -73,20 +73,14 @@ sent-prefix : (bus sent beats : ℕ) (transactions : List (ℕ × ScriptItem)) �
 sent-prefix bus sent beats transactions =
     let go : (o : Option (ℕ × ScriptItem)) → slice_get transactions sent ≡ o → IsPrefix (flat_map (λ (p : ℕ × ScriptItem). data_beats p.1 bus) (take sent transactions) ++ first_data bus beats o) (flat_map (λ (p : ℕ × ScriptItem). data_beats p.1 bus) transactions) =
     elim [
-      | None ↦ λ none. prefix_same (append-nil (flat_map (λ (p : ℕ × ScriptItem). data_beats p.1 bus) (take sent transactions))) (prefix_flat_map (λ (p : ℕ × ScriptItem). data_beats p.1 bus) (front-of sent transactions))
+      | None ↦ λ none. prefix_same (append-nil (flat_map (λ (p : ℕ × ScriptItem). data_beats p.1 bus) (take sent transactions))) (prefix_flat_map (λ (p : ℕ × ScriptItem). data_beats p.1 bus) (prefix_first sent transactions))
       | Some x ↦ λ at.
           let next : flat_map (λ (p : ℕ × ScriptItem). data_beats p.1 bus) (take (suc sent) transactions) ≡ flat_map (λ (p : ℕ × ScriptItem). data_beats p.1 bus) (take sent transactions) ++ (data_beats x.1 bus ++ []) =
           ap (flat_map (λ (p : ℕ × ScriptItem). data_beats p.1 bus)) (take-one sent transactions x at) ∙ flat_map-append (λ (p : ℕ × ScriptItem). data_beats p.1 bus) (take sent transactions) (x ∷ [])
-          in let part : IsPrefix (take beats (data_beats x.1 bus)) (data_beats x.1 bus ++ []) = prefix_of_same (front-of beats (data_beats x.1 bus)) (sym (append-nil (data_beats x.1 bus)))
-          in prefix_then (prefix_of_same (prefix_after (flat_map (λ (p : ℕ × ScriptItem). data_beats p.1 bus) (take sent transactions)) part) (sym next)) (prefix_flat_map (λ (p : ℕ × ScriptItem). data_beats p.1 bus) (front-of (suc sent) transactions))
+          in let part : IsPrefix (take beats (data_beats x.1 bus)) (data_beats x.1 bus ++ []) = prefix_of_same (prefix_first beats (data_beats x.1 bus)) (sym (append-nil (data_beats x.1 bus)))
+          in prefix_trans (prefix_of_same (prefix_after (flat_map (λ (p : ℕ × ScriptItem). data_beats p.1 bus) (take sent transactions)) part) (sym next)) (prefix_flat_map (λ (p : ℕ × ScriptItem). data_beats p.1 bus) (prefix_first (suc sent) transactions))
     ]
     in go (slice_get transactions sent) refl
-  where
-    front-of : {X : Type 0} (n : ℕ) (xs : List X) → IsPrefix (take n xs) xs
-    front-of n xs = record { rest = drop n xs; whole = sym (take-append-drop n xs) }
-
-    prefix_then : {X : Type 0} {xs ys zs : List X} → IsPrefix xs ys → IsPrefix ys zs → IsPrefix xs zs
-    prefix_then {xs = xs} one other = record { rest = one.rest ++ other.rest; whole = other.whole ∙ ap (λ ws. ws ++ other.rest) one.whole ∙ append_assoc xs one.rest other.rest }
 
 -- the marks of a write's data are those of its request
 data-marks : (bus : ℕ) (item : ScriptItem) (n k : ℕ) → k + n ≡ item.txn.request.len → map mark_of_data (map (data_beat item bus) (range_with_len k (suc n))) ≡ burst_marks item.txn.number n

@@ -1,21 +1,12 @@
 -- The bytes of bursts, counted beat by beat.
-use Rattle.std.proofs.Common.{◌≡◌, ℕ, ◌+◌, ◌-◌, ◌*◌, ◌^◌, ◌<◌, ◌≤◌, zero, suc, length, refl, ap, arith, length-append}
-use Rattle.std.proofs.Math.Nat.{pow-le-pow_right}
+use Rattle.std.proofs.Common.{◌≡◌, ℕ, ◌+◌, ◌-◌, ◌*◌, ◌≤◌, zero, suc, length, refl, ap, arith, length-append}
 use Rattle.axi_beats.specs.Bus.{IsBusWidth}
 use Rattle.axi_beats.specs.declared.beat.Addr.{Addr}
 use Rattle.burst_address.proofs.Beats.{beat-count}
 use Rattle.burst_address.proofs.Legality.{legal-size}
-use Rattle.burst_address.proofs.Numbers.{bus_power}
 use Rattle.burst_address.specs.Bytes.{beat_bytes, bytes_before, burst_bytes}
 use Rattle.burst_address.specs.Legal.{IsLegal}
 use Rattle.manager_end.specs.Beats.{high_lane, low_lane}
-
--- the widest bus
-pub bus-most : (bus : ℕ) → IsBusWidth bus → bus ≤ 128
-bus-most bus is =
-    let power : (w : ℕ) × (bus ≡ 2 ^ w) × (w ≤ 7) = bus_power bus is
-    in let most = pow-le-pow_right {n = 2} (omega arith) {i = power.0} {j = 7} power.2
-    in omega (arith, power.1)
 
 module _ (a : Addr) (bus n : ℕ) (wide : IsBusWidth bus) (legal : IsLegal a bus) where
   -- a beat has a byte on each valid lane
@@ -24,9 +15,6 @@ module _ (a : Addr) (bus n : ℕ) (wide : IsBusWidth bus) (legal : IsLegal a bus
 
   pub lane-count : high_lane bus a n - low_lane bus a n + 1 ≡ length (beat_bytes a n)
   lane-count = let count = beat-count a bus n wide legal in omega (arith, count.0, count.1)
-
-  pub lane-most : high_lane bus a n < 128
-  lane-most = let count = beat-count a bus n wide legal in omega (arith, count.3, bus-most bus wide)
 
 -- one more beat
 pub bytes-next : (a : Addr) (n : ℕ) → length (bytes_before a (suc n)) ≡ length (bytes_before a n) + length (beat_bytes a n)

@@ -9,7 +9,7 @@ use Rattle.axi_beats.specs.declared.response.Resp.{Resp}
 use Rattle.burst_address.specs.Bytes.{bytes_before}
 use Rattle.burst_address.specs.Legal.{IsLegal}
 use Rattle.manager_end.specs.Answer.{AnswerView, answered_in, is_last}
-use Rattle.manager_end.specs.Beats.{high_lane, low_lane, valid_lanes}
+use Rattle.manager_end.specs.Beats.{high_lane, low_lane, bytes_on_valid_lanes}
 use Rattle.manager_end.specs.ManagerState.{IsDue, bytes_by, is_answered}
 use Rattle.manager_end.specs.ManagerTable.{read_in}
 use Rattle.manager_end.specs.Script.{ScriptItem}
@@ -41,7 +41,7 @@ answered-now a round counts is = ap (λ (k : ℕ). nat_lt 0 k) is ∙ lt-ltb 0 r
 
 -- what is noted of a beat of a read
 pub read-is : (script : List ScriptItem) (place round bus : ℕ) (beat : RBeat) (a : AnswerView) (item : ScriptItem) → slice_get script place ≡ Some item →
-    read_in round bus (slice_get script place) beat a ≡ answered_in round beat.resp (valid_lanes bus item.txn.request (length a.resps) beat.lanes) a
+    read_in round bus (slice_get script place) beat a ≡ answered_in round beat.resp (bytes_on_valid_lanes bus item.txn.request (length a.resps) beat.lanes) a
 read-is script place round bus beat a item at = ap (λ (i : Option ScriptItem). read_in round bus i beat a) at
 
 -- after a beat that isn't the last one, more are due
@@ -56,15 +56,15 @@ read-more script place round bus beat a wide all more due =
     in let longer : length (a.resps ++ beat.resp ∷ []) ≡ suc (length a.resps) = omega (arith, length-append a.resps (beat.resp ∷ []))
     in let was : length a.bytes ≤ length (bytes_before due.item.txn.request (length a.resps)) = subst (λ (w : Bool). length a.bytes ≤ cond w 0 (length (bytes_before due.item.txn.request (length a.resps)))) due.direction due.bytes
     in let apart : (length a.resps + 1) ≢ a.due_resps = eqb-false (length a.resps + 1) a.due_resps more
-    in let bytes : length (a.bytes ++ valid_lanes bus due.item.txn.request (length a.resps) beat.lanes) ≤ bytes_by due.item.txn (length (a.resps ++ beat.resp ∷ [])) =
-    subst (λ (w : Bool). length (a.bytes ++ valid_lanes bus due.item.txn.request (length a.resps) beat.lanes) ≤ cond w 0 (length (bytes_before due.item.txn.request (length (a.resps ++ beat.resp ∷ []))))) (sym due.direction)
-    (subst (λ (k : ℕ). length (a.bytes ++ valid_lanes bus due.item.txn.request (length a.resps) beat.lanes) ≤ length (bytes_before due.item.txn.request k)) (sym longer)
-    (omega (arith, length-append a.bytes (valid_lanes bus due.item.txn.request (length a.resps) beat.lanes), least, next, was, count, order)))
+    in let bytes : length (a.bytes ++ bytes_on_valid_lanes bus due.item.txn.request (length a.resps) beat.lanes) ≤ bytes_by due.item.txn (length (a.resps ++ beat.resp ∷ [])) =
+    subst (λ (w : Bool). length (a.bytes ++ bytes_on_valid_lanes bus due.item.txn.request (length a.resps) beat.lanes) ≤ cond w 0 (length (bytes_before due.item.txn.request (length (a.resps ++ beat.resp ∷ []))))) (sym due.direction)
+    (subst (λ (k : ℕ). length (a.bytes ++ bytes_on_valid_lanes bus due.item.txn.request (length a.resps) beat.lanes) ≤ length (bytes_before due.item.txn.request k)) (sym longer)
+    (omega (arith, length-append a.bytes (bytes_on_valid_lanes bus due.item.txn.request (length a.resps) beat.lanes), least, next, was, count, order)))
     in subst (IsDue script false place) (sym (read-is script place round bus beat a due.item due.at)) (record {
       item = due.item;
       at = due.at;
       direction = due.direction;
-      answered = more-answers round beat.resp (valid_lanes bus due.item.txn.request (length a.resps) beat.lanes) a more ∙ due.answered;
+      answered = more-answers round beat.resp (bytes_on_valid_lanes bus due.item.txn.request (length a.resps) beat.lanes) a more ∙ due.answered;
       more = more-left (length a.resps) a.due_resps due.more apart longer;
       bytes = bytes;
       due_resps = due.due_resps;

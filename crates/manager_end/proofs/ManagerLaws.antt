@@ -19,7 +19,7 @@ use Rattle.burst_address.specs.Bytes.{bytes_before}
 use Rattle.burst_address.specs.Legal.{IsLegal}
 use Rattle.flight.specs.Entries.{without_oldest}
 use Rattle.manager_end.specs.Answer.{AnswerView, answered_in, awaited_of, is_last, unanswered}
-use Rattle.manager_end.specs.Beats.{request_of, data_beat, valid_lanes}
+use Rattle.manager_end.specs.Beats.{request_of, data_beat, bytes_on_valid_lanes}
 use Rattle.manager_end.specs.Laws.{DoneIsAnswered, ManagerBegins, ManagerMovesFit}
 use Rattle.manager_end.specs.ManagerState.{ManagerState, answered_one, is_answered, IsManager, IsDue, AreWaiting, AreDistinct, waiting, writes_of, reads_of, due_bytes, due_resps}
 use Rattle.manager_end.specs.ManagerTable.{below, answering, left_waiting, with_issued, more, note_write, note_read, note_issue, ready, fits, beats_after, ending, ends_data, read_in, manager_aw, manager_w, manager_ar, manager_b, manager_r, manager_r_last, manager_next}
@@ -50,7 +50,7 @@ kept-r script size round bus answers answered entries others own (Some a) counts
     elim [
       | true ↦ λ last.
           let is = read-is script a.0.place round bus a.1 note due.item due.at
-          in let now = answered-now (read_in round bus (slice_get script a.0.place) a.1 note) round counts (ap (λ (b : AnswerView). b.answered) is ∙ last-answers round a.1.resp (valid_lanes bus due.item.txn.request (length note.resps) a.1.lanes) note last)
+          in let now = answered-now (read_in round bus (slice_get script a.0.place) a.1 note) round counts (ap (λ (b : AnswerView). b.answered) is ∙ last-answers round a.1.resp (bytes_on_valid_lanes bus due.item.txn.request (length note.resps) a.1.lanes) note last)
           in kept-answered script false true size (read_in round bus (slice_get script a.0.place) a.1) answers answered entries own others a.0 (λ same. absurd (cc)) now (found a refl) kept
       | false ↦ λ some.
           rw add-zero (kept-came script false true size (read_in round bus (slice_get script a.0.place) a.1) answers answered entries own others a.0 (λ same. absurd (cc)) (read-more script a.0.place round bus a.1 note wide legal some due) (found a refl) kept)
@@ -79,6 +79,11 @@ sent-most sent issued more_issued beats (Some x) next most =
     in let go : (b : Bool) → sent + more b ≤ issued + more_issued = elim [ true ↦ omega arith | false ↦ omega arith ]
     in go (beats == x.1.txn.request.len)
 
+-- a write of which no beat is sent yet has one to send
+none-sent : (o : Option (ℕ × ScriptItem)) → IfSome o (λ (next : ℕ × ScriptItem). 0 ≤ next.1.txn.request.len)
+none-sent None = tt
+none-sent (Some p) = omega arith
+
 -- no more of a write's data beats are sent than it has
 beats-most : (sent beats : ℕ) (transactions : List (ℕ × ScriptItem)) (o : Option (ℕ × ScriptItem)) → ((next : ℕ × ScriptItem) → o ≡ Some next → slice_get transactions sent ≡ Some next) →
     IfSome (slice_get transactions sent) (λ (next : ℕ × ScriptItem). beats ≤ next.1.txn.request.len) → IfSome (slice_get transactions (sent + more (ends_data beats o))) (λ (next : ℕ × ScriptItem). beats_after beats o ≤ next.1.txn.request.len)
@@ -88,16 +93,12 @@ beats-most sent beats transactions (Some x) next most =
     in let own : beats ≤ x.1.txn.request.len = subst (λ (o : Option (ℕ × ScriptItem)). IfSome o (λ (next : ℕ × ScriptItem). beats ≤ next.1.txn.request.len)) at most
     in let go : (b : Bool) → (beats == x.1.txn.request.len) ≡ b → IfSome (slice_get transactions (sent + more b)) (λ (next : ℕ × ScriptItem). cond b 0 (beats + 1) ≤ next.1.txn.request.len) =
     elim [
-      | true ↦ λ last. none-yet (slice_get transactions (sent + 1))
+      | true ↦ λ last. none-sent (slice_get transactions (sent + 1))
       | false ↦ λ some.
           rw add-zero (subst (λ (o : Option (ℕ × ScriptItem)). IfSome o (λ (next : ℕ × ScriptItem). beats + 1 ≤ next.1.txn.request.len)) (sym at) (one-more beats x.1.txn.request.len own (eqb-false beats x.1.txn.request.len some)))
     ]
     in go (beats == x.1.txn.request.len) refl
   where
-    none-yet : (o : Option (ℕ × ScriptItem)) → IfSome o (λ (next : ℕ × ScriptItem). 0 ≤ next.1.txn.request.len)
-    none-yet None = tt
-    none-yet (Some p) = omega arith
-
     one-more : (k len : ℕ) → k ≤ len → k ≢ len → k + 1 ≤ len
     one-more k len le apart = elim (cases_order k len) [ inl same ↦ absurd (apart same) | inr other ↦ elim other [ inl less ↦ omega arith | inr above ↦ absurd (omega arith) ] ]
 
@@ -234,10 +235,6 @@ manager-begins script lower bus is_script wide legal = record {
       in omega arith;
   issues = issues-begin script lower bus;
 }
-  where
-    none-sent : (o : Option (ℕ × ScriptItem)) → IfSome o (λ (next : ℕ × ScriptItem). 0 ≤ next.1.txn.request.len)
-    none-sent None = tt
-    none-sent (Some p) = omega arith
 
 module _ (links : List LinkView) (number : ℕ) where
   module _ {X : Type 0} (queue_of : LinkView → List X) where

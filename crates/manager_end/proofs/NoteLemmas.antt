@@ -10,7 +10,7 @@ use Rattle.axi_link.specs.LinkView.{LinkView}
 use Rattle.axi_link.specs.Table.{passing}
 use Rattle.flight.specs.Entries.{without_oldest}
 use Rattle.manager_end.specs.Answer.{AnswerView, unanswered, is_last, issued_in, answered_in}
-use Rattle.manager_end.specs.Beats.{valid_lanes}
+use Rattle.manager_end.specs.Beats.{bytes_on_valid_lanes}
 use Rattle.manager_end.specs.ManagerOrder.{note_at}
 use Rattle.manager_end.specs.ManagerState.{ManagerState, IsDue, IsManager, AreWaiting, waiting, entries_of, issued_of, of_direction}
 use Rattle.manager_end.specs.ManagerTable.{manager_aw, manager_ar, manager_b, manager_r, manager_next, ending, read_in, note_write, note_read, note_issue}
@@ -225,7 +225,7 @@ pub data Change (links : List LinkView) (s : ManagerState) (round q : ℕ) : Typ
   Kept : note_at (manager_next round links s) q ≡ note_at s q → Change links s round q
   Wrote : (x : Entry × BBeat) → manager_b links s ≡ Some x → q ≡ x.0.place → note_at (manager_next round links s) q ≡ answered_in round x.1.resp [] (note_at s q) → Change links s round q
   Read : (x : Entry × RBeat) → manager_r links s ≡ Some x → q ≡ x.0.place → (item : ScriptItem) → slice_get s.script q ≡ Some item →
-      note_at (manager_next round links s) q ≡ answered_in round x.1.resp (valid_lanes s.bus item.txn.request (length (note_at s q).resps) x.1.lanes) (note_at s q) → Change links s round q
+      note_at (manager_next round links s) q ≡ answered_in round x.1.resp (bytes_on_valid_lanes s.bus item.txn.request (length (note_at s q).resps) x.1.lanes) (note_at s q) → Change links s round q
   Issued : (write : Bool) (p : ℕ × ScriptItem) → next_of links s write ≡ Some p → q ≡ p.0 → note_at (manager_next round links s) q ≡ issued_in round (note_at s q) → Change links s round q
 
 pub change-of : (links : List LinkView) (s : ManagerState) (round q : ℕ) → IsManager s → Change links s round q

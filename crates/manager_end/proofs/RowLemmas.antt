@@ -1,12 +1,11 @@
 -- What the rows of the manager's table say where they move something.
-use Rattle.std.proofs.Common.{◌≡◌, ◌≢◌, ℕ, ◌<◌, ◌≤◌, ◌==◌, Bool, true, false, List, [], ◌∷◌, ◌++◌, Option, Some, None, length, refl, sym, subst}
+use Rattle.std.proofs.Common.{◌≡◌, ℕ, ◌<◌, ◌≤◌, ◌==◌, Bool, true, false, List, [], ◌∷◌, ◌++◌, Option, Some, None, length, refl, sym, subst}
 use Rattle.std.specs.Prelude.{All, find, nat_lt, slice_get}
 use Rattle.std.specs.Option.{option_map}
 use Rattle.std.proofs.lemmas.Bool.{ltb-true, leb-true, and_parts}
 use Rattle.std.proofs.lemmas.List.Elements.{All-head, All-tail}
 use Rattle.axi_beats.specs.declared.beat.BBeat.{BBeat}
 use Rattle.axi_beats.specs.declared.beat.RBeat.{RBeat}
-use Rattle.axi_beats.specs.Bus.{IsBusWidth}
 use Rattle.axi_link.specs.LinkView.{LinkView}
 use Rattle.axi_link.specs.Table.{passing, head_of}
 use Rattle.manager_end.specs.ManagerState.{ManagerState, writes_of, reads_of}
@@ -52,10 +51,6 @@ ready-after answered (Some x) next is =
 pub All-middle : (P : ℕ → Type 0) (xs ys : List ℕ) (y : ℕ) → All P (xs ++ y ∷ ys) → P y
 All-middle P [] ys y all = All-head P y ys all
 All-middle P (x ∷ xs) ys y all = All-middle P xs ys y (All-tail P x (xs ++ y ∷ ys) all)
-
--- a bus has lanes
-pub bus-some : (bus : ℕ) → IsBusWidth bus → bus ≢ 0
-bus-some bus is none = let wide : IsBusWidth 0 = subst IsBusWidth none is in absurd (cc)
 
 module _ (links : List LinkView) (s : ManagerState) where
   pub aw-next : (next : ℕ × ScriptItem) → manager_aw links s ≡ Some next → slice_get (writes_of s.script) s.issued_writes ≡ Some next

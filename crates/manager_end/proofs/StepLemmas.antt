@@ -1,8 +1,8 @@
 -- A round's steps in terms of the manager's table.
-use Rattle.std.proofs.Common.{◌≡◌, ◌≢◌, ℕ, ◌+◌, ◌^◌, ◌<◌, ◌≤◌, ◌==◌, ◌&&◌, suc, inl, inr, cond, Bool, true, false, List, [], ◌∷◌, Option, Some, None, length, map, get_or, refl, sym, ◌∙◌, ap, subst, arith}
+use Rattle.std.proofs.Common.{◌≡◌, ◌≢◌, ℕ, ◌+◌, ◌^◌, ◌<◌, ◌≤◌, ◌==◌, ◌&&◌, suc, inl, inr, cond, Bool, true, false, List, Option, Some, None, length, map, get_or, refl, sym, ◌∙◌, ap, subst, arith}
 use Rattle.std.specs.List.{enumerate_from}
 use Rattle.std.specs.Option.{option_map}
-use Rattle.std.specs.Prelude.{All, IfSome, filter, is_some, nat_lt, slice_get, unwrap_or}
+use Rattle.std.specs.Prelude.{All, IfSome, is_some, nat_lt, slice_get, unwrap_or}
 use Rattle.std.proofs.lemmas.Bool.{cases_order, eqb-false}
 use Rattle.std.proofs.lemmas.List.Elements.{All-filter, All-map}
 use Rattle.std.proofs.lemmas.List.FromFn.{length-enumerate_from}
@@ -17,6 +17,7 @@ use Rattle.axi_link.specs.Acted.{Acted}
 use Rattle.axi_link.specs.declared.out.Out.{Out}
 use Rattle.axi_link.specs.LinkView.{LinkView}
 use Rattle.axi_link.specs.Table.{has_room, passing}
+use Rattle.axi_trail.proofs.OrderFacts.{length-filter_le}
 use Rattle.burst_address.specs.Bytes.{beat_bytes, bytes_before}
 use Rattle.manager_end.specs.Answer.{AnswerView, is_last, unanswered}
 use Rattle.manager_end.specs.ManagerInside.{IsWithin, sent_after}
@@ -100,14 +101,6 @@ placed-passing : (script : List ScriptItem) (b : Bool) (o : Option ℕ) → plac
 placed-passing script true o = refl
 placed-passing script false o = refl
 
--- there is a transaction at a place of the script
-pub placed-some : (script : List ScriptItem) (o : Option ℕ) → IfSome o (λ place. place < length script) → is_some (placed script o) ≡ is_some o
-placed-some script None within = refl
-placed-some [] (Some place) within = absurd (omega arith)
-placed-some (item ∷ items) (Some place) within =
-    let there : Option ScriptItem → Bool = λ o. is_some {T = ℕ × ScriptItem} (option_map {T = ScriptItem} {U = ℕ × ScriptItem} (λ i. (place, i)) o)
-    in ap there (slice_get-get_or (item ∷ items) place item within)
-
 pub byte-more : (b : Bool) → bool_byte b ≡ more b
 byte-more true = refl
 byte-more false = refl
@@ -156,10 +149,6 @@ module _ (links : List LinkView) (s : ManagerState) where
         in let most = count_by-le-length is_answered (note_read round s.bus s.script (manager_r links s) (note_write round (manager_b links s) s.answers))
         in omega (arith, short, most, kept.counted, kept.one_each)
 
-    -- the answers after B and R are as many as the transactions
-    pub answers-all : (answers : List AnswerView) → answers ≡ note_read round s.bus s.script (manager_r links s) (note_write round (manager_b links s) s.answers) → length answers ≡ length s.script
-    answers-all answers same = ap (length {A = AnswerView}) same ∙ (after-r links s round counts is).one_each
-
 module _ {X : Type 0} where
   -- one more fits where one did before an answer was taken
   pub room-left : (entries : List Entry) (o : Option (Entry × X)) → length entries < 16 → length (left_waiting o entries) < 16
@@ -190,16 +179,10 @@ sending-begins script = sending-first script 0 0
 -- the writes whose data is sent are few
 pub sent-small : (s : ManagerState) → IsManager s → s.sent_writes < 2 ^ 32
 sent-small s is =
-    let few = filter-few (λ (p : ℕ × ScriptItem). is_directed true p.1.txn) (enumerate_from 0 s.script)
+    let few = length-filter_le (λ (p : ℕ × ScriptItem). is_directed true p.1.txn) (enumerate_from 0 s.script)
     in let long = length-enumerate_from 0 s.script
     in let short = script-short s.script is.is_script
     in omega (arith, few, long, short, is.writes_sent, is.writes_issued)
-  where
-    filter-few : {X : Type 0} (test : X → Bool) (xs : List X) → length (filter test xs) ≤ length xs
-    filter-few test [] = omega arith
-    filter-few test (x ∷ xs) =
-        let go : (b : Bool) → length (cond b (x ∷ filter test xs) (filter test xs)) ≤ suc (length xs) = elim [ true ↦ omega (arith, filter-few test xs) | false ↦ omega (arith, filter-few test xs) ]
-        in go (test x)
 
 -- the data place within the next write
 pub next-within : (links : List LinkView) (s : ManagerState) (sending : Sending) (o : Option (ℕ × ScriptItem)) → o ≡ manager_w links s → sending.writes ≡ s.sent_writes →

@@ -18,7 +18,7 @@ use Rattle.axi_trail.specs.Schedule.{Schedule, Span, Progress, bytes_on}
 use Rattle.axi_trail.specs.Trail.{Beats}
 use Rattle.axi_trail.specs.Words.{number_of_response, number_of_read_data}
 use Rattle.manager_end.specs.Answer.{AnswerView, answered_in, is_last}
-use Rattle.manager_end.specs.Beats.{high_lane, low_lane, valid_lanes}
+use Rattle.manager_end.specs.Beats.{high_lane, low_lane, bytes_on_valid_lanes}
 use Rattle.manager_end.specs.ManagerOrder.{IsAt, note_at}
 use Rattle.manager_end.specs.ManagerState.{ManagerState, IsDue, IsManager, due_resps, new_manager, of_direction, writes_of}
 use Rattle.manager_end.specs.ManagerTable.{manager_b, manager_r, manager_next, read_in}
@@ -117,7 +117,7 @@ module _ (plan : Schedule) (now : Progress) (rounds : ℕ) (links : List LinkVie
   -- a read of which a beat is taken
   read-came : (place : ℕ) (item : ScriptItem) → IsAt s place item → item.txn.write ≡ false → (x : Entry × RBeat) → manager_r links s ≡ Some x → place ≡ x.0.place → IsReadNote plan (manager_next (suc rounds) links s) (manager_trail links s trail) place item
   read-came place item at directed x taken here =
-      let noted : note_at (manager_next (suc rounds) links s) place ≡ answered_in (suc rounds) x.1.resp (valid_lanes s.bus item.txn.request (length (note_at s place).resps) x.1.lanes) (note_at s place) =
+      let noted : note_at (manager_next (suc rounds) links s) place ≡ answered_in (suc rounds) x.1.resp (bytes_on_valid_lanes s.bus item.txn.request (length (note_at s place).resps) x.1.lanes) (note_at s place) =
       subst (λ (q : ℕ). note_at (manager_next (suc rounds) links s) q ≡ read_in (suc rounds) s.bus (slice_get s.script q) x.1 (note_at s q)) (sym here) (r-noted links s keeps.is_manager (suc rounds) x taken)
       ∙ read-is s.script place (suc rounds) s.bus x.1 (note_at s place) item at
       in let due : IsDue s.script false place (note_at s place) = subst (λ (q : ℕ). IsDue s.script false q (note_at s q)) (sym here) (taken-waits links s keeps.is_manager false x.0 (r-taken links s keeps.is_manager x taken))
@@ -133,10 +133,10 @@ module _ (plan : Schedule) (now : Progress) (rounds : ℕ) (links : List LinkVie
       in let more : length (of_key number_of_read_data item.txn.number (manager_trail links s trail).r) ≡ length (note_at s place).resps + 1 = ap length after ∙ length-append (of_key number_of_read_data item.txn.number trail.r) (x.1 ∷ []) ∙ ap (λ (n : ℕ). n + 1) before
       in let lanes = (at-all (HasItem plan s.bus) s.script place item keeps.planned.items at).lanes directed
       in let span = span-at s.bus item.txn.request (length (of_key number_of_read_data item.txn.number trail.r)) (omega (arith, due.more))
-      in let pushed : bytes_on (of_key number_of_read_data item.txn.number (manager_trail links s trail).r) (plan.reads item.txn.number).lanes ≡ bytes_on (of_key number_of_read_data item.txn.number trail.r) (plan.reads item.txn.number).lanes ++ valid_lanes s.bus item.txn.request (length (note_at s place).resps) x.1.lanes =
+      in let pushed : bytes_on (of_key number_of_read_data item.txn.number (manager_trail links s trail).r) (plan.reads item.txn.number).lanes ≡ bytes_on (of_key number_of_read_data item.txn.number trail.r) (plan.reads item.txn.number).lanes ++ bytes_on_valid_lanes s.bus item.txn.request (length (note_at s place).resps) x.1.lanes =
       ap (λ (rs : List RBeat). bytes_on rs (plan.reads item.txn.number).lanes) after
       ∙ bytes-push (of_key number_of_read_data item.txn.number trail.r) (plan.reads item.txn.number).lanes x.1 _ (ap (λ (spans : List Span). slice_get spans (length (of_key number_of_read_data item.txn.number trail.r))) lanes ∙ span)
-      ∙ ap (λ (k : ℕ). bytes_on (of_key number_of_read_data item.txn.number trail.r) (plan.reads item.txn.number).lanes ++ valid_lanes s.bus item.txn.request k x.1.lanes) before
+      ∙ ap (λ (k : ℕ). bytes_on (of_key number_of_read_data item.txn.number trail.r) (plan.reads item.txn.number).lanes ++ bytes_on_valid_lanes s.bus item.txn.request k x.1.lanes) before
       in let ends : (b : Bool) → is_last (note_at s place) ≡ b → (0 < (note_at (manager_next (suc rounds) links s) place).answered) ↔ (length (of_key number_of_read_data item.txn.number (manager_trail links s trail).r) ≡ suc item.txn.request.len) =
       elim [
         | true ↦ λ last.
@@ -150,7 +150,7 @@ module _ (plan : Schedule) (now : Progress) (rounds : ℕ) (links : List LinkVie
       in record {
         issued = read-shown place item at directed;
         responses = ap (λ (a : AnswerView). a.resps) noted ∙ ap (λ (rs : List Resp). rs ++ x.1.resp ∷ []) note.responses ∙ sym (map-append (λ (r : RBeat). r.resp) (of_key number_of_read_data item.txn.number trail.r) (x.1 ∷ [])) ∙ sym (ap (map (λ (r : RBeat). r.resp)) after);
-        bytes = ap (λ (a : AnswerView). a.bytes) noted ∙ ap (λ (bs : List ℕ). bs ++ valid_lanes s.bus item.txn.request (length (note_at s place).resps) x.1.lanes) note.bytes ∙ sym pushed;
+        bytes = ap (λ (a : AnswerView). a.bytes) noted ∙ ap (λ (bs : List ℕ). bs ++ bytes_on_valid_lanes s.bus item.txn.request (length (note_at s place).resps) x.1.lanes) note.bytes ∙ sym pushed;
         answered = ends (is_last (note_at s place)) refl;
       }
 

@@ -95,10 +95,6 @@ module _ {X : Type 0} (number_of id_of : X → ℕ) (last_of : X → Bool) (len_
       in let taken = taken-own number_of id_of last_of len_of (take n (of_direction write script)) next entries beats same order x first.0 first.1 first.2 after
       in (first.0.request.1, held-at write n script len_of (map id_of beats) (id_of x.1) first.0 first.1 x.0 first.2 first.3, taken.0)
 
-pub map-nil : {X Y : Type 0} (f : X → Y) (xs : List X) → [] ≡ map f xs → xs ≡ []
-map-nil f [] none = refl
-map-nil f (x ∷ xs) none = absurd (cc)
-
 -- beats of a number, with those of a round
 pub own-other : {X : Type 0} (number_of : X → ℕ) (t : ℕ) (beats : List X) (o : Option (Entry × X)) → ((x : Entry × X) → o ≡ Some x → number_of x.1 ≢ t) → of_key number_of t (beats ++ option_to_list (option_map (λ answer. answer.1) o)) ≡ of_key number_of t beats
 own-other number_of t beats None other = ap (of_key number_of t) (append-nil beats)

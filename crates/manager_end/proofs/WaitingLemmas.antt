@@ -10,6 +10,7 @@ use Rattle.std.proofs.lemmas.Option.{slice_get_within, get_or_from_slice_get}
 use Rattle.axi_beats.specs.declared.beat.RBeat.{RBeat}
 use Rattle.axi_link.specs.Table.{passing}
 use Rattle.flight.specs.Entries.{place_of, without_oldest}
+use Rattle.flight.proofs.EntryFacts.{some-inner}
 use Rattle.manager_end.specs.Answer.{AnswerView, is_last, unanswered, issued_in, noted}
 use Rattle.manager_end.specs.ManagerState.{IsDue, AreWaiting, AreDistinct, waiting, is_answered}
 use Rattle.manager_end.specs.ManagerTable.{answering, ending, left_waiting, with_issued}
@@ -17,9 +18,6 @@ use Rattle.manager_end.specs.Script.{ScriptItem}
 use Rattle.manager_end.specs.declared.direction.Direction.{Direction}
 use Rattle.manager_end.specs.declared.entry.Entry.{Entry}
 use Rattle.manager_end.proofs.DueLemmas.{due-apart}
-
-inner : {X : Type 0} (x y : X) → Some x ≡ Some y → x ≡ y
-inner x y e = cc
 
 -- what holds of all places holds of those that are left
 pub All-left : (P : ℕ → Type 0) (id : ℕ) (entries : List Entry) (more : List ℕ) → All P (map (λ (entry : Entry). entry.place) entries ++ more) → All P (map (λ (entry : Entry). entry.place) (without_oldest (λ (entry : Entry). entry.id) id entries) ++ more)
@@ -49,7 +47,7 @@ All-oldest P id [] more e found all = absurd (cc)
 All-oldest P id (x ∷ xs) more e found all =
     let go : (same : Bool) → cond same (Some x) (find (λ (entry : Entry). entry.id == id) xs) ≡ Some e → P e.place =
     elim [
-      | true ↦ λ here. subst (λ (entry : Entry). P entry.place) (inner x e here) (All-head P x.place (map (λ (entry : Entry). entry.place) xs ++ more) all)
+      | true ↦ λ here. subst (λ (entry : Entry). P entry.place) (some-inner x e here) (All-head P x.place (map (λ (entry : Entry). entry.place) xs ++ more) all)
       | false ↦ λ there. All-oldest P id xs more e there (All-tail P x.place (map (λ (entry : Entry). entry.place) xs ++ more) all)
     ]
     in go (x.id == id) found
@@ -60,7 +58,7 @@ others-left id [] more e found all = absurd (cc)
 others-left id (x ∷ xs) more e found all =
     let go : (same : Bool) → cond same (Some x) (find (λ (entry : Entry). entry.id == id) xs) ≡ Some e → All (λ other. other ≢ e.place) (map (λ (entry : Entry). entry.place) (cond same xs (x ∷ without_oldest (λ (entry : Entry). entry.id) id xs)) ++ more) =
     elim [
-      | true ↦ λ here. subst (λ (entry : Entry). All (λ other. other ≢ entry.place) (map (λ (entry : Entry). entry.place) xs ++ more)) (inner x e here) all.0
+      | true ↦ λ here. subst (λ (entry : Entry). All (λ other. other ≢ entry.place) (map (λ (entry : Entry). entry.place) xs ++ more)) (some-inner x e here) all.0
       | false ↦ λ there. All-cons (λ other. other ≢ e.place) x.place _ (λ same. All-oldest (λ other. other ≢ x.place) id xs more e there all.0 (sym same)) (others-left id xs more e there all.1)
     ]
     in go (x.id == id) found
@@ -71,7 +69,7 @@ oldest-id id [] e found = absurd (cc)
 oldest-id id (x ∷ xs) e found =
     let go : (same : Bool) → (x.id == id) ≡ same → cond same (Some x) (find (λ (entry : Entry). entry.id == id) xs) ≡ Some e → e.id ≡ id =
     elim [
-      | true ↦ λ is here. ap (λ (entry : Entry). entry.id) (sym (inner x e here)) ∙ eqb-true x.id id is
+      | true ↦ λ is here. ap (λ (entry : Entry). entry.id) (sym (some-inner x e here)) ∙ eqb-true x.id id is
       | false ↦ λ is there. oldest-id id xs e there
     ]
     in go (x.id == id) refl found
@@ -306,7 +304,7 @@ left-ending answers entries head place at last =
     elim [
       | None ↦ λ none there. absurd (cc)
       | Some e ↦ λ some there.
-          let same : e.place ≡ place = inner e.place place there
+          let same : e.place ≡ place = some-inner e.place place there
           in let ends : is_last (get_or answers e.place (unanswered 0)) ≡ true = subst (λ (q : ℕ). is_last (get_or answers q (unanswered 0)) ≡ true) (sym same) last
           in let passed : Bool → List Entry = λ b. left_waiting {X = RBeat} (passing b (Some (e, head))) entries
           in ap passed ends ∙ ap (λ (id : ℕ). without_oldest (λ (entry : Entry). entry.id) id entries) (oldest-id head.id entries e some)

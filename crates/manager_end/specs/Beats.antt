@@ -58,6 +58,6 @@ data_beat item bus n = record {
 abbrev pub data_beats : ScriptItem → ℕ → List WBeat
 data_beats item bus = map (data_beat item bus) (range_with_len 0 (beats_of item.txn.request))
 
--- what is on the valid lanes of beat n of a read
-abbrev pub valid_lanes : ℕ → Addr → ℕ → List ℕ → List ℕ
-valid_lanes bus request n lanes = slice_range lanes (low_lane bus request n) (high_lane bus request n + 1)
+-- of the bytes on all lanes, those on the valid lanes of beat n of a read
+abbrev pub bytes_on_valid_lanes : ℕ → Addr → ℕ → List ℕ → List ℕ
+bytes_on_valid_lanes bus request n lanes = slice_range lanes (low_lane bus request n) (high_lane bus request n + 1)

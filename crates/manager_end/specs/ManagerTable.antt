@@ -10,7 +10,7 @@ use Rattle.axi_link.specs.Table.{link_of, head_of, has_room, passing, put_of, ta
 use Rattle.axi_link.specs.declared.out.Out.{Out}
 use Rattle.flight.specs.Entries.{without_oldest}
 use Rattle.manager_end.specs.Answer.{AnswerView, issued_in, is_last, answered_in, noted, unanswered}
-use Rattle.manager_end.specs.Beats.{request_of, data_beat, valid_lanes}
+use Rattle.manager_end.specs.Beats.{request_of, data_beat, bytes_on_valid_lanes}
 use Rattle.manager_end.specs.ManagerState.{ManagerState, writes_of, reads_of}
 use Rattle.manager_end.specs.Script.{ScriptItem}
 use Rattle.manager_end.specs.declared.entry.Entry.{Entry}
@@ -101,7 +101,7 @@ note_write round (Some answer) answers = noted answer.0.place (answered_in round
 -- what is noted of a read with its next beat: the response, and the bytes of the valid lanes
 abbrev pub read_in : ℕ → ℕ → Option ScriptItem → RBeat → AnswerView → AnswerView
 read_in round bus None beat a = a
-read_in round bus (Some item) beat a = answered_in round beat.resp (valid_lanes bus item.txn.request (length a.resps) beat.lanes) a
+read_in round bus (Some item) beat a = answered_in round beat.resp (bytes_on_valid_lanes bus item.txn.request (length a.resps) beat.lanes) a
 
 -- the next beat of a read is noted, and with the last one the round
 abbrev pub note_read : ℕ → ℕ → List ScriptItem → Option (Entry × RBeat) → List AnswerView → List AnswerView

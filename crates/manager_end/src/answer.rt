@@ -7,7 +7,7 @@ ghost use Rattle.axi_beats.specs.Bus.{IsBusWidth};
 ghost use Rattle.burst_address.specs.Bytes.{burst_bytes, bytes_before};
 ghost use Rattle.burst_address.specs.Legal.{IsLegal};
 ghost use Rattle.manager_end.specs.Answer.{answered_in, awaited_of, is_last, issued_in};
-ghost use Rattle.manager_end.specs.Beats.{valid_lanes};
+ghost use Rattle.manager_end.specs.Beats.{bytes_on_valid_lanes};
 
 use axi_beats::{Addr, Lanes, NoMemory, RBeat, Resp};
 use burst_address::lanes;
@@ -130,7 +130,7 @@ impl Answer {
         requires bus { IsBusWidth bus }
         requires legal { IsLegal request.now bus }
         ensures note { self.new ≡ answered_in round beat.now.resp
-            (valid_lanes bus request.now (length self.old.resps) beat.now.lanes) self.old }
+            (bytes_on_valid_lanes bus request.now (length self.old.resps) beat.now.lanes) self.old }
         ensures last { result ≡ is_last self.old }
     {
         let (low, high) = lanes(request, self.came as u32, bus);

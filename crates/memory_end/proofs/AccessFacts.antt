@@ -83,6 +83,10 @@ pub all_at : {X : Type 0} (P : X → Type 0) (before : List X) (x : X) (after : 
 all_at P [] x after all = (all.0, tt)
 all_at P (b ∷ before) x after all = (let rest : (P x) × (AllByRecursion P before) = all_at P before x after all.1 in (rest.0, (all.0, rest.1)))
 
+pub tail-none : {X : Type 0} (b : Bool) (x : X) (rest : List X) → cond b (x ∷ rest) rest ≡ [] → rest ≡ []
+tail-none true x rest none = absurd (cc)
+tail-none false x rest none = none
+
 nowhere : (write : Bool) (number : ℕ) (before : List Access) (a : Access) (after : List Access) → is_of write number a ≡ true → accesses_of write number (before ++ a ∷ after) ≡ [] → ⊥
 nowhere write number [] a after passes none =
     let both : a ∷ accesses_of write number after ≡ [] = sym (filter_cons (is_of write number) a after passes) ∙ none in
@@ -122,17 +126,13 @@ order-more shares write all number bytes none order before after chain earlier l
     number-of : (mid : List Access) (a : Access) (later : List Access) → AllByRecursion (λ (a : Access). a.number ≡ number) (mid ++ a ∷ later) → a.number ≡ number
     number-of mid a later all = (all_at (λ (a : Access). a.number ≡ number) mid a later all).0
 
-    empty-tail : (t : Bool) (a : Access) (xs : List Access) → cond t (a ∷ xs) xs ≡ [] → xs ≡ []
-    empty-tail true a xs e = absurd (cc)
-    empty-tail false a xs e = e
-
     right-empty : (xs ys : List Access) → xs ++ ys ≡ [] → ys ≡ []
     right-empty [] ys e = e
     right-empty (x ∷ xs) ys e = absurd (cc)
 
     tail-of : (mid : List Access) → accesses_of write before (accesses number write bytes) ≡ [] → accesses number write bytes ≡ mid ++ a ∷ later → accesses_of write before later ≡ []
     tail-of mid empty e =
-        empty-tail (is_of write before a) a (accesses_of write before later)
+        tail-none (is_of write before a) a (accesses_of write before later)
         (right-empty (accesses_of write before mid) (accesses_of write before (a ∷ later)) (sym (accesses_of-append write before mid (a ∷ later)) ∙ sym (ap (accesses_of write before) e) ∙ empty))
 
 -- accesses in the other direction keep it too

@@ -12,7 +12,7 @@ use Rattle.axi_beats.specs.declared.beat.Addr.{Addr}
 use Rattle.axi_beats.specs.declared.beat.WBeat.{WBeat}
 use Rattle.burst_address.proofs.Beats.{beat-count, upper-below}
 use Rattle.burst_address.proofs.Legality.{legal-size}
-use Rattle.burst_address.specs.Formulas.{beats_of, lower_lane, size_of, upper_lane}
+use Rattle.burst_address.specs.Formulas.{beat_at, beats_of, lower_lane, size_of, upper_lane}
 use Rattle.burst_address.specs.Legal.{IsLegal, is_in_page, is_length_of, is_start_of}
 use Rattle.burst_address.specs.declared.rule.BurstRule.{BurstRule}
 use Rattle.burst_address.specs.declared.rule.BurstRule.TheVariants.{Length, Page, Size, WrapAlign}
@@ -20,7 +20,7 @@ use Rattle.memory_end.specs.declared.config.MemoryConfig.{MemoryConfig}
 use Rattle.axi_beats.specs.Response.{worst_of}
 use Rattle.memory_end.specs.MemoryState.{IsMemoryConfig}
 use Rattle.memory_end.specs.Store.{Store, byte_at, lanes_between}
-use Rattle.memory_end.specs.Beats.{beat_address, first_lane, lane_count, strobed_lanes, is_strobed, bytes_on, written_bytes, strobed_status, valid_status, answered_lanes, answered_byte, is_valid}
+use Rattle.memory_end.specs.Beats.{first_lane, lane_count, strobed_lanes, is_strobed, bytes_on, written_bytes, strobed_status, valid_status, answered_lanes, answered_byte, is_valid}
 use Rattle.memory_end.proofs.ListLemmas.{filter-range-below, filter-none, filter-empty, range-below, map-range-agree, map-range-constant}
 use Rattle.memory_end.specs.Status.{is_inside, write_status, is_okay, worst_among}
 
@@ -115,15 +115,15 @@ no_bits (suc k) n lt none =
 -- a beat has a valid lane, and its valid lanes are lanes of the bus
 pub lanes-on_bus : (a : Addr) (n bus : ℕ) → IsBusWidth bus → (0 < lane_count a n bus) × (first_lane a n bus + lane_count a n bus ≤ bus)
 lanes-on_bus a n bus is =
-    let lower : lower_lane bus (beat_address a n) < bus = mod_below (beat_address a n) bus (width-bounds bus is).0 in
-    let upper : upper_lane (size_of a) bus (beat_address a n) < bus = upper-below (size_of a) bus (beat_address a n) is in
-    on (lower_lane bus (beat_address a n)) (upper_lane (size_of a) bus (beat_address a n)) lower upper
+    let lower : lower_lane bus (beat_at a n) < bus = mod_below (beat_at a n) bus (width-bounds bus is).0 in
+    let upper : upper_lane (size_of a) bus (beat_at a n) < bus = upper-below (size_of a) bus (beat_at a n) is in
+    on (lower_lane bus (beat_at a n)) (upper_lane (size_of a) bus (beat_at a n)) lower upper
   where
     on : (low high : ℕ) → low < bus → high < bus → (0 < high - low + 1) × (low + (high - low + 1) ≤ bus)
     on low high lower upper = (omega arith, omega arith)
 
 -- a legal burst's lower lane isn't above its upper one
-pub lanes-ordered : (a : Addr) (n bus : ℕ) → IsBusWidth bus → IsLegal a bus → lower_lane bus (beat_address a n) ≤ upper_lane (size_of a) bus (beat_address a n)
+pub lanes-ordered : (a : Addr) (n bus : ℕ) → IsBusWidth bus → IsLegal a bus → lower_lane bus (beat_at a n) ≤ upper_lane (size_of a) bus (beat_at a n)
 lanes-ordered a n bus is legal =
     let facts = beat-count a bus n is legal in
     omega (arith, facts.0, facts.1)
@@ -142,19 +142,19 @@ legal-wider a bus wider le legal =
 
 module _ (config : MemoryConfig) (request : Addr) (beat : ℕ) (is : IsMemoryConfig config) where
   abbrev word : ℕ
-  word = beat_address request beat / config.bus * config.bus
+  word = beat_at request beat / config.bus * config.bus
 
   fits : word % 128 + config.bus ≤ 128
-  fits = word-in_line (beat_address request beat) config.bus is.bus
+  fits = word-in_line (beat_at request beat) config.bus is.bus
 
   -- the beat's address is in the memory where its word is
-  pub inside-beat : is_inside config (beat_address request beat) ≡ is_inside config word
+  pub inside-beat : is_inside config (beat_at request beat) ≡ is_inside config word
   inside-beat =
-      let lane : beat_address request beat % config.bus < config.bus = mod_below (beat_address request beat) config.bus (width-bounds config.bus is.bus).0 in
-      let sum : beat_address request beat ≡ word + beat_address request beat % config.bus = sym (div-add-mod' (beat_address request beat) config.bus) in
-      ap (is_inside config) sum ∙ is_inside-lane config word (beat_address request beat % config.bus) is (omega (arith, fits))
+      let lane : beat_at request beat % config.bus < config.bus = mod_below (beat_at request beat) config.bus (width-bounds config.bus is.bus).0 in
+      let sum : beat_at request beat ≡ word + beat_at request beat % config.bus = sym (div-add-mod' (beat_at request beat) config.bus) in
+      ap (is_inside config) sum ∙ is_inside-lane config word (beat_at request beat % config.bus) is (omega (arith, fits))
 
-  pub status-beat : write_status config (beat_address request beat) ≡ write_status config word
+  pub status-beat : write_status config (beat_at request beat) ≡ write_status config word
   status-beat = ap (λ b. cond b Okay DecErr) inside-beat
 
   module _ (w : WBeat) where
@@ -200,7 +200,7 @@ module _ (config : MemoryConfig) (request : Addr) (beat : ℕ) (is : IsMemoryCon
         in go (is_inside config word) refl
 
   -- the status of strobed bytes is that of the beat's address
-  pub strobed-beat : (w : WBeat) → w.strobe ≢ 0 → w.strobe < 2 ^ config.bus → strobed_status config request beat w ≡ write_status config (beat_address request beat)
+  pub strobed-beat : (w : WBeat) → w.strobe ≢ 0 → w.strobe < 2 ^ config.bus → strobed_status config request beat w ≡ write_status config (beat_at request beat)
   strobed-beat w some lt = strobed-word w some lt ∙ sym status-beat
 
   abbrev low : ℕ
@@ -225,7 +225,7 @@ module _ (config : MemoryConfig) (request : Addr) (beat : ℕ) (is : IsMemoryCon
       ]
       in go count (lanes-on_bus request beat config.bus is.bus).0 below
 
-  pub valid-beat : valid_status config request beat ≡ write_status config (beat_address request beat)
+  pub valid-beat : valid_status config request beat ≡ write_status config (beat_at request beat)
   valid-beat =
       let go : (b : Bool) → is_inside config word ≡ b → valid_status config request beat ≡ cond b Okay DecErr =
       elim [ true ↦ valid-inside | false ↦ valid-outside ]

@@ -14,7 +14,7 @@ use Rattle.axi_beats.specs.declared.beat.Addr.{Addr}
 use Rattle.axi_beats.specs.declared.beat.WBeat.{WBeat}
 use Rattle.axi_beats.specs.declared.response.Resp.TheVariants.{Okay, DecErr}
 use Rattle.burst_address.proofs.Beats.{beat-count, beat-line}
-use Rattle.burst_address.proofs.Written.{written-more}
+use Rattle.burst_address.proofs.Written.{written-more, written-past}
 use Rattle.burst_address.specs.Bytes.{beat_bytes, beat_written, burst_bytes, bytes_before, strobed_byte, written, written_bytes as burst_written}
 use Rattle.burst_address.specs.Formulas.{aligned, beat_at, beats_of, size_of}
 use Rattle.burst_address.specs.Legal.{IsLegal}
@@ -288,13 +288,9 @@ module _ (config : MemoryConfig) (a : Addr) (is : IsMemoryConfig config) (legal 
 
 pub writes-burst_bytes : WritesBurstBytes
 writes-burst_bytes config a ws is legal le valid =
-    let none : map byte_of (filter (is_in config) (burst_written config.bus a [])) ≡ [] = ap (λ ps. map byte_of (filter (is_in config) ps)) (written-none (burst_bytes a)) in
+    let none : map byte_of (filter (is_in config) (burst_written config.bus a [])) ≡ [] = ap (λ ps. map byte_of (filter (is_in config) ps)) (written-past (burst_bytes a)) in
     let few : 0 + length ws ≤ beats_of a = omega arith in
     let each : (k : ℕ) (w : WBeat) → slice_get ws k ≡ Some w → StrobesValidLanes config.bus a (0 + k) w = λ k w at.
     let same : k ≡ 0 + k = omega arith in
     subst (λ (m : ℕ). StrobesValidLanes config.bus a m w) same (valid k w at) in
     ap (λ t. t ++ all_written_bytes config a 0 ws) (sym none) ∙ rest-writes config a is legal [] ws few each
-  where
-    written-none : (xs : List ℕ) → written xs [] ≡ []
-    written-none [] = refl
-    written-none (x ∷ xs) = refl

@@ -9,9 +9,10 @@ use Rattle.std.proofs.lemmas.List.FromFn.{length-range_with_len}
 use Rattle.axi_beats.specs.declared.beat.Addr.{Addr}
 use Rattle.axi_beats.specs.declared.beat.WBeat.{WBeat}
 use Rattle.burst_address.specs.Bytes.{beat_bytes, burst_bytes, bytes_before}
+use Rattle.burst_address.specs.Formulas.{beats_of}
 use Rattle.burst_address.specs.Legal.{IsLegal}
 use Rattle.memory_end.specs.Accesses.{BeatOf, beats_of_parts, read_addresses}
-use Rattle.memory_end.specs.Beats.{Byte, beats_of, written_bytes}
+use Rattle.memory_end.specs.Beats.{Byte, written_bytes}
 use Rattle.memory_end.specs.BurstBytes.{DueReadsAreOfParts, DueWritesAreOfParts, all_written_bytes}
 use Rattle.memory_end.specs.MemoryState.{IsMemoryConfig}
 use Rattle.memory_end.specs.Status.{is_inside}

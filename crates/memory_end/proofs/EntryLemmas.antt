@@ -7,15 +7,8 @@ use Rattle.memory_end.specs.declared.config.MemoryConfig.{MemoryConfig}
 use Rattle.memory_end.specs.declared.entry.WriteEntry.{WriteEntry}
 use Rattle.axi_link.specs.LinkView.{LinkView}
 use Rattle.axi_link.specs.Table.{head_of, passing}
+use Rattle.flight.proofs.EntryFacts.{none-shift, shift-none, some-inner}
 use Rattle.memory_end.specs.MemoryTable.{lacks_data, oldest_lacking, lacking_place, taken_data, with_data, with_beat}
-
-shift-none : (o : Option ℕ) → o ≡ None → option_map suc o ≡ None
-shift-none None e = refl
-shift-none (Some n) e = absurd (cc)
-
-none-shift : (o : Option ℕ) → option_map suc o ≡ None → o ≡ None
-none-shift None e = refl
-none-shift (Some n) e = absurd (cc)
 
 -- no write before i lacks data, nor does the one at i
 pub lacking_place-none_more : (entries : List WriteEntry) (i : ℕ) (entry : WriteEntry) → slice_get entries i ≡ Some entry → lacks_data entry ≡ false → lacking_place (take i entries) ≡ None → lacking_place (take (suc i) entries) ≡ None
@@ -42,9 +35,6 @@ pub record IsOldestLacking (entries : List WriteEntry) (place : ℕ) (entry : Wr
   pub lacks : lacks_data entry ≡ true
   pub oldest : oldest_lacking entries ≡ Some entry
   pub taken : (config : MemoryConfig) (w : WBeat) → with_data config w entries ≡ slice_set entries place (with_beat config w entry)
-
-some-inner : {X : Type 0} (x y : X) → Some x ≡ Some y → x ≡ y
-some-inner x y e = cc
 
 place-shift : (o : Option ℕ) (place : ℕ) → option_map suc o ≡ Some place → (p : ℕ) × (o ≡ Some p) × (place ≡ suc p)
 place-shift None place e = absurd (cc)

@@ -1,10 +1,11 @@
 -- The bytes of an answer, and those that were read for it.
-use Rattle.std.proofs.Common.{◌≡◌, ℕ, ◌+◌, ◌-◌, ◌<◌, ◌≤◌, ◌&&◌, suc, zero, Bool, true, false, cond, List, [], ◌∷◌, ◌++◌, length, map, take, drop, refl, sym, ◌∙◌, ap, arith, leb, ltb, length-append}
+use Rattle.std.proofs.Common.{◌≡◌, ℕ, ◌+◌, ◌-◌, ◌<◌, ◌≤◌, ◌&&◌, suc, Bool, true, false, cond, List, [], ◌∷◌, ◌++◌, length, map, take, drop, refl, sym, ◌∙◌, ap, arith, leb, ltb, length-append, append_assoc}
 use Rattle.std.specs.Prelude.{filter, flat_map, slice_range}
 use Rattle.std.specs.List.{range_with_len}
 use Rattle.std.proofs.lemmas.Bool.{le-leb, lt-ltb}
 use Rattle.std.proofs.lemmas.List.{length-map, map-append, drop_at, take_at}
 use Rattle.std.proofs.lemmas.Simd.{map-map}
+use Rattle.std.proofs.lemmas.List.FromFn.{length-range_with_len}
 use Rattle.axi_beats.specs.declared.beat.RBeat.{RBeat}
 use Rattle.axi_trail.specs.Schedule.{Span, bytes_on}
 use Rattle.axi_trail.specs.Streams.{IsPrefix}
@@ -85,15 +86,7 @@ bytes_on-more [] r (s ∷ lanes) span rest e =
 bytes_on-more (b ∷ beats) r [] span rest e = absurd (cc)
 bytes_on-more (b ∷ beats) r (s ∷ lanes) span rest e =
     ap (λ t. slice_range b.lanes s.low (s.high + 1) ++ t) (bytes_on-more beats r lanes span rest e)
-    ∙ sym (assoc (slice_range b.lanes s.low (s.high + 1)) (bytes_on beats lanes) (slice_range r.lanes span.low (span.high + 1)))
-  where
-    assoc : (xs ys zs : List ℕ) → (xs ++ ys) ++ zs ≡ xs ++ (ys ++ zs)
-    assoc [] ys zs = refl
-    assoc (x ∷ xs) ys zs = ap (λ t. x ∷ t) (assoc xs ys zs)
-
-length-range : (a n : ℕ) → length (range_with_len a n) ≡ n
-length-range a zero = refl
-length-range a (suc n) = ap suc (length-range (a + 1) n)
+    ∙ sym (append_assoc (slice_range b.lanes s.low (s.high + 1)) (bytes_on beats lanes) (slice_range r.lanes span.low (span.high + 1)))
 
 -- a part of a list that tells each lane
 slice-range : (g : ℕ → ℕ) (end low count : ℕ) → 0 < count → low + count ≤ end → slice_range (map g (range_with_len 0 end)) low (low + count - 1 + 1) ≡ map g (range_with_len low count)
@@ -104,12 +97,12 @@ slice-range g end low count some le =
     ap (λ n. slice_range (map g (range_with_len 0 n)) low (low + count - 1 + 1)) whole
     ∙ ap (λ t. slice_range (map g t) low (low + count - 1 + 1)) (range-split 0 low (count + (end - (low + count))))
     ∙ ap (λ t. slice_range t low (low + count - 1 + 1)) (map-append g (range_with_len 0 low) (range_with_len (0 + low) (count + (end - (low + count)))))
-    ∙ ap (take (low + count - 1 + 1 - low)) (drop_at (map g (range_with_len 0 low)) (map g (range_with_len (0 + low) (count + (end - (low + count))))) low (length-map (range_with_len 0 low) g ∙ length-range 0 low))
+    ∙ ap (take (low + count - 1 + 1 - low)) (drop_at (map g (range_with_len 0 low)) (map g (range_with_len (0 + low) (count + (end - (low + count))))) low (length-map (range_with_len 0 low) g ∙ length-range_with_len 0 low))
     ∙ ap (λ n. take n (map g (range_with_len (0 + low) (count + (end - (low + count)))))) size
     ∙ ap (λ n. take count (map g (range_with_len n (count + (end - (low + count)))))) first
     ∙ ap (λ t. take count (map g t)) (range-split low count (end - (low + count)))
     ∙ ap (take count) (map-append g (range_with_len low count) (range_with_len (low + count) (end - (low + count))))
-    ∙ take_at (map g (range_with_len low count)) (map g (range_with_len (low + count) (end - (low + count)))) count (length-map (range_with_len low count) g ∙ length-range low count)
+    ∙ take_at (map g (range_with_len low count)) (map g (range_with_len (low + count) (end - (low + count)))) count (length-map (range_with_len low count) g ∙ length-range_with_len low count)
 
 -- the lanes of an answer beat that are wanted have the bytes that were read for it
 pub filled-beat : (config : MemoryConfig) (store : Store) (b : BeatOf) → IsMemoryConfig config →

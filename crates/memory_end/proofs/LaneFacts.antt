@@ -6,8 +6,9 @@ use Rattle.axi_beats.specs.Bus.{IsBusWidth}
 use Rattle.axi_beats.specs.declared.beat.Addr.{Addr}
 use Rattle.axi_beats.specs.declared.beat.WBeat.{WBeat}
 use Rattle.axi_trail.specs.LinkContracts.{without_id}
+use Rattle.burst_address.specs.Formulas.{beat_at}
 use Rattle.memory_end.specs.Accesses.{allowed_bytes, burst_status, read_addresses, span_of}
-use Rattle.memory_end.specs.Beats.{beat_address, first_lane, lane_address, lane_count, strobed_status, word_address, written_bytes}
+use Rattle.memory_end.specs.Beats.{first_lane, lane_address, lane_count, strobed_status, word_address, written_bytes}
 use Rattle.memory_end.specs.MemoryState.{IsMemoryConfig}
 use Rattle.memory_end.specs.Status.{is_inside}
 use Rattle.memory_end.specs.Store.{line_of}
@@ -43,11 +44,11 @@ lanes-within a n bus is =
 -- the byte on a lane of the bus lies in the line of the beat's word, and in the memory exactly where the word does
 pub line-of_lane : (a : Addr) (n bus lane : ℕ) → IsBusWidth bus → lane < bus → line_of (lane_address a n bus lane) ≡ line_of (word_address a n bus)
 line-of_lane a n bus lane is lt =
-    let within : word_address a n bus % 128 + lane < 128 = omega (arith, word-in_line (beat_address a n) bus is) in
+    let within : word_address a n bus % 128 + lane < 128 = omega (arith, word-in_line (beat_at a n) bus is) in
     in_line (word_address a n bus) lane within
   where
     in_line : (word lane : ℕ) → word % 128 + lane < 128 → (word + lane) / 128 ≡ word / 128
     in_line word lane lt = omega arith
 
 pub inside-of_lane : (config : MemoryConfig) (a : Addr) (n lane : ℕ) → IsMemoryConfig config → lane < config.bus → is_inside config (lane_address a n config.bus lane) ≡ is_inside config (word_address a n config.bus)
-inside-of_lane config a n lane is lt = is_inside-lane config (word_address a n config.bus) lane is (omega (arith, word-in_line (beat_address a n) config.bus is.bus))
+inside-of_lane config a n lane is lt = is_inside-lane config (word_address a n config.bus) lane is (omega (arith, word-in_line (beat_at a n) config.bus is.bus))

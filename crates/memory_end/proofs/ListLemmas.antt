@@ -1,11 +1,11 @@
 -- Facts on ranges, on folds over a part of them, and on padded lists.
-use Rattle.std.proofs.Common.{◌≡◌, ◌≢◌, ℕ, ◌+◌, ◌<◌, ◌≤◌, suc, zero, Bool, true, false, cond, List, [], ◌∷◌, ◌++◌, length, map, replicate, refl, sym, ◌∙◌, ap, arith, add-one, inl, inr, Some, subst}
-use Rattle.std.specs.Prelude.{All, filter, fold, nat_lt, slice_get, slice_set}
+use Rattle.std.proofs.Common.{◌≡◌, ◌≢◌, ℕ, ◌+◌, ◌<◌, ◌≤◌, suc, zero, Bool, true, false, cond, List, [], ◌∷◌, ◌++◌, map, replicate, refl, sym, ◌∙◌, ap, arith, add-one, inl, inr, Some, subst, append-nil}
+use Rattle.std.specs.Prelude.{All, AllPairs, Contains, filter, fold, slice_get, slice_set}
 use Rattle.std.specs.List.{range_with_len, AllByRecursion}
-use Rattle.std.proofs.lemmas.Bool.{lt-ltb, le-ltb, cases_eq}
-use Rattle.std.proofs.lemmas.List.{map-append}
+use Rattle.std.proofs.lemmas.Bool.{cases_eq}
 use Rattle.std.proofs.lemmas.List.Elements.{filter-append}
 use Rattle.std.proofs.lemmas.List.Sums.{fold-append}
+use Rattle.std.proofs.lemmas.List.FromFn.{get_or-range_with_len, length-range_with_len}
 
 -- one number more
 pub range-more : (a n : ℕ) → range_with_len a (n + 1) ≡ range_with_len a n ++ (a + n) ∷ []
@@ -13,9 +13,6 @@ range-more a zero = ap (range_with_len a) (let e : 0 + 1 ≡ 1 = refl in e) ∙ 
 range-more a (suc n) =
     let shift : (a + 1) + n ≡ a + suc n = omega arith in
     ap (range_with_len a) (add-one (suc n)) ∙ ap (λ t. a ∷ t) (ap (range_with_len (a + 1)) (sym (add-one n)) ∙ range-more (a + 1) n ∙ ap (λ k. range_with_len (a + 1) n ++ k ∷ []) shift)
-
-filter-one : (p : ℕ → Bool) (n : ℕ) → filter p (n ∷ []) ≡ cond (p n) (n ∷ []) []
-filter-one p n = refl
 
 pub filter-range-more : (p : ℕ → Bool) (n : ℕ) → filter p (range_with_len 0 (n + 1)) ≡ filter p (range_with_len 0 n) ++ cond (p n) (n ∷ []) []
 filter-range-more p n =
@@ -28,10 +25,6 @@ pub fold-range-more_passing : {B : Type 0} (f : B → ℕ → B) (b : B) (p : �
 fold-range-more_passing f b p n e =
     ap (fold f b) (filter-range-more p n ∙ ap (λ c. filter p (range_with_len 0 n) ++ cond c (n ∷ []) []) e)
     ∙ fold-append f b (filter p (range_with_len 0 n)) (n ∷ [])
-
-append-nil : {X : Type 0} (xs : List X) → xs ++ [] ≡ xs
-append-nil [] = refl
-append-nil (x ∷ xs) = ap (λ t. x ∷ t) (append-nil xs)
 
 pub fold-range-more_failing : {B : Type 0} (f : B → ℕ → B) (b : B) (p : ℕ → Bool) (n : ℕ) → p n ≡ false → fold f b (filter p (range_with_len 0 (n + 1))) ≡ fold f b (filter p (range_with_len 0 n))
 fold-range-more_failing f b p n e =
@@ -47,11 +40,16 @@ filter-range-below p a (suc n) end le =
       | false ↦ rest
     ]
 
--- a list that is padded with 0, with one byte more
-pub padded-set : (xs : List ℕ) (i r b : ℕ) → length xs ≡ i → slice_set (xs ++ replicate (suc r) 0) i b ≡ (xs ++ b ∷ []) ++ replicate r 0
-padded-set [] i r b e = ap (λ k. slice_set (replicate (suc r) 0) k b) (sym e)
-padded-set (x ∷ xs) zero r b e = absurd (omega arith)
-padded-set (x ∷ xs) (suc i) r b e = ap (λ t. x ∷ t) (padded-set xs i r b (omega arith))
+-- a range ascends, and has each number from its first one on
+pub range-ascends : (a n : ℕ) → AllPairs (λ i j. i < j) (range_with_len a n)
+range-ascends a n i j d before within =
+    let long = length-range_with_len a n in
+    let low = get_or-range_with_len a n i d (omega arith) in
+    let high = get_or-range_with_len a n j d (omega arith) in
+    omega arith
+
+pub range-contains : (a n x : ℕ) → x < n → Contains (range_with_len a n) (a + x)
+range-contains a n x within = (x, subst (λ (m : ℕ). x < m) (sym (length-range_with_len a n)) within, get_or-range_with_len a n x (a + x) within)
 
 -- functions that agree on a range
 pub map-range-agree : (f g : ℕ → ℕ) (a n : ℕ) → ((k : ℕ) → a ≤ k → k < a + n → f k ≡ g k) → map f (range_with_len a n) ≡ map g (range_with_len a n)
@@ -75,17 +73,6 @@ range-split a (suc m) r =
 pub map-range-constant : (a n b : ℕ) → map (λ k. b) (range_with_len a n) ≡ replicate n b
 map-range-constant a zero b = refl
 map-range-constant a (suc n) b = ap (λ t. b ∷ t) (map-range-constant (a + 1) n b)
-
--- a function below an end, and 0 from there on
-pub map-range-padded : (f : ℕ → ℕ) (end r : ℕ) → map (λ k. cond (nat_lt k end) (f k) 0) (range_with_len 0 (end + r)) ≡ map f (range_with_len 0 end) ++ replicate r 0
-map-range-padded f end r =
-    let padded : ℕ → ℕ = λ k. cond (nat_lt k end) (f k) 0 in
-    ap (map padded) (range-split 0 end r)
-    ∙ map-append padded (range_with_len 0 end) (range_with_len (0 + end) r)
-    ∙ ap (λ t. t ++ map padded (range_with_len (0 + end) r)) (map-range-agree padded f 0 end (λ k le lt. ap (λ c. cond c (f k) 0) (lt-ltb k end (omega arith))))
-    ∙ ap (λ t. map f (range_with_len 0 end) ++ t)
-    (map-range-agree padded (λ k. 0) (0 + end) r (λ k le lt. ap (λ c. cond c (f k) 0) (le-ltb k end (omega arith)))
-    ∙ map-range-constant (0 + end) r 0)
 
 -- no number passes
 pub filter-none : (p : ℕ → Bool) (a n : ℕ) → ((k : ℕ) → p k ≡ false) → filter p (range_with_len a n) ≡ []

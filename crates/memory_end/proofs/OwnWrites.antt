@@ -12,9 +12,9 @@ use Rattle.axi_trail.specs.Words.{burst_asked, burst_marks, mark_of_data, marks,
 use Rattle.axi_trail.proofs.FilterFacts.{length-burst_marks, of_key-append, of_key-cons, of_key-skip}
 use Rattle.axi_trail.proofs.PrefixFacts.{prefix_cons}
 use Rattle.axi_trail.proofs.StreamFacts.{prefix_nil}
+use Rattle.burst_address.specs.Formulas.{beats_of}
 use Rattle.flight.specs.Entries.{of_key}
 use Rattle.memory_end.specs.Accesses.{burst_status}
-use Rattle.memory_end.specs.Beats.{beats_of}
 use Rattle.memory_end.specs.Tracks.{tracked, with_data_so_far}
 use Rattle.memory_end.specs.declared.config.MemoryConfig.{MemoryConfig}
 use Rattle.memory_end.specs.declared.entry.WriteEntry.{WriteEntry}

@@ -4,6 +4,7 @@ use Rattle.std.specs.List.{range_with_len}
 use Rattle.std.proofs.lemmas.Bool.{cases_eq, cases_lt, ne_eqb}
 use Rattle.std.proofs.lemmas.List.{length-map, map-append, take_at, drop_at}
 use Rattle.std.proofs.Math.Seq.{drop-append-add}
+use Rattle.std.proofs.lemmas.List.FromFn.{length-range_with_len}
 use Rattle.axi_beats.specs.declared.beat.Addr.{Addr}
 use Rattle.flight.specs.Entries.{of_key}
 use Rattle.axi_trail.specs.LinkContracts.{without_id}
@@ -99,10 +100,6 @@ beat_of part n = record { request = part; beat = n }
 abbrev pub part_beats : Addr → List BeatOf
 part_beats part = map (beat_of part) (range_with_len 0 (part.len + 1))
 
-length-range : (a n : ℕ) → length (range_with_len a n) ≡ n
-length-range a zero = refl
-length-range a (suc n) = ap suc (length-range (a + 1) n)
-
 -- the beats of a part from one of them on
 part_from : (p : Addr) (done : ℕ) → done ≤ p.len → (rest : List BeatOf) × (part_beats p ≡ map (beat_of p) (range_with_len 0 done) ++ beat_of p done ∷ rest)
 part_from p done le =
@@ -116,7 +113,7 @@ part_from p done le =
     )
 
 pub length-part_beats : (p : Addr) → length (part_beats p) ≡ suc p.len
-length-part_beats p = length-map (range_with_len 0 (p.len + 1)) (beat_of p) ∙ length-range 0 (p.len + 1) ∙ (let e : p.len + 1 ≡ suc p.len = omega arith in e)
+length-part_beats p = length-map (range_with_len 0 (p.len + 1)) (beat_of p) ∙ length-range_with_len 0 (p.len + 1) ∙ (let e : p.len + 1 ≡ suc p.len = omega arith in e)
 
 -- the beats of parts from a beat of one of them on
 parts_from : (front : List Addr) (p : Addr) (more : List Addr) (done : ℕ) → done ≤ p.len → (rest : List BeatOf) × (drop (beats_of_all front + done) (beats_of_parts (map without_id front ++ p ∷ more)) ≡ beat_of p done ∷ rest)
@@ -127,7 +124,7 @@ parts_from [] p more done le =
       ap (λ n. drop n (part_beats p ++ beats_of_parts more)) none
           ∙ ap (λ t. drop done (t ++ beats_of_parts more)) own.1
           ∙ ap (drop done) (append_assoc (map (beat_of p) (range_with_len 0 done)) (beat_of p done ∷ own.0) (beats_of_parts more))
-          ∙ drop_at (map (beat_of p) (range_with_len 0 done)) (beat_of p done ∷ (own.0 ++ beats_of_parts more)) done (length-map (range_with_len 0 done) (beat_of p) ∙ length-range 0 done),
+          ∙ drop_at (map (beat_of p) (range_with_len 0 done)) (beat_of p done ∷ (own.0 ++ beats_of_parts more)) done (length-map (range_with_len 0 done) (beat_of p) ∙ length-range_with_len 0 done),
     )
 parts_from (a ∷ front) p more done le =
     let rest : (rest : List BeatOf) × (drop (beats_of_all front + done) (beats_of_parts (map without_id front ++ p ∷ more)) ≡ beat_of p done ∷ rest) = parts_from front p more done le in

@@ -6,11 +6,9 @@ use Rattle.std.proofs.lemmas.Bool.{eqb-true}
 use Rattle.std.proofs.lemmas.List.{get_or-set_same, get_or-set_other}
 use Rattle.std.proofs.lemmas.Option.{slice_get-get_or, unwrap_or-slice_get}
 use Rattle.flight.specs.Entries.{place_of}
+use Rattle.flight.proofs.EntryFacts.{some-inner}
 use Rattle.memory_end.specs.Store.{Store, IsStore, ReadsWritten, ReadsOthers, line_of, byte_place, byte_at, written_at}
 use Rattle.memory_end.proofs.StoreLemmas.{place_of-first}
-
-some-inner : (x y : ℕ) → Some x ≡ Some y → x ≡ y
-some-inner x y e = cc
 
 -- a list has one value at a place, whatever is told beyond its end
 get_or-within : (xs : List ℕ) (i d e : ℕ) → i < length xs → get_or xs i d ≡ get_or xs i e

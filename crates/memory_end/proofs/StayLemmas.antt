@@ -1,34 +1,25 @@
 -- What a memory keeps stays sound from round to round.
-use Rattle.std.proofs.Common.{◌≡◌, ◌≢◌, ℕ, ◌+◌, ◌*◌, ◌<◌, ◌==◌, suc, zero, Bool, true, false, cond, List, [], ◌∷◌, Option, Some, None, length, refl, sym, ◌∙◌, ap, subst, arith, eq-eqb, true≢false}
+use Rattle.std.proofs.Common.{◌≡◌, ◌≢◌, ℕ, ◌+◌, ◌*◌, ◌<◌, ◌==◌, Bool, true, false, cond, List, [], ◌∷◌, Option, Some, None, length, refl, sym, ◌∙◌, ap, subst, arith, eq-eqb, true≢false}
 use Rattle.std.specs.Prelude.{All, AllPairs, IfSome}
 use Rattle.std.proofs.lemmas.Bool.{ltb-true}
 use Rattle.std.proofs.lemmas.List.{length-set, length-replicate}
-use Rattle.std.proofs.lemmas.List.Elements.{All-append, All-drop, All-nil}
+use Rattle.std.proofs.lemmas.List.Elements.{All-append, All-cons, All-drop, All-head, All-nil, All-tail}
 use Rattle.axi_beats.specs.declared.beat.Addr.{Addr}
 use Rattle.axi_beats.specs.declared.beat.BBeat.{BBeat}
 use Rattle.axi_beats.specs.declared.beat.WBeat.{WBeat}
 use Rattle.axi_beats.specs.declared.response.Resp.TheVariants.{Okay}
 use Rattle.axi_link.specs.LinkView.{LinkView}
 use Rattle.axi_link.specs.Table.{head_of, has_room, passing}
+use Rattle.axi_link.proofs.KeepLemmas.{passing-has}
+use Rattle.burst_address.specs.Formulas.{beats_of}
 use Rattle.memory_end.specs.declared.config.MemoryConfig.{MemoryConfig}
 use Rattle.memory_end.specs.declared.entry.WriteEntry.{WriteEntry}
 use Rattle.memory_end.specs.declared.entry.ReadEntry.{ReadEntry}
-use Rattle.memory_end.specs.Beats.{Byte, all_written, beats_of, written_bytes}
+use Rattle.memory_end.specs.Beats.{Byte, all_written, written_bytes}
 use Rattle.memory_end.specs.Laws.{KeepsArguments, NewIsMemory, StaysMemory}
 use Rattle.memory_end.specs.MemoryState.{AreLinesAmong, IsReadEntry, IsRequest, IsWriteEntry}
 use Rattle.memory_end.specs.MemoryTable.{after_aw, after_ar, after_b, after_r, after_w, fits, lacks_data, memory_link, memory_aw, memory_ar, memory_b, memory_r, memory_w, next_beat, oldest_lacking, put_read, store_after, store_with, with_beat, with_data}
 use Rattle.memory_end.specs.Store.{Store, IsStore, byte_place, written, written_at}
-
-module _ {X : Type 0} (P : X → Type 0) where
-  all-cons : (x : X) (xs : List X) → P x → All P xs → All P (x ∷ xs)
-  all-cons x xs here rest zero d lt = here
-  all-cons x xs here rest (suc k) d lt = rest k d (omega arith)
-
-  all-head : (x : X) (xs : List X) → All P (x ∷ xs) → P x
-  all-head x xs all = all 0 x (omega arith)
-
-  all-tail : (x : X) (xs : List X) → All P (x ∷ xs) → All P xs
-  all-tail x xs all k d lt = all (suc k) d (omega arith)
 
 -- bytes are written over, and nothing else changes
 pub record Keeps (before after : Store) : Type 0 where
@@ -75,12 +66,12 @@ module _ (config : MemoryConfig) (lines : List ℕ) where
   with_data-stays w [] all = all
   with_data-stays w (e ∷ es) all =
       let P : WriteEntry → Type 0 = IsWriteEntry config lines in
-      let head : P e = all-head P e es all in
-      let tail : All P es = all-tail P e es all in
+      let head : P e = All-head P e es all in
+      let tail : All P es = All-tail P e es all in
       let go : (b : Bool) → lacks_data e ≡ b → All P (cond b (with_beat config w e ∷ es) (e ∷ with_data config w es)) =
       elim [
-        | true ↦ λ is. all-cons P (with_beat config w e) es (with_beat-stays w e is head) tail
-        | false ↦ λ is. all-cons P e (with_data config w es) head (with_data-stays w es tail)
+        | true ↦ λ is. All-cons P (with_beat config w e) es (with_beat-stays w e is head) tail
+        | false ↦ λ is. All-cons P e (with_data config w es) head (with_data-stays w es tail)
       ]
       in go (lacks_data e) refl
 
@@ -93,12 +84,7 @@ module _ (config : MemoryConfig) (lines : List ℕ) where
   after_aw-stays (Some request) entries word kept all =
       let P : WriteEntry → Type 0 = IsWriteEntry config lines in
       let new : WriteEntry = record { request = request; taken = 0; worst = Okay } in
-      All-append P entries (new ∷ []) all (all-cons P new [] record { request = word; lines_kept = kept; taken = omega arith } (All-nil P))
-
--- what holds of a head holds of what is taken of it
-taken-is : (P : Addr → Type 0) (may : Bool) (o : Option Addr) → IfSome o P → IfSome (passing may o) P
-taken-is P true o is = is
-taken-is P false o is = tt
+      All-append P entries (new ∷ []) all (All-cons P new [] record { request = word; lines_kept = kept; taken = omega arith } (All-nil P))
 
 module _ (config : MemoryConfig) where
   after_r-stays : (store : Store) (link : LinkView) (entries : List ReadEntry) → All (IsReadEntry config) entries → All (IsReadEntry config) (after_r (put_read config store link entries) entries)
@@ -107,14 +93,14 @@ module _ (config : MemoryConfig) where
       go (has_room link.depth link.r)
   after_r-stays store link (e ∷ es) all =
       let P : ReadEntry → Type 0 = IsReadEntry config in
-      let head : P e = all-head P e es all in
-      let tail : All P es = all-tail P e es all in
+      let head : P e = All-head P e es all in
+      let tail : All P es = All-tail P e es all in
       let step : (last : Bool) → (e.put == e.request.len) ≡ last → All P (cond last es (record { request = e.request; put = e.put + 1 } ∷ es)) =
       elim [
         | true ↦ λ is. tail
         | false ↦ λ is.
             let other : e.put ≢ e.request.len = λ same. true≢false (sym (eq-eqb e.put e.request.len same) ∙ is) in
-            all-cons P record { request = e.request; put = e.put + 1 } es record { request = head.request; put = omega (arith, head.put) } tail
+            All-cons P record { request = e.request; put = e.put + 1 } es record { request = head.request; put = omega (arith, head.put) } tail
       ] in
       let go : (room : Bool) → All P (after_r (passing room (Some (next_beat config store e))) (e ∷ es)) =
       elim [ true ↦ step (e.put == e.request.len) refl | false ↦ all ]
@@ -125,17 +111,17 @@ module _ (config : MemoryConfig) where
   after_ar-stays (Some request) entries word all =
       let P : ReadEntry → Type 0 = IsReadEntry config in
       let new : ReadEntry = record { request = request; put = 0 } in
-      All-append P entries (new ∷ []) all (all-cons P new [] record { request = word; put = omega arith } (All-nil P))
+      All-append P entries (new ∷ []) all (All-cons P new [] record { request = word; put = omega arith } (All-nil P))
 
 pub memory-stays : StaysMemory
 memory-stays round links state is can =
     let link : LinkView = memory_link links state in
     let keeps : Keeps state.store (store_after state.config (memory_w links state) state.write_entries state.store) =
     store_after-keeps state.config (memory_w links state) state.write_entries state.store in
-    let words : IfSome (memory_aw links state) (IsRequest state.config.bus) = taken-is (IsRequest state.config.bus) (fits state.write_entries) (head_of link.aw) can.aw in
+    let words : IfSome (memory_aw links state) (IsRequest state.config.bus) = passing-has (IsRequest state.config.bus) (fits state.write_entries) (head_of link.aw) can.aw in
     let kept : IfSome (memory_aw links state) (AreLinesAmong state.config state.store.lines) =
-    taken-is (AreLinesAmong state.config state.store.lines) (fits state.write_entries) (head_of link.aw) can.aw_lines in
-    let reads : IfSome (memory_ar links state) (IsRequest state.config.bus) = taken-is (IsRequest state.config.bus) (fits state.read_entries) (head_of link.ar) can.ar in
+    passing-has (AreLinesAmong state.config state.store.lines) (fits state.write_entries) (head_of link.aw) can.aw_lines in
+    let reads : IfSome (memory_ar links state) (IsRequest state.config.bus) = passing-has (IsRequest state.config.bus) (fits state.read_entries) (head_of link.ar) can.ar in
     let answered : List WriteEntry = after_b (memory_b links state) state.write_entries in
     let filled : List WriteEntry = after_w state.config (memory_w links state) answered in
     let writes : All (IsWriteEntry state.config state.store.lines) (after_aw (memory_aw links state) filled) =

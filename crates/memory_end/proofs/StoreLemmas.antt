@@ -1,11 +1,10 @@
 -- Facts on the places of lines and on the bytes that are kept there.
-use Rattle.std.proofs.Common.{◌≡◌, ◌≢◌, ℕ, ◌+◌, ◌*◌, ◌/◌, ◌%◌, ◌<◌, ◌≤◌, ◌==◌, suc, zero, true, false, cond, List, [], ◌∷◌, Option, Some, None, length, get_or, refl, sym, ◌∙◌, ap, subst, arith, eq-eqb, nat_cmp, inl, inr}
-use Rattle.std.specs.Prelude.{slice_set, slice_index, fold, AllPairs, Result, Ok, Err, IfSome}
+use Rattle.std.proofs.Common.{◌≡◌, ◌≢◌, ℕ, ◌+◌, ◌*◌, ◌/◌, ◌%◌, ◌<◌, ◌≤◌, suc, zero, cond, List, [], ◌∷◌, Some, None, length, get_or, refl, sym, ◌∙◌, ap, subst, arith, eq-eqb, nat_cmp, inl, inr}
+use Rattle.std.specs.Prelude.{slice_set, slice_index, fold, AllPairs, Result, Ok, Err}
 use Rattle.std.specs.Option.{option_map}
 use Rattle.std.specs.Result.{result_ok}
 use Rattle.std.specs.List.Sorted.{IsBinarySearchResult}
 use Rattle.std.proofs.lemmas.Bool.{ne_eqb, cases_lt}
-use Rattle.std.proofs.lemmas.List.{length-set}
 use Rattle.std.proofs.lemmas.List.Sorted.{searched}
 use Rattle.std.specs.List.{AllByRecursion}
 use Rattle.axi_beats.specs.declared.beat.WBeat.{WBeat}
@@ -46,17 +45,6 @@ place_of-searched xs key (Err i) ascend found =
       | inr more ↦ let over : key < get_or xs j 0 = above j more lt in absurd (omega arith)
     ]))
 
--- what is found is within the list
-pub place_of-within : (xs : List ℕ) (key : ℕ) → IfSome (place_of key xs) (λ place. place < length xs)
-place_of-within [] key = tt
-place_of-within (x ∷ xs) key =
-    let shift : (o : Option ℕ) → IfSome o (λ place. place < length xs) → IfSome (option_map suc o) (λ place. place < length (x ∷ xs)) =
-    elim [ None ↦ λ h. tt | Some p ↦ λ h. omega arith ] in
-    elim (x == key) as (λ c. IfSome (cond c (Some 0) (option_map suc (place_of key xs))) (λ place. place < length (x ∷ xs))) [
-      | true ↦ omega arith
-      | false ↦ shift (place_of key xs) (place_of-within xs key)
-    ]
-
 -- the byte of a lane is kept behind that of lane 0, where the word lies in one line
 byte_place-lane : (store : Store) (word k place : ℕ) → word % 128 + k < 128 → place_of (line_of word) store.lines ≡ Some place → byte_place store (word + k) ≡ Some (128 * place + word % 128 + k)
 byte_place-lane store word k place lt e =
@@ -86,8 +74,3 @@ all_written-lost store word bus w (k ∷ ks) le e below =
     let at : byte_place store (word + k) ≡ None = ap (λ n. option_map (λ p. 128 * p + (word + k) % 128) (place_of n store.lines)) line ∙ ap (option_map (λ p. 128 * p + (word + k) % 128)) e in
     ap (λ p. all_written (written_at store p (slice_index w.lanes k)) (bytes_on word w ks)) at
     ∙ all_written-lost store word bus w ks le e rest
-
--- writes at places leave as many bytes
-pub length-fold-set : (first : ℕ) (f : ℕ → ℕ) (lanes bytes : List ℕ) → length (fold (λ written lane. slice_set written (first + lane) (f lane)) bytes lanes) ≡ length bytes
-length-fold-set first f [] bytes = refl
-length-fold-set first f (k ∷ ks) bytes = length-fold-set first f ks (slice_set bytes (first + k) (f k)) ∙ length-set bytes (first + k) (f k)

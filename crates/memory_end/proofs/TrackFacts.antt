@@ -9,6 +9,7 @@ use Rattle.axi_beats.specs.declared.response.Resp.TheVariants.{Okay, SlvErr, Dec
 use Rattle.axi_beats.specs.Response.{worst_of}
 use Rattle.axi_trail.specs.Waiting.{Waiting, beats_by, pending}
 use Rattle.axi_trail.proofs.WaitingFacts.{pending-past, pending-within}
+use Rattle.flight.proofs.EntryFacts.{some-inner}
 use Rattle.memory_end.specs.Accesses.{burst_status}
 use Rattle.memory_end.specs.Beats.{strobed_status}
 use Rattle.memory_end.specs.MemoryTable.{lacks_data, oldest_lacking, with_beat, with_data}
@@ -19,7 +20,7 @@ use Rattle.memory_end.specs.declared.entry.WriteEntry.{WriteEntry}
 abbrev pub beats_of_all : List Addr → ℕ
 beats_of_all addresses = beats_by len_of_address addresses
 
-worst-assoc : (a b c : Resp) → worst_of (worst_of a b) c ≡ worst_of a (worst_of b c)
+pub worst-assoc : (a b c : Resp) → worst_of (worst_of a b) c ≡ worst_of a (worst_of b c)
 worst-assoc Okay b c = refl
 worst-assoc SlvErr Okay c = refl
 worst-assoc SlvErr SlvErr Okay = refl
@@ -28,7 +29,7 @@ worst-assoc SlvErr SlvErr DecErr = refl
 worst-assoc SlvErr DecErr c = refl
 worst-assoc DecErr b c = refl
 
-worst-okay : (a : Resp) → worst_of a Okay ≡ a
+pub worst-okay : (a : Resp) → worst_of a Okay ≡ a
 worst-okay Okay = refl
 worst-okay SlvErr = refl
 worst-okay DecErr = refl
@@ -131,9 +132,6 @@ module _ (config : MemoryConfig) where
   oldest-open (suc k) (a ∷ addresses) beats le =
       oldest-open k addresses (drop (suc a.len) beats) (omega (arith, length-drop (suc a.len) beats))
       ∙ sym (find-whole (with_data_so_far config a (take (suc a.len) beats)) (tracked config addresses (drop (suc a.len) beats)) (lacks-whole a beats (omega arith)))
-
-  some-inner : (x y : WriteEntry) → Some x ≡ Some y → x ≡ y
-  some-inner x y e = cc
 
   -- it is the first one whose beats haven't all come
   pub oldest-pending : (addresses : List Addr) (beats : List WBeat) (e : WriteEntry) → oldest_lacking (tracked config addresses beats) ≡ Some e →

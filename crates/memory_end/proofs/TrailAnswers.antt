@@ -1,5 +1,5 @@
 -- A memory answers as it should.
-use Rattle.std.proofs.Common.{◌≡◌, ℕ, ◌+◌, ◌≤◌, suc, zero, true, false, List, [], ◌∷◌, ◌++◌, length, map, take, drop, refl, sym, ◌∙◌, ap, subst, arith, append-nil, length-append}
+use Rattle.std.proofs.Common.{◌≡◌, ℕ, ◌+◌, ◌≤◌, suc, zero, true, false, List, [], ◌∷◌, length, map, take, drop, refl, sym, ◌∙◌, ap, subst, arith, append-nil, length-append}
 use Rattle.std.specs.Prelude.{filter, flat_map}
 use Rattle.std.proofs.lemmas.List.{length-map, length-take-le, take-append-drop, take-map, take_all}
 use Rattle.std.proofs.lemmas.List.Concat.{flat_map-append}
@@ -16,10 +16,10 @@ use Rattle.axi_trail.proofs.FilterFacts.{length-marks, of_key-map}
 use Rattle.axi_trail.proofs.OrderFacts.{own_beats, prefix_total}
 use Rattle.axi_trail.proofs.PrefixFacts.{prefix_filter, prefix_flat_map, prefix_length, prefix_map, prefix_of_key, prefix_of_same, prefix_same, prefix_take}
 use Rattle.axi_trail.proofs.SlackFacts.{in_order_goes_up}
-use Rattle.axi_trail.proofs.StreamFacts.{prefix_itself, prefix_trans}
+use Rattle.axi_trail.proofs.StreamFacts.{prefix_first, prefix_itself, prefix_trans, prefix_whole}
+use Rattle.burst_address.specs.Formulas.{beats_of}
 use Rattle.flight.specs.Entries.{of_key}
 use Rattle.memory_end.specs.Accesses.{BeatOf, accesses_of, allowed_bytes, beats_of_parts, filled_bytes}
-use Rattle.memory_end.specs.Beats.{beats_of}
 use Rattle.memory_end.specs.Events.{Access}
 use Rattle.memory_end.specs.MemoryTable.{answer_to}
 use Rattle.memory_end.specs.MemoryTrail.{MemoryAnswers}
@@ -68,9 +68,6 @@ lasts-of (x ∷ xs) =
     sums : {m n k : ℕ} → m ≡ 1 → n ≡ k → m + n ≡ suc k
     sums e f = omega arith
 
-prefix-first : {X : Type 0} (n : ℕ) (xs : List X) → IsPrefix (take n xs) xs
-prefix-first n xs = record { rest = drop n xs; whole = sym (take-append-drop n xs) }
-
 length-parts : (parts : List Addr) → length (beats_of_parts parts) ≡ beats_of_all parts
 length-parts [] = refl
 length-parts (p ∷ parts) = omega (arith, length-append (part_beats p) (beats_of_parts parts), length-part_beats p, length-parts parts)
@@ -87,14 +84,6 @@ length-due (p ∷ parts) (d ∷ written) e =
     let size : length d ≡ beats_of p = cc in
     let later : map (λ (xs : List WBeat). length xs) written ≡ map beats_of parts = cc in
     omega (arith, length-append d (flat_map (λ (xs : List WBeat). xs) written), length-due parts written later)
-
--- a beginning that is as long as its list is the list
-whole-prefix : {X : Type 0} (xs ys : List X) → IsPrefix xs ys → length ys ≤ length xs → ys ≡ xs
-whole-prefix xs ys p le = p.whole ∙ without_rest p.rest (omega (arith, ap length p.whole, length-append xs p.rest))
-  where
-    without_rest : (rest : List _) → length rest ≡ 0 → xs ++ rest ≡ xs
-    without_rest [] none = append-nil xs
-    without_rest (x ∷ rest) none = absurd (omega arith)
 
 module _ (plan : Schedule) (now : Progress) (config : MemoryConfig) (entries : List WriteEntry) (trail : Beats) (asks : Asks plan now trail) (is : TracksWrites config entries trail.aw trail.w trail.b) where
   -- the writes that are answered
@@ -117,7 +106,7 @@ module _ (plan : Schedule) (now : Progress) (config : MemoryConfig) (entries : L
   -- their data has come
   data-answered : IsPrefix (marks (map burst_asked answered)) (map mark_of_data trail.w)
   data-answered =
-      prefix_total (prefix_flat_map marks_of (prefix_map burst_asked (prefix-first (length trail.b) trail.aw))) order
+      prefix_total (prefix_flat_map marks_of (prefix_map burst_asked (prefix_first (length trail.b) trail.aw))) order
       (omega (arith, length-marks (map burst_asked answered), beats-shown answered, is.data_first, length-map trail.w mark_of_data))
 
   in-order-of : (more : List Addr) → IsPrefix answered more → InOrderOfId (map write_asked more) (map write_reply trail.b)
@@ -135,7 +124,7 @@ module _ (plan : Schedule) (now : Progress) (config : MemoryConfig) (entries : L
     own = of_key number_of_address t answered
 
     own-parts : IsPrefix (map without_id own) (plan.writes t).parts
-    own-parts = prefix_trans (prefix_map without_id (prefix_of_key number_of_address t (prefix-first (length trail.b) trail.aw))) (asks.writes.asks_only_its_parts t)
+    own-parts = prefix_trans (prefix_map without_id (prefix_of_key number_of_address t (prefix_first (length trail.b) trail.aw))) (asks.writes.asks_only_its_parts t)
 
     own-data : beats_of_all own ≤ length (of_key number_of_data t trail.w)
     own-data =
@@ -177,7 +166,7 @@ module _ (plan : Schedule) (now : Progress) (config : MemoryConfig) (entries : L
     -- where all parts are answered, all data has come
     all-data : length (plan.writes t).parts ≤ length (of_key number_of_response t trail.b) → length (of_key number_of_data t trail.w) ≡ length (beats_of_parts (plan.writes t).parts)
     all-data enough =
-        let whole : (plan.writes t).parts ≡ map without_id own = whole-prefix (map without_id own) (plan.writes t).parts own-parts (omega (arith, own-answers, length-map own without_id)) in
+        let whole : (plan.writes t).parts ≡ map without_id own = prefix_whole (map without_id own) (plan.writes t).parts own-parts (omega (arith, own-answers, length-map own without_id)) in
         omega (
           arith,
           own-data,
@@ -200,7 +189,7 @@ pub memory-answers : MemoryAnswers
 memory-answers plan now s trail all keep asks knows =
     let is : TracksWrites s.config s.write_entries trail.aw trail.w trail.b = keep.accessed.tracks_writes in
     record {
-      answers_in_order_of_id = in-order-of plan now s.config s.write_entries trail asks is trail.aw (prefix-first (length trail.b) trail.aw);
+      answers_in_order_of_id = in-order-of plan now s.config s.write_entries trail asks is trail.aw (prefix_first (length trail.b) trail.aw);
       reads_in_order_of_id = keep.accessed.tracks_reads.in_order_of_id;
       responses_are_the_schedules = λ t.
           prefix_of_same (own-responses plan now s.config s.write_entries trail asks is t (keep.suits t).write_data) (sym (keep.suits t).responses);

@@ -1,39 +1,33 @@
 -- The bytes of a beat: their lanes and addresses (Arm IHI 0022, data read and write structure), and what a beat reads
 -- and writes.
-use Rattle.std.specs.Prelude.{◌==◌, ◌+◌, ◌-◌, ◌*◌, ◌/◌, ◌&&◌, ℕ, Bool, List, map, filter, fold, nat_le, nat_lt, if◌then◌else◌, slice_index}
+use Rattle.std.specs.Prelude.{◌==◌, ◌+◌, ◌-◌, ◌&&◌, ℕ, Bool, List, map, filter, fold, nat_le, nat_lt, if◌then◌else◌, slice_index}
 use Rattle.std.specs.List.{range_with_len}
 use Rattle.std.specs.Int.{bit_at}
 use Rattle.axi_beats.specs.declared.beat.Addr.{Addr}
 use Rattle.axi_beats.specs.declared.beat.WBeat.{WBeat}
 use Rattle.axi_beats.specs.declared.response.Resp.{Resp}
-use Rattle.burst_address.specs.Formulas.{beat_at, lower_lane, size_of, upper_lane}
+use Rattle.burst_address.specs.Formulas.{aligned, beat_at, lower_lane, size_of, upper_lane}
 use Rattle.memory_end.specs.declared.config.MemoryConfig.{MemoryConfig}
 use Rattle.memory_end.specs.Status.{write_status, read_status, worst_among, is_okay}
 use Rattle.memory_end.specs.Store.{Store, byte_at, written}
 
--- how many beats a request asks for
-abbrev pub beats_of : Addr → ℕ
-beats_of request = request.len + 1
-
--- the address of a beat, counted from 0
-abbrev pub beat_address : Addr → ℕ → ℕ
-beat_address request beat = beat_at request beat
-
 -- the address of the byte on a beat's lane 0: the multiple of the bus's width at or below the beat's address
 abbrev pub word_address : Addr → ℕ → ℕ → ℕ
-word_address request beat bus = beat_address request beat / bus * bus
+word_address request beat bus = aligned bus (beat_at request beat)
 
 -- the address of the byte on a lane of a beat
 abbrev pub lane_address : Addr → ℕ → ℕ → ℕ → ℕ
 lane_address request beat bus lane = word_address request beat bus + lane
 
--- the valid lanes of a beat, from the lower one to the upper one
+-- the first valid lane of a beat
 abbrev pub first_lane : Addr → ℕ → ℕ → ℕ
-first_lane request beat bus = lower_lane bus (beat_address request beat)
+first_lane request beat bus = lower_lane bus (beat_at request beat)
 
+-- how many valid lanes it has
 abbrev pub lane_count : Addr → ℕ → ℕ → ℕ
-lane_count request beat bus = upper_lane (size_of request) bus (beat_address request beat) - first_lane request beat bus + 1
+lane_count request beat bus = upper_lane (size_of request) bus (beat_at request beat) - first_lane request beat bus + 1
 
+-- the numbers of its valid lanes, upwards
 abbrev pub valid_lanes : Addr → ℕ → ℕ → List ℕ
 valid_lanes request beat bus = range_with_len (first_lane request beat bus) (lane_count request beat bus)
 

@@ -6,9 +6,10 @@ use Rattle.axi_beats.specs.declared.beat.Addr.{Addr}
 use Rattle.axi_beats.specs.declared.beat.WBeat.{WBeat}
 use Rattle.axi_trail.specs.Schedule.{Share}
 use Rattle.burst_address.specs.Bytes.{beat_bytes, beat_written, burst_bytes, written_bytes as burst_written}
+use Rattle.burst_address.specs.Formulas.{beats_of}
 use Rattle.burst_address.specs.Legal.{IsLegal}
 use Rattle.memory_end.specs.Accesses.{beats_of_parts, due_reads, due_writes, read_addresses}
-use Rattle.memory_end.specs.Beats.{Byte, beats_of, is_strobed, is_valid, lane_address, strobed_status, valid_lanes, valid_status, word_address, written_bytes}
+use Rattle.memory_end.specs.Beats.{Byte, is_strobed, is_valid, lane_address, strobed_status, valid_lanes, valid_status, word_address, written_bytes}
 use Rattle.memory_end.specs.MemoryState.{AreLinesAmong, IsMemoryConfig}
 use Rattle.memory_end.specs.Status.{is_inside, read_status, worst_among, write_status}
 use Rattle.memory_end.specs.Store.{line_of}

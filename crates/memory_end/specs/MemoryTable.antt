@@ -11,10 +11,11 @@ use Rattle.axi_link.specs.LinkView.{LinkView}
 use Rattle.axi_link.specs.Acted.{Acted}
 use Rattle.axi_link.specs.Table.{link_of, head_of, has_room, passing, take_of, put_of}
 use Rattle.axi_link.specs.declared.out.Out.{Out}
+use Rattle.burst_address.specs.Formulas.{beats_of}
 use Rattle.memory_end.specs.declared.config.MemoryConfig.{MemoryConfig}
 use Rattle.memory_end.specs.declared.entry.WriteEntry.{WriteEntry}
 use Rattle.memory_end.specs.declared.entry.ReadEntry.{ReadEntry}
-use Rattle.memory_end.specs.Beats.{beats_of, strobed_status, written_bytes, all_written, valid_status, answered_lanes}
+use Rattle.memory_end.specs.Beats.{strobed_status, written_bytes, all_written, valid_status, answered_lanes}
 use Rattle.memory_end.specs.MemoryState.{MemoryState, AreLinesAmong, IsRequest}
 use Rattle.memory_end.specs.Store.{Store}
 

@@ -10,9 +10,10 @@ use Rattle.axi_trail.specs.Streams.{IsPrefix}
 use Rattle.axi_trail.specs.Trail.{Beats, no_beats, joined, moved_below}
 use Rattle.axi_trail.specs.Waiting.{held}
 use Rattle.axi_trail.specs.Words.{number_of_address, number_of_data, number_of_read_data}
+use Rattle.burst_address.specs.Formulas.{beats_of}
 use Rattle.flight.specs.Entries.{of_key}
 use Rattle.memory_end.specs.Accesses.{BeatOf, accesses_of, allowed_before, beats_of_parts, burst_status, due_reads, due_writes, filled_bytes, left_at, span_of}
-use Rattle.memory_end.specs.Beats.{beats_of, valid_status}
+use Rattle.memory_end.specs.Beats.{valid_status}
 use Rattle.memory_end.specs.Events.{Access, memory_events}
 use Rattle.memory_end.specs.MemoryState.{MemoryState, IsMemory, IsMemoryConfig, new_memory}
 use Rattle.memory_end.specs.MemoryTable.{CanMemory, memory_next, memory_out}

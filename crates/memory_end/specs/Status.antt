@@ -10,11 +10,15 @@ use Rattle.memory_end.specs.declared.config.MemoryConfig.{MemoryConfig}
 abbrev pub is_inside : MemoryConfig → ℕ → Bool
 is_inside config address = nat_le config.base address && nat_lt address (config.base + config.size)
 
+-- A byte has a status when it is written and one when it is read. They are two notions of the standard: the first goes
+-- into the one response to a write, the second into that of each beat of a read. The bytes of a memory can all be both
+-- written and read, so that the two agree.
+
 -- the status of a byte that is written: DECERR outside the memory, where there is none
 abbrev pub write_status : MemoryConfig → ℕ → Resp
 write_status config address = if is_inside config address then Okay else DecErr
 
--- the status of a byte that is read
+-- the status of a byte that is read: DECERR there too
 abbrev pub read_status : MemoryConfig → ℕ → Resp
 read_status config address = if is_inside config address then Okay else DecErr
 

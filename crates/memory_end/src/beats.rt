@@ -3,7 +3,8 @@
 
 ghost use Rattle.std.specs.Prelude.{◌≡◌, ◌*◌, ◌/◌, ◌<◌, ◌≤◌, ◌^◌};
 ghost use Rattle.axi_beats.specs.Bus.{IsBusWidth};
-ghost use Rattle.memory_end.specs.Beats.{all_written, answered_lanes, beat_address, strobed_status, written_bytes};
+ghost use Rattle.burst_address.specs.Formulas.{beat_at};
+ghost use Rattle.memory_end.specs.Beats.{all_written, answered_lanes, strobed_status, written_bytes};
 ghost use Rattle.memory_end.specs.MemoryState.{IsMemoryConfig, IsReadEntry, IsRequest};
 ghost use Rattle.memory_end.specs.Status.{is_inside, write_status};
 
@@ -25,7 +26,7 @@ pub fn beat_address(config: &MemoryConfig, request: &Addr, beat: u16) -> u64
     requires config { IsMemoryConfig config.now }
     requires request { IsRequest config.now.bus request.now }
     requires beat { beat ≤ request.now.len }
-    ensures address { result ≡ beat_address request.now beat }
+    ensures address { result ≡ beat_at request.now beat }
     ensures limit { result < 2 ^ 63 }
 {
     burst_address::beat_address(request, u32::from(beat))
@@ -53,7 +54,7 @@ pub fn write_beat(
     beat: &WBeat,
 )
     requires config { IsMemoryConfig config.now }
-    requires address { address ≡ beat_address entry.now.request entry.now.taken }
+    requires address { address ≡ beat_at entry.now.request entry.now.taken }
     ensures { store.new ≡ all_written store.old
         (written_bytes config.now entry.now.request entry.now.taken beat.now) }
 {
@@ -66,7 +67,7 @@ pub fn write_beat(
 /// The worst status of the strobed bytes of the next beat of a write, which is at this address.
 pub fn strobed_status(config: &MemoryConfig, entry: &WriteEntry, address: u64, beat: &WBeat) -> Resp
     requires config { IsMemoryConfig config.now }
-    requires address { address ≡ beat_address entry.now.request entry.now.taken }
+    requires address { address ≡ beat_at entry.now.request entry.now.taken }
     requires strobe { beat.now.strobe < 2 ^ config.now.bus }
     ensures { result ≡ strobed_status config.now entry.now.request entry.now.taken beat.now }
 {
@@ -86,7 +87,7 @@ pub fn read_lanes(
 ) -> Lanes
     requires config { IsMemoryConfig config.now }
     requires entry { IsReadEntry config.now entry.now }
-    requires address { address ≡ beat_address entry.now.request entry.now.put }
+    requires address { address ≡ beat_at entry.now.request entry.now.put }
     requires limit { address < 2 ^ 63 }
     ensures { result ≡ answered_lanes config.now store.now entry.now.request entry.now.put }
 {

@@ -3,7 +3,7 @@
 
 ghost use Rattle.std.specs.Prelude.{◌≡◌, ◌<◌, ◌^◌, ℕ, All, IsTrue, IfSome, is_some, length, option_copied, slice_get};
 ghost use Rattle.axi_link.specs.Table.{head_of, passing, put_of, take_of};
-ghost use Rattle.memory_end.specs.Beats.{beat_address};
+ghost use Rattle.burst_address.specs.Formulas.{beat_at};
 ghost use Rattle.memory_end.specs.MemoryState.{IsMemoryConfig, IsWriteEntry};
 ghost use Rattle.memory_end.specs.MemoryTable.{after_aw, after_b, after_w, answer_to, lacks_data};
 ghost use Rattle.memory_end.specs.MemoryTable.{lacking_place, put_response, store_after, taken_data, with_beat};
@@ -107,7 +107,7 @@ fn lacking(entries: &Flight<WriteEntry>) -> Option<usize>
 /// A write that has one more data beat, which is at this address.
 fn with_beat(config: &MemoryConfig, entry: WriteEntry, address: u64, beat: &WBeat) -> WriteEntry
     requires config { IsMemoryConfig config.now }
-    requires address { address ≡ beat_address entry.request entry.taken }
+    requires address { address ≡ beat_at entry.request entry.taken }
     requires strobe { beat.now.strobe < 2 ^ config.now.bus }
     requires lacking { IsTrue (lacks_data entry) }
     ensures { result ≡ with_beat config.now beat.now entry }

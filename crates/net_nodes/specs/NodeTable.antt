@@ -1,11 +1,9 @@
 -- The decision table of a node, by its kind.
 use Rattle.std.specs.Prelude.{ℕ, List, Bool, true}
-use Rattle.axi_link.specs.Acted.{opened}
 use Rattle.axi_link.specs.LinkView.{LinkView}
 use Rattle.axi_link.specs.declared.out.Out.{Out}
-use Rattle.manager_end.specs.ManagerState.{CanManager, is_done, new_manager}
+use Rattle.manager_end.specs.ManagerState.{CanManager, is_done}
 use Rattle.manager_end.specs.ManagerTable.{manager_table}
-use Rattle.memory_end.specs.MemoryState.{new_memory}
 use Rattle.memory_end.specs.MemoryTable.{memory_table, CanMemory}
 use Rattle.net_nodes.specs.declared.node.Node.{Node}
 use Rattle.net_nodes.specs.declared.node.Node.TheVariants.{Manager, Memory}
@@ -24,11 +22,6 @@ node_out (Memory n) = n.out
 abbrev pub CanNode : ℕ → List LinkView → Node → Type 0
 CanNode round links (Manager n) = CanManager round links n.state
 CanNode round links (Memory n) = CanMemory round links n.state
-
--- the node as it was made, from the arguments that it keeps
-abbrev pub node_opened : Node → Node
-node_opened (Manager n) = Manager (opened (new_manager n.state.script n.state.lower n.state.bus))
-node_opened (Memory n) = Memory (opened (new_memory n.state.config n.state.upper n.state.store.lines))
 
 -- it waits for no answer: only a manager may
 abbrev pub node_done : Node → Bool

@@ -1,6 +1,6 @@
 -- The accesses of a transaction in a list of accesses: none are new where they are no more in number, as where all beats
 -- have come.
-use Rattle.std.proofs.Common.{◌≡◌, ◌≤◌, ◌∷◌, [], ◌++◌, ℕ, List, Bool, true, false, cond, length, sym, ap, ◌∙◌, arith, length-append}
+use Rattle.std.proofs.Common.{◌≡◌, ◌≤◌, ◌∷◌, [], ◌++◌, ℕ, List, Bool, true, cond, length, sym, ap, ◌∙◌, arith, length-append}
 use Rattle.std.specs.Prelude.{All, ◌==◌, ◌&&◌, flat_map}
 use Rattle.std.specs.Bool.{beq}
 use Rattle.std.proofs.lemmas.Bool.{and_from, eq-eqb}
@@ -9,6 +9,7 @@ use Rattle.std.proofs.lemmas.List.Elements.{All-cons, All-nil, filter-append}
 use Rattle.axi_trail.specs.Schedule.{Share}
 use Rattle.memory_end.specs.Accesses.{accesses_of, beats_of_parts, data_beats, due_reads, due_writes}
 use Rattle.memory_end.specs.Events.{Access}
+use Rattle.memory_end.proofs.AccessFacts.{tail-none}
 use Rattle.net_rounds.specs.BuiltIn.{ram}
 use Rattle.net_rounds.proofs.PlanFacts.{beq-same}
 
@@ -27,10 +28,6 @@ none-new write number before new same =
     let both = ap length (filter-append (λ (a : Access). beq a.write write && a.number == number) before new) in
     let sum = length-append (accesses_of write number before) (accesses_of write number new) in
     nil_from_length (accesses_of write number new) (omega arith)
-
-tail-none : {X : Type 0} (b : Bool) (x : X) (rest : List X) → cond b (x ∷ rest) rest ≡ [] → rest ≡ []
-tail-none true x rest none = absurd (cc)
-tail-none false x rest none = none
 
 -- where no access of a direction and number is there, each access is of another direction or number
 pub none-is : (write : Bool) (number : ℕ) (new : List Access) → accesses_of write number new ≡ [] → All (λ (a : Access). a.write ≡ write → a.number ≡ number → ⊥) new

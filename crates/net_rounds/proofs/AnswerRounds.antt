@@ -16,6 +16,7 @@ use Rattle.axi_trail.specs.Trail.{IsBehind, moved_below}
 use Rattle.axi_trail.specs.Words.{number_of_data, number_of_read_data, number_of_response}
 use Rattle.flight.specs.Entries.{of_key}
 use Rattle.manager_end.specs.Script.{ScriptItem}
+use Rattle.manager_end.proofs.NumberLemmas.{contains-at}
 use Rattle.memory_end.specs.Accesses.{accesses_of, beats_of_parts, data_beats, due_reads, due_writes}
 use Rattle.memory_end.specs.Events.{Access}
 use Rattle.memory_end.specs.declared.config.MemoryConfig.{MemoryConfig}
@@ -26,7 +27,7 @@ use Rattle.net_rounds.proofs.PlanFacts.{share-own}
 use Rattle.net_rounds.proofs.RunFacts.{RunFacts, note}
 use Rattle.net_rounds.proofs.RunHistory.{round_accesses, run_events}
 use Rattle.net_rounds.proofs.RunRounds.{at-run}
-use Rattle.net_rounds.proofs.ScriptPlaces.{contains-at, one-item}
+use Rattle.net_rounds.proofs.ScriptPlaces.{one-item}
 use Rattle.net_rounds.specs.BuiltIn.{ram}
 use Rattle.net_rounds.specs.History.{event_of}
 

@@ -1,9 +1,9 @@
 -- The answers of the run: one for each transaction, with its response and its bytes.
-use Rattle.std.proofs.Common.{◌≡◌, ◌<◌, ◌≤◌, ◌+◌, ◌∷◌, [], ◌++◌, ℕ, suc, List, Bool, true, false, Some, cond, length, refl, sym, ap, ◌∙◌, subst, arith, append-nil, length-append}
+use Rattle.std.proofs.Common.{◌≡◌, ◌<◌, ◌+◌, ◌∷◌, [], ◌++◌, ℕ, suc, List, Bool, true, false, Some, cond, length, refl, sym, ap, ◌∙◌, subst, arith, length-append}
 use Rattle.std.specs.Prelude.{◌≢◌, All, AllPairs, Any, get_or, map, option_map, slice_get}
 use Rattle.std.proofs.Common.{inl, inr}
 use Rattle.std.proofs.lemmas.Bool.{cases_Bool}
-use Rattle.std.proofs.lemmas.List.{get_or-append-add, length-map, nil_from_length}
+use Rattle.std.proofs.lemmas.List.{get_or-append-add, length-map}
 use Rattle.std.proofs.lemmas.List.Elements.{All-map}
 use Rattle.std.proofs.lemmas.Option.{get_or_from_slice_get, slice_get-map, slice_get_within}
 use Rattle.axi_beats.specs.declared.beat.RBeat.{RBeat}
@@ -13,9 +13,11 @@ use Rattle.axi_trail.proofs.PrefixFacts.{prefix_length, prefix_of_key}
 use Rattle.axi_trail.specs.Schedule.{Share, bytes_on}
 use Rattle.axi_trail.specs.Streams.{IsPrefix}
 use Rattle.axi_trail.specs.Words.{number_of_read_data, number_of_response}
+use Rattle.axi_trail.proofs.StreamFacts.{prefix_whole}
 use Rattle.flight.specs.Entries.{of_key}
 use Rattle.manager_end.specs.ManagerTrail.{IsReadNote, IsWriteNote, shares_of}
 use Rattle.manager_end.specs.Script.{ScriptItem}
+use Rattle.manager_end.proofs.NumberLemmas.{all-at, contains-at}
 use Rattle.memory_end.specs.Accesses.{accesses_of, allowed_before, beats_of_parts, filled_bytes}
 use Rattle.memory_end.specs.Events.{Access}
 use Rattle.memory_end.specs.declared.config.MemoryConfig.{MemoryConfig}
@@ -27,7 +29,7 @@ use Rattle.net_rounds.proofs.PlanFacts.{share-own}
 use Rattle.net_rounds.proofs.RunFacts.{RunFacts, note}
 use Rattle.net_rounds.proofs.RunHistory.{run_answers, run_events}
 use Rattle.net_rounds.proofs.RunRounds.{at-run}
-use Rattle.net_rounds.proofs.ScriptPlaces.{All-places, contains-at, one-item}
+use Rattle.net_rounds.proofs.ScriptPlaces.{one-item}
 use Rattle.net_rounds.specs.BuiltIn.{ram}
 use Rattle.net_rounds.specs.Due.{bytes_of, response_of, transaction_of, transactions_of}
 
@@ -46,14 +48,6 @@ module _ {X : Type 0} where
       let high = ap f second in
       omega arith
 
-  -- a beginning that is as long as the whole
-  pub whole-prefix : (xs ys : List X) → IsPrefix xs ys → length ys ≤ length xs → ys ≡ xs
-  whole-prefix xs ys p le =
-      let long = ap length p.whole in
-      let sum = length-append xs p.rest in
-      let none : p.rest ≡ [] = nil_from_length p.rest (omega arith) in
-      p.whole ∙ ap (λ (rest : List X). xs ++ rest) none ∙ append-nil xs
-
 -- a transaction of the script, among the transactions
 pub any-transaction : (P : Transaction → Type 0) (script : List ScriptItem) (place : ℕ) (item : ScriptItem) → slice_get script place ≡ Some item → P (transaction_of ram 0 1 item) → Any P (transactions_of script)
 any-transaction P script place item at has =
@@ -62,7 +56,7 @@ any-transaction P script place item at has =
 
 -- what holds of the script's transactions by their places
 pub all-transactions : (P : Transaction → Type 0) (script : List ScriptItem) → ((place : ℕ) (item : ScriptItem) → slice_get script place ≡ Some item → P (transaction_of ram 0 1 item)) → All P (transactions_of script)
-all-transactions P script each = All-map P (transaction_of ram 0 1) script (All-places (λ (item : ScriptItem). P (transaction_of ram 0 1 item)) script each)
+all-transactions P script each = All-map P (transaction_of ram 0 1) script (all-at (λ (item : ScriptItem). P (transaction_of ram 0 1 item)) script each)
 
 module _ (script : List ScriptItem) (run : RunFacts script) (n : ℕ) where
   -- ---- no transaction has two answers
@@ -95,7 +89,7 @@ module _ (script : List ScriptItem) (run : RunFacts script) (n : ℕ) where
         let due = one-response writes in
         let beats = of_key number_of_response item.txn.number (upper_trail script n).b in
         let long = length-map beats (λ b. b.resp) in
-        (write-note writes).responses ∙ sym (whole-prefix _ _ ((run.keeps n).answered_above.responses_are_the_schedules item.txn.number) (omega arith))
+        (write-note writes).responses ∙ sym (prefix_whole _ _ ((run.keeps n).answered_above.responses_are_the_schedules item.txn.number) (omega arith))
 
     read-responses : item.txn.write ≡ false → (note script n place).resps ≡ ((plan_of script).reads item.txn.number).responses
     read-responses reads =
@@ -103,7 +97,7 @@ module _ (script : List ScriptItem) (run : RunFacts script) (n : ℕ) where
         let due = beat-responses reads in
         let beats = of_key number_of_read_data item.txn.number (upper_trail script n).r in
         let long = length-map beats (λ r. r.resp) in
-        (read-note reads).responses ∙ sym (whole-prefix _ _ ((run.keeps n).answered_above.read_responses_are_the_schedules item.txn.number) (omega arith))
+        (read-note reads).responses ∙ sym (prefix_whole _ _ ((run.keeps n).answered_above.read_responses_are_the_schedules item.txn.number) (omega arith))
 
     own-response : (note script n place).resps ≡ response_of ram item
     own-response =
@@ -125,7 +119,7 @@ module _ (script : List ScriptItem) (run : RunFacts script) (n : ℕ) where
         let beats = of_key number_of_read_data item.txn.number (lower_trail script n).r in
         let long = length-map beats (λ r. r.resp) in
         let most = prefix_length ((run.keeps n).answered_below.read_responses_are_the_schedules item.txn.number) in
-        whole-prefix _ _ (prefix_of_key number_of_read_data item.txn.number behind) (omega arith)
+        prefix_whole _ _ (prefix_of_key number_of_read_data item.txn.number behind) (omega arith)
 
     own-bytes : item.txn.write ≡ false → (note script n place).bytes ≡ answered_bytes (bytes_of ram item) (values_of item.txn.number (run_events script n))
     own-bytes reads =

@@ -10,6 +10,7 @@ use Rattle.axi_history.specs.Records.{Answer, Event, Issue, Transaction}
 use Rattle.axi_trail.specs.Schedule.{ComesBefore, Share}
 use Rattle.manager_end.specs.ManagerOrder.{AreOfDirection, AreOfId}
 use Rattle.manager_end.specs.Script.{ScriptItem}
+use Rattle.manager_end.proofs.NumberLemmas.{contains-at, number-before}
 use Rattle.memory_end.specs.Accesses.{accesses_of}
 use Rattle.memory_end.specs.Events.{Access}
 use Rattle.net_rounds.proofs.AccessLists.{none-is}
@@ -21,7 +22,7 @@ use Rattle.net_rounds.proofs.PlanFacts.{share-own}
 use Rattle.net_rounds.proofs.RunFacts.{RunFacts, note}
 use Rattle.net_rounds.proofs.RunHistory.{access_of_event, accesses-are, run_answers, run_events, run_issues}
 use Rattle.net_rounds.proofs.RunRounds.{IsEventOf, answered-in, at-run, events-of, issued-before, note-within}
-use Rattle.net_rounds.proofs.ScriptPlaces.{contains-at, one-item, places-rise}
+use Rattle.net_rounds.proofs.ScriptPlaces.{one-item}
 use Rattle.net_rounds.specs.BuiltIn.{ram}
 use Rattle.net_rounds.specs.Due.{transaction_of, transactions_of}
 
@@ -87,7 +88,7 @@ module _ (script : List ScriptItem) (run : RunFacts script) (n : ℕ) where
       second = v;
       at_earlier = at-run script run n p t at_t;
       at_later = at-run script run n r v at_v;
-      order = let less : t.txn.number < v.txn.number = omega (arith, order.number) in places-rise script run.traffic.numbered p r t v at_t at_v less;
+      order = let less : t.txn.number < v.txn.number = omega (arith, order.number) in number-before script run.traffic.numbered p r t v at_t at_v less;
       direction = order.direction ∙ ap (λ (i : ScriptItem). i.txn.write) (sym one);
     }
 

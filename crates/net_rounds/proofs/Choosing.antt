@@ -1,10 +1,8 @@
 -- What all elements of a list have, the chosen one has.
-use Rattle.std.proofs.Common.{◌≡◌, ◌<◌, ◌+◌, ◌∷◌, [], ℕ, zero, suc, List, Option, Some, None, Bool, true, false, cond, filter, sym, ap, ◌∙◌, subst, arith}
+use Rattle.std.proofs.Common.{◌≡◌, ◌∷◌, [], ℕ, zero, suc, List, Option, Some, None, Bool, true, false, cond, filter, sym, ap, ◌∙◌, subst, arith}
 use Rattle.std.specs.Prelude.{All, Contains, IfSome, slice_get, option_map}
-use Rattle.std.specs.List.{AllByRecursion, enumerate_from, range_with_len}
-use Rattle.std.proofs.lemmas.List.Elements.{All-from_recursion, recursion_from_All}
-use Rattle.std.proofs.lemmas.List.FromFn.{get_or-range_with_len, length-range_with_len}
-use Rattle.axi_link.specs.Table.{passing}
+use Rattle.std.specs.List.{AllByRecursion}
+use Rattle.std.proofs.lemmas.List.Elements.{recursion_from_All}
 
 module _ {X : Type 0} (P : X → Type 0) where
   slice_get-recursion : (xs : List X) (i : ℕ) → AllByRecursion P xs → IfSome (slice_get xs i) P
@@ -14,17 +12,6 @@ module _ {X : Type 0} (P : X → Type 0) where
 
   pub All-slice_get : (xs : List X) (i : ℕ) → All P xs → IfSome (slice_get xs i) P
   All-slice_get xs i all = slice_get-recursion xs i (recursion_from_All P xs all)
-
-  pub passing-has : (holds : Bool) (o : Option X) → IfSome o P → IfSome (passing holds o) P
-  passing-has true o has = has
-  passing-has false o has = tt
-
-  enumerated-recursion : (n : ℕ) (xs : List X) → AllByRecursion P xs → AllByRecursion (λ (p : ℕ × X). P p.1) (enumerate_from n xs)
-  enumerated-recursion n [] all = tt
-  enumerated-recursion n (x ∷ xs) all = (all.0, enumerated-recursion (n + 1) xs all.1)
-
-  pub All-enumerated : (n : ℕ) (xs : List X) → All P xs → All (λ (p : ℕ × X). P p.1) (enumerate_from n xs)
-  All-enumerated n xs all = All-from_recursion (λ (p : ℕ × X). P p.1) (enumerate_from n xs) (enumerated-recursion n xs (recursion_from_All P xs all))
 
 module _ {X : Type 0} where
   pub IfSome-both : (P Q R : X → Type 0) → ((x : X) → P x → Q x → R x) → (o : Option X) → IfSome o P → IfSome o Q → IfSome o R
@@ -46,6 +33,3 @@ Contains-filter p (y ∷ ys) x (suc k, within, is) passes =
     let go : (b : Bool) → Contains (cond b (y ∷ filter p ys) (filter p ys)) x =
     λ b. elim b as (λ b. Contains (cond b (y ∷ filter p ys) (filter p ys)) x) [ true ↦ (suc (later.0), omega arith, later.2) | false ↦ later ]
     in go (p y)
-
-pub Contains-range : (a n x : ℕ) → x < n → Contains (range_with_len a n) (a + x)
-Contains-range a n x within = (x, subst (λ (m : ℕ). x < m) (sym (length-range_with_len a n)) within, get_or-range_with_len a n x (a + x) within)

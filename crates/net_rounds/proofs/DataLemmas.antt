@@ -10,8 +10,7 @@ use Rattle.std.proofs.lemmas.Option.{get_or_from_slice_get, slice_get_within}
 use Rattle.axi_beats.specs.Response.{worst_of}
 use Rattle.axi_beats.specs.declared.beat.WBeat.{WBeat}
 use Rattle.axi_beats.specs.declared.response.Resp.{Resp}
-use Rattle.axi_beats.specs.declared.response.Resp.TheVariants.{DecErr, Okay, SlvErr}
-use Rattle.burst_address.proofs.Written.{written-more}
+use Rattle.burst_address.proofs.Written.{written-more, written-past}
 use Rattle.burst_address.specs.Bytes.{beat_bytes, beat_written, burst_bytes, bytes_before, strobed_byte, strobed_bytes as burst_strobed, written, written_bytes as burst_written}
 use Rattle.burst_address.specs.Formulas.{beats_of}
 use Rattle.manager_end.specs.Beats.{data_beat, data_beats, high_lane, low_lane}
@@ -23,6 +22,7 @@ use Rattle.memory_end.specs.Beats.{strobed_status}
 use Rattle.memory_end.specs.BurstBytes.{StrobesValidLanes, all_written_bytes, inside_of}
 use Rattle.memory_end.specs.MemoryState.{IsMemoryConfig}
 use Rattle.memory_end.specs.Status.{worst_among, write_status}
+use Rattle.memory_end.proofs.TrackFacts.{worst-assoc, worst-okay}
 use Rattle.net_rounds.proofs.NodeLaws.{NodeLaws}
 use Rattle.net_rounds.proofs.PlanFacts.{IsTrafficItem, data-count, part_of}
 use Rattle.net_rounds.specs.BuiltIn.{ram}
@@ -51,23 +51,9 @@ module _ (item : ScriptItem) where
 
 -- ---- the worst of several responses
 
-worst-together : (a b c : Resp) → worst_of a (worst_of b c) ≡ worst_of (worst_of a b) c
-worst-together Okay b c = refl
-worst-together SlvErr Okay c = refl
-worst-together SlvErr SlvErr Okay = refl
-worst-together SlvErr SlvErr SlvErr = refl
-worst-together SlvErr SlvErr DecErr = refl
-worst-together SlvErr DecErr c = refl
-worst-together DecErr b c = refl
-
-worst-okay : (r : Resp) → worst_of r Okay ≡ r
-worst-okay Okay = refl
-worst-okay SlvErr = refl
-worst-okay DecErr = refl
-
 worst-append : (rs more : List Resp) → worst_of (worst_among rs) (worst_among more) ≡ worst_among (rs ++ more)
 worst-append [] more = refl
-worst-append (r ∷ rs) more = sym (worst-together r (worst_among rs) (worst_among more)) ∙ ap (worst_of r) (worst-append rs more)
+worst-append (r ∷ rs) more = worst-assoc r (worst_among rs) (worst_among more) ∙ ap (worst_of r) (worst-append rs more)
 
 -- the status of bytes that are written
 abbrev pub status_of : List (ℕ × ℕ) → Resp
@@ -105,7 +91,7 @@ module _ (item : ScriptItem) (known : IsTrafficItem item) where
       let more : worst_of (status_of before) (strobed_status ram (part_of item) (length front) w) ≡ status_of (burst_written 4 (part_of item) (front ++ w ∷ [])) =
       ap (worst_of (status_of before)) (status-beat (length front) w ws valid) ∙ status-append before own
       ∙ ap status_of (sym (written-more 4 (part_of item) front w (omega arith))) in
-      worst-together (status_of before) (strobed_status ram (part_of item) (length front) w) rest
+      sym (worst-assoc (status_of before) (strobed_status ram (part_of item) (length front) w) rest)
       ∙ ap (λ r. worst_of r rest) more
       ∙ ap (λ n. worst_of (status_of (burst_written 4 (part_of item) (front ++ w ∷ []))) (burst_status ram (part_of item) n ws)) one
       ∙ status-rest (front ++ w ∷ []) ws (omega (arith, one)) (subst (λ n. AreValid n ws) one (valid-rest (length front) w ws valid))
@@ -116,12 +102,8 @@ module _ (item : ScriptItem) (known : IsTrafficItem item) where
       burst_status ram (part_of item) 0 ws ≡ status_of (burst_written 4 (part_of item) ws)
   status-all ws few valid =
       let from : AreValid 0 ws = λ k w at. let same : k ≡ 0 + k = omega arith in subst (λ n. StrobesValidLanes 4 (part_of item) n w) same (valid k w at) in
-      ap (λ bytes. worst_of (status_of bytes) (burst_status ram (part_of item) 0 ws)) (sym (nothing (burst_bytes (part_of item))))
+      ap (λ bytes. worst_of (status_of bytes) (burst_status ram (part_of item) 0 ws)) (sym (written-past (burst_bytes (part_of item))))
       ∙ status-rest [] ws (omega (arith, few)) from
-    where
-      nothing : (addresses : List ℕ) → written addresses [] ≡ []
-      nothing [] = refl
-      nothing (address ∷ addresses) = refl
 
 -- ---- the data beats of a write
 

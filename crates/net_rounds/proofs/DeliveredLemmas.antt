@@ -4,7 +4,7 @@ use Rattle.std.specs.Prelude.{All, map}
 use Rattle.std.proofs.lemmas.List.{get_or-map, length-map, map-append}
 use Rattle.std.proofs.lemmas.List.Elements.{All-append, All-contains_itself, All-cons, All-head, All-map, All-nil, All-tail, All-weaker}
 use Rattle.std.proofs.lemmas.Option.{get_or_from_slice_get, slice_get_within}
-use Rattle.axi_history.specs.Delivered.{Delivered, IsAnswered, IsBeginningOf, IsOf, held_after, shown, wanted}
+use Rattle.axi_history.specs.Delivered.{Delivered, IsAnswered, IsBeginningOf, IsOf, value_after, shown, wanted}
 use Rattle.axi_history.specs.Records.{Answer, Event, Transaction, due, events_of}
 use Rattle.manager_end.specs.Script.{ScriptItem}
 use Rattle.memory_end.specs.Accesses.{left_at}
@@ -60,7 +60,7 @@ module _ (script : List ScriptItem) (facts : RunFacts script) where
       (All-weaker (IsAskedFor script n) (λ (a : Access). IsOf (transactions_of script) (event_of (suc n) 1 a)) (asked-of n) (round_accesses script n) (facts.asked n)))
 
   -- a read sees the latest write
-  run-latest : (n : ℕ) (earlier later : List Event) (e : Event) → run_events script n ≡ earlier ++ e ∷ later → e.write ≡ false → e.value ≡ held_after e.node e.address ram.fill earlier
+  run-latest : (n : ℕ) (earlier later : List Event) (e : Event) → run_events script n ≡ earlier ++ e ∷ later → e.write ≡ false → e.value ≡ value_after e.node e.address ram.fill earlier
   run-latest n earlier later e split reads =
       let nodes : All (λ (x : Event). x.node ≡ 1) (earlier ++ e ∷ later) = subst (All (λ (x : Event). x.node ≡ 1)) split (at-memory n) in
       let here : e.node ≡ 1 = all-between (λ (x : Event). x.node ≡ 1) earlier e later nodes in
@@ -68,7 +68,7 @@ module _ (script : List ScriptItem) (facts : RunFacts script) where
       ap (map access_of_event) split ∙ map-append access_of_event earlier (e ∷ later) in
       (accessed script facts n).latest (map access_of_event earlier) (map access_of_event later) (access_of_event e) accesses reads
       ∙ ap (λ (config : MemoryConfig). left_at e.address config.fill (map access_of_event earlier)) (facts.config n)
-      ∙ sym (ap (λ node. held_after node e.address ram.fill earlier) here
+      ∙ sym (ap (λ node. value_after node e.address ram.fill earlier) here
       ∙ held-left 1 e.address ram.fill earlier (all-before (λ (x : Event). x.node ≡ 1) earlier (e ∷ later) nodes))
 
   run-delivered : (n : ℕ) → Delivered (transactions_of script) (run_events script n) (run_answers script n)
@@ -79,7 +79,7 @@ module _ (script : List ScriptItem) (facts : RunFacts script) where
     whole = All-map (λ (t : Transaction). IsAnswered t (run_answers script n) → map shown (events_of t.number (run_events script n)) ≡ map wanted (due t)) transaction script
         (λ k d lt. item-answered script facts n (get_or script k d) (All-contains_itself script k d lt));
     reads_latest =
-        All-map (λ (t : Transaction). (earlier later : List Event) (e : Event) → run_events script n ≡ earlier ++ e ∷ later → e.number ≡ t.number → e.write ≡ false → e.value ≡ held_after e.node e.address t.fill earlier)
+        All-map (λ (t : Transaction). (earlier later : List Event) (e : Event) → run_events script n ≡ earlier ++ e ∷ later → e.number ≡ t.number → e.write ≡ false → e.value ≡ value_after e.node e.address t.fill earlier)
         transaction script (λ k d lt earlier later e split same reads. run-latest n earlier later e split reads);
   }
 

@@ -6,6 +6,7 @@ use Rattle.std.proofs.lemmas.Bool.{cases_Bool}
 use Rattle.std.proofs.lemmas.List.{append-nil, length-map, map-append, take-append-drop, take_all}
 use Rattle.std.proofs.lemmas.List.Concat.{flat_map-append}
 use Rattle.std.proofs.lemmas.Slice.Zip.{length-zip}
+use Rattle.std.proofs.lemmas.Simd.{map-map}
 use Rattle.axi_beats.specs.declared.beat.WBeat.{WBeat}
 use Rattle.axi_beats.specs.declared.response.Resp.{Resp}
 use Rattle.axi_beats.specs.declared.response.Resp.TheVariants.{DecErr, Okay}
@@ -36,10 +37,6 @@ use Rattle.net_rounds.specs.BuiltIn.{ram}
 use Rattle.net_rounds.specs.Due.{IsNumberedTraffic, bytes_of, response_of, strobed_bytes, transaction_of}
 
 module _ {X Y Z : Type 0} where
-  pub map-map : (g : Y → Z) (f : X → Y) (xs : List X) → map g (map f xs) ≡ map (λ x. g (f x)) xs
-  map-map g f [] = refl
-  map-map g f (x ∷ xs) = ap (λ rest. g (f x) ∷ rest) (map-map g f xs)
-
   -- what the first elements give is the beginning of what all give
   pub flat-begins : (g : Y → Z) (f : X → List Y) (count : ℕ) (xs : List X) → IsBeginningOf (map g (flat_map f (take count xs))) (map g (flat_map f xs))
   flat-begins g f count xs = (

@@ -4,13 +4,14 @@ use Rattle.std.specs.Prelude.{All, filter, map, not}
 use Rattle.std.specs.Bool.{beq}
 use Rattle.std.proofs.lemmas.Bool.{and_parts}
 use Rattle.std.proofs.lemmas.List.Elements.{All-head, All-tail, All-weaker, filter_passes}
+use Rattle.std.proofs.lemmas.Simd.{map-map}
 use Rattle.axi_history.specs.Answered.{values_of}
-use Rattle.axi_history.specs.Delivered.{held_after, is_write_at, shown}
+use Rattle.axi_history.specs.Delivered.{value_after, is_write_at, shown}
 use Rattle.axi_history.specs.Records.{Event, events_of}
 use Rattle.axi_trail.proofs.FilterFacts.{filter_map}
 use Rattle.memory_end.specs.Accesses.{accesses_of, left_at}
 use Rattle.memory_end.specs.Events.{Access}
-use Rattle.net_rounds.proofs.DueLemmas.{map-map, shown_read, shown_write}
+use Rattle.net_rounds.proofs.DueLemmas.{shown_read, shown_write}
 use Rattle.net_rounds.proofs.PlanFacts.{beq-true}
 use Rattle.net_rounds.proofs.RunHistory.{access_of_event}
 
@@ -94,11 +95,11 @@ here-or-not : (writes there : Bool) → (writes && true && there) ≡ (writes &&
 here-or-not true there = refl
 here-or-not false there = refl
 
-pub held-left : (node address before : ℕ) (events : List Event) → All (λ (e : Event). e.node ≡ node) events → held_after node address before events ≡ left_at address before (map access_of_event events)
+pub held-left : (node address before : ℕ) (events : List Event) → All (λ (e : Event). e.node ≡ node) events → value_after node address before events ≡ left_at address before (map access_of_event events)
 held-left node address before [] each = refl
 held-left node address before (e ∷ events) each =
     let here : e.node ≡ node = All-head (λ (e : Event). e.node ≡ node) e events each in
     let test : is_write_at node address e ≡ (e.write && e.address == address) =
     ap (λ b. e.write && b && (e.address == address)) (eq-eqb e.node node here) ∙ here-or-not e.write (e.address == address) in
-    ap (λ b. held_after node address (cond b e.value before) events) test
+    ap (λ b. value_after node address (cond b e.value before) events) test
     ∙ held-left node address (cond (e.write && e.address == address) e.value before) events (All-tail (λ (e : Event). e.node ≡ node) e events each)

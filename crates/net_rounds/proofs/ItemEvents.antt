@@ -1,5 +1,5 @@
 -- The events of one transaction of the script: the first of those that are due of it, and all where it is answered.
-use Rattle.std.proofs.Common.{◌≡◌, ◌<◌, ◌≤◌, ◌+◌, ◌∷◌, [], ℕ, zero, suc, List, Option, Some, true, false, length, refl, sym, ap, ◌∙◌, subst, inl, inr, arith, length-append}
+use Rattle.std.proofs.Common.{◌≡◌, ◌<◌, ◌≤◌, ◌+◌, [], ℕ, zero, suc, List, Option, Some, true, false, length, refl, sym, ap, ◌∙◌, subst, inl, inr, arith, length-append}
 use Rattle.std.specs.Prelude.{All, Contains, IsTrue, map, slice_get}
 use Rattle.std.proofs.lemmas.Bool.{cases_Bool, eqb-true}
 use Rattle.std.proofs.lemmas.List.{length-map}
@@ -14,10 +14,12 @@ use Rattle.axi_trail.specs.Words.{number_of_data, number_of_read_data, number_of
 use Rattle.flight.specs.Entries.{of_key}
 use Rattle.manager_end.specs.ManagerOrder.{IsAt}
 use Rattle.manager_end.specs.Script.{ScriptItem}
+use Rattle.manager_end.proofs.NumberLemmas.{contains-at}
 use Rattle.memory_end.specs.Accesses.{accesses_of, allowed_before, beats_of_parts, due_reads, due_writes, filled_bytes}
 use Rattle.memory_end.specs.Events.{Access}
 use Rattle.memory_end.specs.MemoryTrail.{HasAccessed}
 use Rattle.memory_end.specs.declared.config.MemoryConfig.{MemoryConfig}
+use Rattle.memory_end.proofs.Accessed.{nil-of_map}
 use Rattle.net_rounds.proofs.BuiltInPlan.{lower_trail, no_share, pair_at, plan_of, progress_at, read_share, upper_trail, write_share}
 use Rattle.net_rounds.proofs.DueLemmas.{beats-asked, due-bytes-read, reads-begin, reads-whole, shown_read, shown_write, writes-begin, writes-whole}
 use Rattle.net_rounds.proofs.EventLemmas.{events-read, events-values, events-written}
@@ -25,7 +27,6 @@ use Rattle.net_rounds.proofs.NotedLists.{all-answers}
 use Rattle.net_rounds.proofs.PlanFacts.{IsTrafficItem, one-number, share-other, share-own, traffic-item}
 use Rattle.net_rounds.proofs.RunFacts.{RunFacts, note}
 use Rattle.net_rounds.proofs.RunHistory.{access_of_event, accesses-are, run_answers, run_events}
-use Rattle.net_rounds.proofs.ScriptPlaces.{contains-at}
 use Rattle.net_rounds.specs.BuiltIn.{ram}
 use Rattle.net_rounds.specs.Due.{bytes_of, transaction_of}
 
@@ -37,10 +38,6 @@ nothing-written (suc count) = refl
 nothing-read : (count : ℕ) → due_reads ram no_share count ≡ []
 nothing-read zero = refl
 nothing-read (suc count) = refl
-
-no-images : {X Y : Type 0} (f : X → Y) (xs : List X) → map f xs ≡ [] → xs ≡ []
-no-images f [] none = refl
-no-images f (x ∷ xs) none = absurd (cc)
 
 -- the accesses of the first rounds
 module _ (script : List ScriptItem) (facts : RunFacts script) (n : ℕ) where
@@ -66,12 +63,12 @@ module _ (script : List ScriptItem) (facts : RunFacts script) (n : ℕ) where
   -- where a number has no share in a direction, there is no access of it
   none-written : (number : ℕ) → (plan_of script).writes number ≡ no_share → accesses_of true number run_accesses ≡ []
   none-written number none =
-      no-images (λ (a : Access). a.byte) (accesses_of true number run_accesses)
+      nil-of_map (λ (a : Access). a.byte) (accesses_of true number run_accesses)
       (written number ∙ ap (λ (share : Share). due_writes ram share (written_beats number)) none ∙ nothing-written (written_beats number))
 
   none-read : (number : ℕ) → (plan_of script).reads number ≡ no_share → accesses_of false number run_accesses ≡ []
   none-read number none =
-      no-images (λ (a : Access). a.byte.address) (accesses_of false number run_accesses)
+      nil-of_map (λ (a : Access). a.byte.address) (accesses_of false number run_accesses)
       (read number ∙ ap (λ (share : Share). due_reads ram share (read_beats number)) none ∙ nothing-read (read_beats number))
 
   module _ (item : ScriptItem) (among : Contains script item) where

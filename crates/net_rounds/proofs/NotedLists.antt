@@ -9,7 +9,8 @@ use Rattle.axi_history.specs.Records.{Answer, Issue}
 use Rattle.manager_end.specs.Answer.{AnswerView, unanswered}
 use Rattle.manager_end.specs.ManagerState.{is_answered}
 use Rattle.manager_end.specs.Script.{ScriptItem}
-use Rattle.net_rounds.proofs.ScriptPlaces.{Any-first, Any-later, at-place}
+use Rattle.manager_end.proofs.NumberLemmas.{at-all}
+use Rattle.net_rounds.proofs.ScriptPlaces.{Any-first, Any-later}
 use Rattle.net_rounds.specs.History.{answer_noted, issue_noted}
 
 -- what is made of each transaction and its note, where something is
@@ -69,7 +70,7 @@ module _ {Y : Type 0} (made : ScriptItem × AnswerView → Option Y) where
         let later : All (λ (other : ScriptItem). item.txn.number < other.txn.number) script = λ k d lt. numbered 0 (suc k) d (omega arith) (omega arith) in
         let rest = filter_map made (zip script answers) in
         let all : All (λ z. item.txn.number < number_of z) rest =
-        all-made (λ z. item.txn.number < number_of z) script answers (λ place other at. numbered-above item.txn.number (other, slice_index_or answers place (unanswered 0)) (at-place (λ (other : ScriptItem). item.txn.number < other.txn.number) script place other later at)) in
+        all-made (λ z. item.txn.number < number_of z) script answers (λ place other at. numbered-above item.txn.number (other, slice_index_or answers place (unanswered 0)) (at-all (λ (other : ScriptItem). item.txn.number < other.txn.number) script place other later at)) in
         pairs-kept (made (item, answer)) rest (above-all item.txn.number (made (item, answer)) rest (own (item, answer)) all)
         (made-rise script answers (λ i j d less within. numbered (suc i) (suc j) d (omega arith) (omega arith)))
 

@@ -20,7 +20,7 @@ use Rattle.burst_address.specs.Bytes.{beat_bytes, burst_bytes, bytes_before}
 use Rattle.burst_address.specs.Formulas.{aligned, beats_of, size_of}
 use Rattle.burst_address.specs.Legal.{IsLegal, is_in_page, is_length_of}
 use Rattle.manager_end.specs.Answer.{AnswerView, answered_in, awaited_of, unanswered}
-use Rattle.manager_end.specs.Beats.{high_lane, low_lane, valid_lanes}
+use Rattle.manager_end.specs.Beats.{high_lane, low_lane, bytes_on_valid_lanes}
 use Rattle.manager_end.specs.ManagerOrder.{note_at}
 use Rattle.manager_end.specs.ManagerState.{IsDue, IsManager, ManagerState, due_bytes, due_resps, is_answered, is_done, new_manager}
 use Rattle.manager_end.specs.ManagerTable.{manager_next}
@@ -90,7 +90,7 @@ write-few script round place resp item a at due few =
     more-few round resp [] item a (omega (arith, resps, due.more)) (omega (arith, few.bytes))
 
 -- the bytes of the valid lanes are those of the beat, at most
-lanes-most : (bus n : ℕ) (request : Addr) (lanes : List ℕ) → IsBusWidth bus → IsLegal request bus → length (valid_lanes bus request n lanes) ≤ length (beat_bytes request n)
+lanes-most : (bus n : ℕ) (request : Addr) (lanes : List ℕ) → IsBusWidth bus → IsLegal request bus → length (bytes_on_valid_lanes bus request n lanes) ≤ length (beat_bytes request n)
 lanes-most bus n request lanes wide legal =
     let count = lane-count request bus n wide legal in
     let order = lane-order request bus n wide legal in
@@ -100,7 +100,7 @@ lanes-most bus n request lanes wide legal =
 -- a beat of a read
 read-few :
     (script : List ScriptItem) (round place bus : ℕ) (resp : Resp) (lanes : List ℕ) (item : ScriptItem) (a : AnswerView) → IsBusWidth bus → IsLegal item.txn.request bus → slice_get script place ≡ Some item →
-    IsDue script false place a → AreFew item (answered_in round resp (valid_lanes bus item.txn.request (length a.resps) lanes) a)
+    IsDue script false place a → AreFew item (answered_in round resp (bytes_on_valid_lanes bus item.txn.request (length a.resps) lanes) a)
 read-few script round place bus resp lanes item a wide legal at due =
     let request = item.txn.request in
     let n = length a.resps in
@@ -112,10 +112,10 @@ read-few script round place bus resp lanes item a wide legal at due =
     (subst (λ (i : ScriptItem). length a.bytes ≤ cond i.txn.write 0 (length (bytes_before i.txn.request n))) same due.bytes) in
     let within = beat-within request n (omega (arith, resps, due.more)) in
     let most = lanes-most bus n request lanes wide legal in
-    let room : length a.bytes + length (valid_lanes bus request n lanes) ≤ length (burst_bytes request) = omega (arith, came, within, most) in
-    more-few round resp (valid_lanes bus request n lanes) item a
+    let room : length a.bytes + length (bytes_on_valid_lanes bus request n lanes) ≤ length (burst_bytes request) = omega (arith, came, within, most) in
+    more-few round resp (bytes_on_valid_lanes bus request n lanes) item a
     (subst (λ (w : Bool). n < cond w 1 (request.len + 1)) (sym reads) (omega (arith, resps, due.more)))
-    (subst (λ (w : Bool). length a.bytes + length (valid_lanes bus request n lanes) ≤ cond w 0 (length (burst_bytes request))) (sym reads) room)
+    (subst (λ (w : Bool). length a.bytes + length (bytes_on_valid_lanes bus request n lanes) ≤ cond w 0 (length (burst_bytes request))) (sym reads) room)
 
 -- a round keeps it
 pub few-keeps : (round : ℕ) (links : List LinkView) (s : ManagerState) → IsManager s → FewNotes s → FewNotes (manager_next round links s)
@@ -130,7 +130,7 @@ few-keeps round links s m few place item at =
           let due : IsDue s.script false place (note_at s place) = subst (λ (q : ℕ). IsDue s.script false q (note_at s q)) (sym here) (taken-waits links s m false x.0 (r-taken links s m x is)) in
           let legal = at-all (λ (i : ScriptItem). IsLegal i.txn.request s.bus) s.script place other m.legal there in
           let equal : other ≡ item = same_Some other item (sym there ∙ at) in
-          subst (AreFew item) (sym same) (subst (λ (i : ScriptItem). AreFew i (answered_in round x.1.resp (valid_lanes s.bus other.txn.request (length (note_at s place).resps) x.1.lanes) (note_at s place))) equal
+          subst (AreFew item) (sym same) (subst (λ (i : ScriptItem). AreFew i (answered_in round x.1.resp (bytes_on_valid_lanes s.bus other.txn.request (length (note_at s place).resps) x.1.lanes) (note_at s place))) equal
           (read-few s.script round place s.bus x.1.resp x.1.lanes other (note_at s place) m.bus_width legal there due))
       | Issued write p is here same ↦ subst (AreFew item) (sym same) (record { responses = was.responses; bytes = was.bytes })
     ]

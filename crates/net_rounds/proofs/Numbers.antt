@@ -3,10 +3,6 @@ use Rattle.std.proofs.Common.{◌≡◌, ◌<◌, ◌+◌, ℕ, zero, suc, List,
 use Rattle.net_rounds.specs.Numbered.{numbered, AllNumbered}
 
 module _ {X : Type 0} where
-  pub length-numbered : (f : ℕ → X → X) (first : ℕ) (xs : List X) → length (numbered f first xs) ≡ length xs
-  length-numbered f first [] = refl
-  length-numbered f first (x ∷ xs) = ap suc (length-numbered f (first + 1) xs)
-
   -- one more element of a list that is changed from the front
   pub numbered-more :
       (f : ℕ → X → X) (first : ℕ) (xs : List X) (i : ℕ) (x : X) → i < length xs →

@@ -11,13 +11,14 @@ use Rattle.axi_beats.specs.declared.beat.Addr.{Addr}
 use Rattle.axi_beats.specs.declared.beat.WBeat.{WBeat}
 use Rattle.axi_trail.specs.LinkContracts.{without_id}
 use Rattle.axi_trail.specs.Schedule.{SameChain, Share, Span}
+use Rattle.burst_address.specs.Formulas.{beats_of}
 use Rattle.burst_address.specs.Legal.{IsLegal}
 use Rattle.manager_end.specs.Beats.{data_beat, data_beats, high_lane, low_lane, request_of}
 use Rattle.manager_end.specs.ManagerTrail.{HasItem, IsItsOwn, IsPlanOf, shares_of}
 use Rattle.manager_end.specs.Script.{ScriptItem, sent_bytes}
 use Rattle.memory_end.proofs.BeatLemmas.{lanes-ordered}
 use Rattle.memory_end.specs.Accesses.{BeatOf, beats_of_parts, burst_status, span_of}
-use Rattle.memory_end.specs.Beats.{beats_of, valid_status}
+use Rattle.memory_end.specs.Beats.{valid_status}
 use Rattle.memory_end.specs.MemoryTrail.{Suits}
 use Rattle.net_rounds.proofs.BuiltInPlan.{no_share, plan_of, read_share, share_at, share_of, write_share}
 use Rattle.net_rounds.proofs.PushedItems.{script-sent, script-starts}

@@ -1,25 +1,15 @@
--- Transactions by their places in a script: each number stands at one place, and the numbers rise with the places.
-use Rattle.std.proofs.Common.{◌≡◌, ◌<◌, ◌+◌, ◌∷◌, [], ℕ, suc, List, Option, Some, None, Bool, true, false, refl, sym, ap, ◌∙◌, subst, arith}
-use Rattle.std.specs.Prelude.{All, AllPairs, Any, Contains, get_or, slice_get}
+-- Transactions by their places in a script: those of a direction stand where they say, and a number is of one of them.
+use Rattle.std.proofs.Common.{◌≡◌, ◌<◌, ◌+◌, ◌∷◌, [], ℕ, suc, List, Some, Bool, true, false, refl, sym, ap, ◌∙◌, arith}
+use Rattle.std.specs.Prelude.{All, AllPairs, Any, get_or, slice_get}
 use Rattle.std.specs.List.{enumerate_from}
-use Rattle.std.proofs.Common.{inl, inr}
-use Rattle.std.proofs.lemmas.Bool.{cases_order, not-true}
+use Rattle.std.proofs.lemmas.Bool.{not-true}
 use Rattle.std.proofs.lemmas.List.Elements.{All-filter, All-nil, All-cons, filter_passes}
-use Rattle.std.proofs.lemmas.Option.{get_or_from_slice_get, slice_get-get_or, slice_get_within}
+use Rattle.flight.proofs.EntryFacts.{some-inner}
 use Rattle.manager_end.specs.ManagerState.{is_directed, of_direction}
 use Rattle.manager_end.specs.Script.{ScriptItem}
+use Rattle.manager_end.proofs.NumberLemmas.{number-once}
 
 module _ {X : Type 0} where
-  -- what holds at every place holds of all
-  pub All-places : (P : X → Type 0) (xs : List X) → ((place : ℕ) (x : X) → slice_get xs place ≡ Some x → P x) → All P xs
-  All-places P xs each k d lt = each k _ (slice_get-get_or xs k d lt)
-
-  pub at-place : (P : X → Type 0) (xs : List X) (place : ℕ) (x : X) → All P xs → slice_get xs place ≡ Some x → P x
-  at-place P xs place x all at = subst P (get_or_from_slice_get xs place x x at) (all place x (slice_get_within xs place x at))
-
-  pub contains-at : (xs : List X) (place : ℕ) (x : X) → slice_get xs place ≡ Some x → Contains xs x
-  contains-at xs place x at = (place, slice_get_within xs place x at, get_or_from_slice_get xs place x x at)
-
   -- one of more
   pub Any-later : (P : X → Type 0) (y : X) (xs : List X) → Any P xs → Any P (y ∷ xs)
   Any-later P y xs a = (suc a.0, a.1, omega (arith, a.2), a.3, a.4)
@@ -56,41 +46,9 @@ placed-of script write k d lt =
     let passes : is_directed write (get_or (of_direction write script) k d).1.txn ≡ true = filter_passes test (enumerate_from 0 script) k d lt in
     record { at = there; direction = directed write (get_or (of_direction write script) k d).1 passes }
 
-item-of : ScriptItem → Option ScriptItem → ScriptItem
-item-of other None = other
-item-of other (Some item) = item
-
-module _ (script : List ScriptItem) (numbered : AllPairs (λ (a b : ScriptItem). a.txn.number < b.txn.number) script) where
-  item-at : (p q : ℕ) (a b : ScriptItem) → slice_get script p ≡ Some a → slice_get script q ≡ Some b → p ≡ q → a ≡ b
-  unfolding item-of
-  item-at p q a b at_p at_q same = ap (item-of a) (sym at_p ∙ ap (slice_get script) same ∙ at_q)
-
-  pub numbers-rise : (p q : ℕ) (a b : ScriptItem) → slice_get script p ≡ Some a → slice_get script q ≡ Some b → p < q → a.txn.number < b.txn.number
-  numbers-rise p q a b at_p at_q below =
-      let rising = numbered p q a below (slice_get_within script q b at_q) in
-      subst (λ (item : ScriptItem). a.txn.number < item.txn.number) (get_or_from_slice_get script q b a at_q)
-      (subst (λ (item : ScriptItem). item.txn.number < (get_or script q a).txn.number) (get_or_from_slice_get script p a a at_p) rising)
-
-  pub places-rise : (p q : ℕ) (a b : ScriptItem) → slice_get script p ≡ Some a → slice_get script q ≡ Some b → a.txn.number < b.txn.number → p < q
-  places-rise p q a b at_p at_q below =
-      elim (cases_order p q) [
-        | inl same ↦ absurd (let twice : a ≡ b = item-at p q a b at_p at_q same in let equal : a.txn.number ≡ b.txn.number = ap (λ (item : ScriptItem). item.txn.number) twice in omega arith)
-        | inr rest ↦ elim rest [
-          | inl before ↦ before
-          | inr after ↦ absurd (let less = numbers-rise q p b a at_q at_p after in omega arith)
-        ]
-      ]
-
-  -- a number stands at one place
-  pub one-place : (p q : ℕ) (a b : ScriptItem) → slice_get script p ≡ Some a → slice_get script q ≡ Some b → a.txn.number ≡ b.txn.number → p ≡ q
-  one-place p q a b at_p at_q same =
-      elim (cases_order p q) [
-        | inl equal ↦ equal
-        | inr rest ↦ elim rest [
-          | inl before ↦ absurd (let less = numbers-rise p q a b at_p at_q before in omega arith)
-          | inr after ↦ absurd (let less = numbers-rise q p b a at_q at_p after in omega arith)
-        ]
-      ]
-
-  pub one-item : (p q : ℕ) (a b : ScriptItem) → slice_get script p ≡ Some a → slice_get script q ≡ Some b → a.txn.number ≡ b.txn.number → a ≡ b
-  one-item p q a b at_p at_q same = item-at p q a b at_p at_q (one-place p q a b at_p at_q same)
+-- a number is of one transaction
+pub one-item :
+    (script : List ScriptItem) → AllPairs (λ (a b : ScriptItem). a.txn.number < b.txn.number) script →
+    (p q : ℕ) (a b : ScriptItem) → slice_get script p ≡ Some a → slice_get script q ≡ Some b → a.txn.number ≡ b.txn.number → a ≡ b
+one-item script numbered p q a b at_p at_q same =
+    some-inner a b (sym at_p ∙ ap (slice_get script) (number-once script numbered p q a b at_p at_q same) ∙ at_q)

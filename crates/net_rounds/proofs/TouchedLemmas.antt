@@ -13,7 +13,8 @@ use Rattle.manager_end.specs.ManagerState.{ManagerState, IsManager, writes_of}
 use Rattle.manager_end.specs.Script.{ScriptItem}
 use Rattle.memory_end.specs.MemoryState.{AreLinesAmong}
 use Rattle.memory_end.specs.Store.{line_of}
-use Rattle.net_rounds.proofs.Choosing.{Contains-filter, Contains-range}
+use Rattle.memory_end.proofs.ListLemmas.{range-ascends, range-contains}
+use Rattle.net_rounds.proofs.Choosing.{Contains-filter}
 use Rattle.net_rounds.proofs.PairLemmas.{KeepsLines, chosen-of}
 use Rattle.net_rounds.specs.BuiltIn.{is_touched_by, lines_below, ram, reaches_line, touched_lines}
 
@@ -42,7 +43,7 @@ lines-own :
     line_of (beat_at item.txn.request beat) < count → Contains (lines_below count script) (line_of (beat_at item.txn.request beat))
 lines-own count script item beat among writes some low =
     let line = line_of (beat_at item.txn.request beat) in
-    let there : Contains (range_with_len 0 count) line = subst (λ (l : ℕ). Contains (range_with_len 0 count) l) (zero-add line) (Contains-range 0 count line low) in
+    let there : Contains (range_with_len 0 count) line = subst (λ (l : ℕ). Contains (range_with_len 0 count) l) (zero-add line) (range-contains 0 count line low) in
     Contains-filter (λ l. list_any (is_touched_by l) script) (range_with_len 0 count) line there (touched-own script item beat among writes some)
 
 -- the word of an address lies on its line
@@ -70,13 +71,6 @@ touched-kept s m = record {
       touched-item s.script (get_or (writes_of s.script) k d).1 chosen.among chosen.direction;
 }
 
-ascending-range : (a n : ℕ) → AllPairs (λ i j. i < j) (range_with_len a n)
-ascending-range a n i j d before within =
-    let long = length-range_with_len a n in
-    let low = get_or-range_with_len a n i d (omega arith) in
-    let high = get_or-range_with_len a n j d (omega arith) in
-    omega arith
-
 pub touched-ascending : (script : List ScriptItem) → AllPairs (λ i j. i < j) (touched_lines script)
 unfolding touched_lines
-touched-ascending script = AllPairs-filter (λ i j. i < j) (λ line. list_any (is_touched_by line) script) (range_with_len 0 64) (ascending-range 0 64)
+touched-ascending script = AllPairs-filter (λ i j. i < j) (λ line. list_any (is_touched_by line) script) (range_with_len 0 64) (range-ascends 0 64)

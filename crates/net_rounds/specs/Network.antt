@@ -4,10 +4,10 @@ use Rattle.std.specs.Prelude.{◌<◌, ℕ, zero, suc, Bool, List, map, length, 
 use Rattle.std.specs.List.{list_all}
 use Rattle.std.specs.Option.{option_map_or}
 use Rattle.axi_link.specs.Acted.{no_moves}
-use Rattle.axi_link.specs.LinkView.{LinkView, empty_link}
+use Rattle.axi_link.specs.LinkView.{LinkView}
 use Rattle.axi_link.specs.Moves.{CanMove, link_after}
 use Rattle.axi_link.specs.declared.out.Out.{Out}
-use Rattle.net_nodes.specs.NodeTable.{node_done, node_opened, node_out, node_table}
+use Rattle.net_nodes.specs.NodeTable.{node_done, node_out, node_table}
 use Rattle.net_nodes.specs.declared.node.Node.{Node}
 use Rattle.net_rounds.specs.Numbered.{numbered}
 use Rattle.net_rounds.specs.declared.ends.Ends.{Ends}
@@ -57,14 +57,6 @@ after_commit net = record {
 abbrev pub after_rounds : ℕ → Network → Network
 after_rounds zero net = net
 after_rounds (suc n) net = after_commit (after_decide (suc n) (after_rounds n net))
-
--- the state in which a network begins: nodes that nothing reached yet, and empty links
-unfoldable pub opening : Network → Network
-opening net = record {
-  nodes = map node_opened net.nodes;
-  links = map (λ (l : LinkView). empty_link l.depth) net.links;
-  ends = net.ends;
-}
 
 -- every transaction of every manager is answered
 abbrev pub is_finished : Network → Bool

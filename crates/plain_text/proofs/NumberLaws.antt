@@ -23,12 +23,6 @@ pub number_in_from_zero : (digits : List ℕ) (base limit : ℕ) → 0 < length 
 unfolding number_in
 number_in_from_zero digits base limit h = rw (lt-ltb 0 (length digits) h)
 
--- a byte that is no digit
-pub number_after_other : (value base limit digit : ℕ) (rest : List ℕ) → (digit_value digit < base → ⊥) → number_after value base limit (digit ∷ rest) ≡ None
-number_after_other value base limit digit rest h =
-    let over : base ≤ digit_value digit = omega arith in
-    rw (le-ltb (digit_value digit) base over)
-
 -- a digit
 pub number_after_digit : (value base limit digit : ℕ) (rest : List ℕ) → digit_value digit < base → number_after value base limit (digit ∷ rest) ≡ number_after (value * base + digit_value digit) base limit rest
 number_after_digit value base limit digit rest h = rw (lt-ltb (digit_value digit) base h)
@@ -46,10 +40,6 @@ pub number_after_over : (value base limit : ℕ) (digits : List ℕ) → 1 ≤ b
 number_after_over value base limit digits h over =
     let reached : limit ≤ digits_value_after base value digits = omega (arith, digits_value_after-le base value digits h) in
     rw (and_right (list_all (λ digit. is_digit digit base) digits) (nat_lt (digits_value_after base value digits) limit) (le-ltb (digits_value_after base value digits) limit reached))
-
--- no further digit
-pub number_after_end : (value base limit : ℕ) → value < limit → number_after value base limit [] ≡ Some value
-number_after_end value base limit h = rw (lt-ltb value limit h)
 
 -- a digit that takes the number to the limit
 pub number_after_exceeds : (digits : List ℕ) (i value base limit digit : ℕ) → i < length digits → digit_value (get_or digits i 0) < base → digit ≡ digit_value (get_or digits i 0) → limit ≤ value * base + digit → number_after value base limit (drop i digits) ≡ None

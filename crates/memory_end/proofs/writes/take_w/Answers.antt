@@ -5,8 +5,8 @@ use Rattle.std.proofs.lemmas.Option.{slice_get-map, slice_get_within}
 use Rattle.std.proofs.lemmas.Bool.{ltb-true}
 use Rattle.axi_beats.specs.declared.beat.WBeat.{WBeat}
 use Rattle.axi_link.specs.Table.{head_of, take_of}
+use Rattle.burst_address.specs.Formulas.{beats_of}
 use Rattle.memory_end.specs.declared.entry.WriteEntry.{WriteEntry}
-use Rattle.memory_end.specs.Beats.{beats_of}
 use Rattle.memory_end.specs.MemoryState.{IsWriteEntry}
 use Rattle.memory_end.specs.MemoryTable.{after_w, store_after, store_with}
 use Rattle.memory_end.proofs.EntryLemmas.{IsOldestLacking, oldest_lacking-at, taken_data-none, taken_data-some}

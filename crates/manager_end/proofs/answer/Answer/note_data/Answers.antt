@@ -2,7 +2,7 @@ use Rattle.std.proofs.Common.{◌≡◌, ◌≤◌, ◌+◌, ◌-◌, ◌++◌, 
 use Rattle.std.specs.Prelude.{drop}
 use Rattle.std.proofs.lemmas.List.{take_at}
 use Rattle.manager_end.specs.Answer.{answered_in}
-use Rattle.manager_end.specs.Beats.{high_lane, low_lane, valid_lanes}
+use Rattle.manager_end.specs.Beats.{high_lane, low_lane, bytes_on_valid_lanes}
 use Rattle.manager_end.proofs.AnswerLemmas.{beat-fits, came-is, noted-after}
 use Rattle.manager_end.proofs.BurstLemmas.{lane-order}
 use Rattle.manager_end.proofs.answer.Answer.note_data.Goals as goal
@@ -36,4 +36,4 @@ returns-clause-note c =
     c.lanes-low.ensures.lower refl
     (c.put_lanes.ensures.put ∙ ap (λ (bytes : List ℕ). take c.self.inside.read bytes ++ take (c.self.inside.read + c.from.result + 1 - c.self.inside.read) (drop c.lanes-low.result.0 c.args.beat.now.lanes)) c.deref_mut.ensures.value)
     (c.put_lanes.ensures.length ∙ ap length c.deref_mut.ensures.value)
-    ∙ ap (λ (k : ℕ). answered_in c.args.round c.args.beat.now.resp (valid_lanes c.args.bus c.args.request.now k c.args.beat.now.lanes) c.args.self.now) (sym came)
+    ∙ ap (λ (k : ℕ). answered_in c.args.round c.args.beat.now.resp (bytes_on_valid_lanes c.args.bus c.args.request.now k c.args.beat.now.lanes) c.args.self.now) (sym came)
