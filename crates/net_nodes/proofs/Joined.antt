@@ -2,7 +2,9 @@
 -- made.
 use Rattle.std.proofs.Common.{◌≡◌, ◌∙◌, ◌+◌, ◌/◌, ◌^◌, ◌<◌, ◌≤◌, ◌&&◌, ℕ, Bool, true, false, List, Option, Some, None, length, sym, ap, subst, arith, refl, IsTrue, leb, ltb}
 use Rattle.std.specs.Prelude.{Contains, IfSome}
+use Rattle.std.specs.List.{range_with_len}
 use Rattle.std.proofs.lemmas.Bool.{leb-true, ltb-true}
+use Rattle.std.proofs.lemmas.List.FromFn.{get_or-range_with_len, length-range_with_len}
 use Rattle.axi_beats.specs.declared.beat.Addr.{Addr}
 use Rattle.axi_link.proofs.MovesLemmas.{fitting_moves}
 use Rattle.axi_link.specs.Acted.{Acted}
@@ -29,8 +31,8 @@ abbrev pub page : ℕ → MemoryConfig
 page bus = record { base = 4096; size = 4096; bus = bus; fill = 165 }
 
 -- the numbers of its lines
-abbrev pub HasLines : List ℕ → Type 0
-HasLines lines = (line : ℕ) → 32 ≤ line → line < 64 → Contains lines line
+abbrev pub page_lines : List ℕ
+page_lines = range_with_len 32 32
 
 -- a manager above link 0
 pub record IsAbove (node : Node) : Type 0 where
@@ -38,13 +40,11 @@ pub record IsAbove (node : Node) : Type 0 where
   pub is : node ≡ Manager manager
   pub lower : manager.state.lower ≡ 0
 
--- the page below link 0, with all its lines
+-- the page below link 0
 pub record IsBelow (bus : ℕ) (node : Node) : Type 0 where
   pub memory : Acted MemoryState
-  pub lines : List ℕ
-  pub has_lines : HasLines lines
   pub is : node ≡ Memory memory
-  pub same : HasSameArguments (new_memory (page bus) 0 lines) memory.state
+  pub same : HasSameArguments (new_memory (page bus) 0 page_lines) memory.state
 
 -- what a link offers may come to a memory
 pub record MayCome (bus : ℕ) (link : LinkView) : Type 0 where
@@ -57,19 +57,24 @@ and-both true b e = (refl, e)
 and-both false b e = absurd (cc)
 
 -- the lines of the page are all kept
-page-lines : (bus : ℕ) (lines : List ℕ) → HasLines lines → (o : Option Addr) → IfSome o (AreLinesAmong (page bus) lines)
-page-lines bus lines has None = tt
-page-lines bus lines has (Some a) = λ beat le inside.
+among : (a n x : ℕ) → x < n → Contains (range_with_len a n) (a + x)
+among a n x within = (x, subst (λ (m : ℕ). x < m) (sym (length-range_with_len a n)) within, get_or-range_with_len a n x (a + x) within)
+
+page-lines : (bus : ℕ) (o : Option Addr) → IfSome o (AreLinesAmong (page bus) page_lines)
+page-lines bus None = tt
+page-lines bus (Some a) = λ beat le inside.
     let word : ℕ = word_address a beat bus in
     let both = and-both (leb 4096 word) (ltb word (4096 + 4096)) inside in
     within word (leb-true 4096 word both.0) (ltb-true word (4096 + 4096) both.1)
   where
-    within : (word : ℕ) → 4096 ≤ word → word < 4096 + 4096 → Contains lines (word / 128)
-    within word from below = has (word / 128) (omega arith) (omega arith)
+    within : (word : ℕ) → 4096 ≤ word → word < 4096 + 4096 → Contains page_lines (word / 128)
+    within word from below =
+        let place : 32 + (word / 128 - 32) ≡ word / 128 = omega arith in
+        subst (Contains page_lines) place (among 32 32 (word / 128 - 32) (omega arith))
 
 module _ (round bus : ℕ) (links : List LinkView) (one : 0 < length links) where
-  can-memory : (lines : List ℕ) (state : MemoryState) → 0 < round → HasLines lines → HasSameArguments (new_memory (page bus) 0 lines) state → MayCome bus (link_of links 0) → CanMemory round links state
-  can-memory lines state counted has same come =
+  can-memory : (state : MemoryState) → 0 < round → HasSameArguments (new_memory (page bus) 0 page_lines) state → MayCome bus (link_of links 0) → CanMemory round links state
+  can-memory state counted same come =
       let at : memory_link links state ≡ link_of links 0 = ap (link_of links) same.upper in
       let link : LinkView = link_of links 0 in
       record {
@@ -79,7 +84,7 @@ module _ (round bus : ℕ) (links : List LinkView) (one : 0 < length links) wher
             (subst (λ (c : MemoryConfig). IfSome (head_of link.aw) (IsRequest c.bus)) (sym same.config) come.aw);
         aw_lines = subst (λ (l : LinkView). IfSome (head_of l.aw) (AreLinesAmong state.config state.store.lines)) (sym at)
             (subst (λ (c : MemoryConfig). IfSome (head_of link.aw) (AreLinesAmong c state.store.lines)) (sym same.config)
-            (subst (λ (ls : List ℕ). IfSome (head_of link.aw) (AreLinesAmong (page bus) ls)) (sym same.lines) (page-lines bus lines has (head_of link.aw))));
+            (subst (λ (ls : List ℕ). IfSome (head_of link.aw) (AreLinesAmong (page bus) ls)) (sym same.lines) (page-lines bus (head_of link.aw))));
         ar = subst (λ (l : LinkView). IfSome (head_of l.ar) (IsRequest state.config.bus)) (sym at)
             (subst (λ (c : MemoryConfig). IfSome (head_of link.ar) (IsRequest c.bus)) (sym same.config) come.ar);
         strobe = subst (λ (l : LinkView). IfSome (head_of l.w) (λ w. w.strobe < 2 ^ state.config.bus)) (sym at)
@@ -88,7 +93,7 @@ module _ (round bus : ℕ) (links : List LinkView) (one : 0 < length links) wher
 
   -- the memory may decide
   pub below-can : (node : Node) → 0 < round → MayCome bus (link_of links 0) → IsBelow bus node → CanNode round links node
-  below-can node counted come b = subst (CanNode round links) (sym b.is) (can-memory b.lines b.memory.state counted b.has_lines b.same come)
+  below-can node counted come b = subst (CanNode round links) (sym b.is) (can-memory b.memory.state counted b.same come)
 
   -- both stay what they are
   pub above-stays : (node : Node) → IsAbove node → IsAbove (node_table round links node)
@@ -103,8 +108,6 @@ module _ (round bus : ℕ) (links : List LinkView) (one : 0 < length links) wher
       let next : HasSameArguments b.memory.state (memory_next links b.memory.state) = memory-keeps links b.memory.state in
       record {
         memory = memory_table links b.memory.state;
-        lines = b.lines;
-        has_lines = b.has_lines;
         is = ap (node_table round links) b.is;
         same = record {
           config = next.config ∙ b.same.config;
