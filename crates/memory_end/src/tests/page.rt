@@ -1,6 +1,6 @@
 //! A memory of one page, and what is asked of it.
 
-ghost use Rattle.std.specs.Prelude.{◌≡◌, ◌<◌, ◌^◌, IfOk, IfSome, option_copied};
+ghost use Rattle.std.specs.Prelude.{◌≡◌, ◌<◌, ◌≤◌, ◌^◌, AllPairs, IfOk, IfSome, IsTrue, option_copied};
 ghost use Rattle.std.specs.List.{range_with_len};
 ghost use Rattle.axi_beats.specs.Bus.{IsBusWidth};
 ghost use Rattle.axi_link.specs.Table.{head_of};
@@ -35,7 +35,7 @@ impl Page {
             bus,
             fill: 0xa5,
         };
-        let lines: Vec<u64> = (32..64).collect(alloc)?;
+        let lines = lines();
         let memory = Memory::new(alloc, config, &[], &[], &[0], &[0], 0, &lines)?;
         Ok(Page { memory, bus })
     }
@@ -116,6 +116,19 @@ impl Page {
     }
 }
 
+/// The numbers of the page's lines.
+const LINES: [u64; 32] = [
+    32, 33, 34, 35, 36, 37, 38, 39, 40, 41, 42, 43, 44, 45, 46, 47, 48, 49, 50, 51, 52, 53, 54, 55,
+    56, 57, 58, 59, 60, 61, 62, 63,
+];
+
+fn lines() -> [u64; 32]
+    ensures range { result ≡ range_with_len 32 32 }
+    ensures ascending { AllPairs (λ a b. a < b) result }
+{
+    LINES
+}
+
 /// Eight lanes of a beat, from a lane on.
 fn eight_lanes(beat: &RBeat, first: u8) -> [u8; 8]
     requires { first ≤ 120 }
@@ -138,13 +151,21 @@ fn check_request(rt: &impl Abort, request: Option<&Addr>, bus: u8)
     }
 }
 
+/// Whether strobes are on lanes of this bus.
+fn fits(strobe: u128, bus: u8) -> bool
+    requires { IsBusWidth bus }
+    ensures { IsTrue result → strobe < 2 ^ bus }
+{
+    bus == 128 || strobe < 1 << bus
+}
+
 /// Checks that a data beat may come to a memory on this bus.
 fn check_strobe(rt: &impl Abort, beat: Option<&WBeat>, bus: u8)
     requires { IsBusWidth bus }
     ensures { IfSome (option_copied beat.entry) (λ w. w.strobe < 2 ^ bus) }
 {
     if let Some(beat) = beat {
-        assert!(rt; bus == 128 || beat.strobe < 1 << bus);
+        assert!(rt; fits(beat.strobe, bus));
     }
 }
 
