@@ -15,6 +15,6 @@ mod row;
 mod tests;
 
 pub use laws::fitting_moves_can_be_made;
-pub use link::Link;
+pub use link::{Link, crosses_threads};
 pub use out::Out;
 pub use row::{link_at, set_put, set_take};

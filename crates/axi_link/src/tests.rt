@@ -14,6 +14,7 @@ fn address(id: u32) -> Addr {
 #[test]
 fn beats_come_in_the_order_in_which_they_went(rt: HostRuntime) -> Result<(), Fail> {
     let mut link = Link::new(rt.alloc(), 2)?;
+    crosses_threads(&link);
     assert!(rt; link.head_aw().is_none() && link.room_aw());
     let quiet = Out::default();
 

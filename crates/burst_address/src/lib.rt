@@ -6,10 +6,12 @@
 
 pub use address::{beat_address, lanes};
 pub use burst_laws::laws;
+pub use count::{beat_count, burst_count};
 pub use rule::{BurstRule, legal};
 
 mod address;
 mod burst_laws;
+mod count;
 mod rule;
 #[cfg(test)]
 mod tests;

@@ -3,7 +3,7 @@ ghost use Rattle.std.specs.Prelude.{◌^◌, ◌<◌, ◌≤◌};
 ghost use Rattle.axi_beats.specs.Bus.{IsBusWidth};
 ghost use Rattle.burst_address.specs.Legal.{IsLegal};
 
-use crate::{BurstRule, beat_address, lanes, laws, legal};
+use crate::{BurstRule, beat_address, burst_count, lanes, laws, legal};
 use axi_beats::{Addr, Burst};
 use std::process::Abort;
 
@@ -108,5 +108,20 @@ fn follows_the_standard(rt: HostRuntime) {
         (last, 0, 128, (0x7fff_ffff_ffff_ffff, 127, 127)),
     ] {
         assert_eq!(rt; beat(&rt, &a, n, bus), want, "beat {n} of {a:?} on {bus}");
+    }
+}
+
+#[test]
+fn counts_the_valid_bytes_of_a_burst(rt: HostRuntime) {
+    for (a, want) in [
+        (request(Burst::Incr, 0x1003, 3, 2), 1 + 4 + 4 + 4),
+        (request(Burst::Incr, 0x0f, 1, 7), 113 + 128),
+        (request(Burst::Incr, 0xf00, 255, 0), 256),
+        (request(Burst::Wrap, 0x34, 7, 2), 32),
+        (request(Burst::Fixed, 0x1001, 2, 2), 3 + 3 + 3),
+    ] {
+        assert!(rt; a.addr < 1 << 63);
+        check_legal(&rt, &a, 128);
+        assert_eq!(rt; burst_count(&a), want, "{a:?}");
     }
 }

@@ -11,9 +11,9 @@ ghost use Rattle.manager_end.specs.ManagerState.{IsDue, due_bytes, due_resps};
 ghost use Rattle.manager_end.specs.ManagerTable.{read_in};
 
 use crate::answer::Answer;
-use crate::burst::burst_count;
 use crate::script::{Script, Txn};
 use axi_beats::{Addr, NoMemory, RBeat, Resp};
+use burst_address::burst_count;
 use std::alloc::Global;
 use std::marker::Model;
 

@@ -9,7 +9,6 @@
 mod answer;
 mod answers;
 mod beats;
-mod burst;
 mod direction;
 mod entry;
 mod manager;
@@ -20,7 +19,6 @@ mod sending;
 mod tests;
 
 pub use answer::Answer;
-pub use burst::beat_count;
 pub use entry::Entry;
 pub use manager::{Manager, crosses_threads};
 pub use manager_laws::{laws, laws_of_bursts, laws_of_rounds, laws_of_trails};

@@ -7,6 +7,7 @@ ghost use Rattle.burst_address.specs.Legal.{IsLegal};
 ghost use Rattle.manager_end.specs.Script.{CanPush, IsScript, sent_bytes};
 
 use axi_beats::{Addr, NoMemory};
+use burst_address::burst_count;
 use std::alloc::Global;
 use std::marker::Model;
 
@@ -31,6 +32,22 @@ pub struct Txn {
     /// How many of the script's first transactions are answered before this one is issued: all that
     /// stand before it, or as many as the one before it waits for.
     pub after: u32,
+}
+
+impl Txn {
+    /// How many bytes it sends: a write those of the valid lanes of its beats, and a read none. Its
+    /// burst is legal on the widest bus and starts below 2^63.
+    pub fn sent_count(&self) -> usize
+        requires start { self.now.request.addr < 2 ^ 63 }
+        requires legal { IsLegal self.now.request 128 }
+        ensures { result ≡ sent_bytes self.now }
+    {
+        if self.write {
+            burst_count(&self.request)
+        } else {
+            0
+        }
+    }
 }
 
 /// A transaction and its bytes.
@@ -71,9 +88,9 @@ impl Script {
         }
     }
 
-    /// Adds a transaction with its bytes: for a write those of the valid lanes of its beats, beat by
-    /// beat and lowest lane first, and none for a read. Its burst is legal on the widest bus and
-    /// starts below 2^63. The script is unchanged where there is no memory.
+    /// Adds a transaction with its bytes, [`Txn::sent_count`] of them: for a write those of the valid
+    /// lanes of its beats, beat by beat and lowest lane first, and none for a read. Its burst is legal
+    /// on the widest bus and starts below 2^63. The script is unchanged where there is no memory.
     pub fn push(&mut self, txn: Txn, bytes: &[WriteByte]) -> Result<(), NoMemory>
         requires { CanPush self.old txn bytes.now }
         ensures ok { OnOk result

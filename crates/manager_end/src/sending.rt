@@ -4,8 +4,8 @@ ghost use Rattle.std.specs.Prelude.{◌≡◌, ◌<◌, ◌^◌, IfSome, length}
 ghost use Rattle.manager_end.specs.ManagerInside.{IsWithin, sent_after};
 ghost use Rattle.manager_end.specs.Placed.{placed};
 
-use crate::burst::beat_count;
 use crate::script::Script;
+use burst_address::beat_count;
 
 /// The data place: of how many writes all data is sent, and how many beats of the next one.
 #[derive(Drop)]

@@ -6,7 +6,8 @@ ghost use Rattle.burst_address.specs.Legal.{IsLegal};
 ghost use Rattle.trace_text.specs.AnswerLine.{answer_line, beat_text, direction, outcome, read_outcome, response_name, write_outcome};
 
 use axi_beats::{Addr, Resp};
-use manager_end::{Answer, Txn, beat_count};
+use burst_address::beat_count;
+use manager_end::{Answer, Txn};
 use plain_text::line_buffer::LineBuffer;
 
 /// Replaces the bytes of the buffer by the line of a transaction and its answer and a line feed. Takes

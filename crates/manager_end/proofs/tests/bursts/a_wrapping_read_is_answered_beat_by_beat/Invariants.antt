@@ -1,5 +1,5 @@
 use Rattle.std.proofs.Common.{◌≡◌, length}
-use Rattle.manager_end.proofs.tests.a_wrapping_read_is_answered_beat_by_beat.Given as goal
+use Rattle.manager_end.proofs.tests.bursts.a_wrapping_read_is_answered_beat_by_beat.Given as goal
 
 abbrev pub invariant-loop-round : goal.invariant-loop-round
 invariant-loop-round g l = record {

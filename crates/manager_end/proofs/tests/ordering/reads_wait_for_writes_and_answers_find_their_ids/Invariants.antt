@@ -1,5 +1,5 @@
 use Rattle.std.proofs.Common.{◌≡◌, length}
-use Rattle.manager_end.proofs.tests.reads_wait_for_writes_and_answers_find_their_ids.Given as goal
+use Rattle.manager_end.proofs.tests.ordering.reads_wait_for_writes_and_answers_find_their_ids.Given as goal
 
 abbrev pub invariant-loop-round : goal.invariant-loop-round
 invariant-loop-round g l = record {
