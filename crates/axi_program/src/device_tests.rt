@@ -1,6 +1,7 @@
 //! A run over sources and sinks that fail, or that move one byte a call.
 
 use super::*;
+use crate::test_rows::words_of;
 use std::alloc::Global;
 use std::process::Abort;
 use std::test::Fail;
@@ -27,9 +28,7 @@ fn compare(
     lines: u64,
 ) -> Result<(), Fail> {
     let alloc = rt.alloc();
-    let mut words = Vec::new(alloc);
-    words.push(String::from_str(alloc, "axinet")?)?;
-    words.push(String::from_str(alloc, "run")?)?;
+    let words = words_of(alloc, &["axinet", "run"])?;
     assert_eq!(rt; axinet(alloc, &words, source, sink, &OpenGate), status);
     assert_eq!(rt; sink.bytes(), first_lines(lines));
     Ok(())

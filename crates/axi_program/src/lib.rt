@@ -19,6 +19,8 @@ mod run;
 mod script;
 mod status;
 #[cfg(test)]
+mod test_rows;
+#[cfg(test)]
 mod tests;
 mod texts;
 mod top;

@@ -1,73 +1,18 @@
 //! Known documents: what the top call answers of each, and what it writes.
 
 use super::*;
+use crate::test_rows::{Row, compare, compare_end, ran, words_of};
 use burst_address::BurstRule;
 use std::alloc::Global;
 use std::process::Abort;
 use std::test::Fail;
 
-/// An input, what the top call answers of it, and what it writes.
-#[derive(Clone, Copy)]
-struct Row {
-    input: &'static [u8],
-    status: Status,
-    written: &'static [u8],
-}
-
 fn done(input: &'static [u8], written: &'static [u8]) -> Row {
-    Row {
-        input,
-        status: Status::Done,
-        written,
-    }
+    ran(input, Status::Done, written)
 }
 
 fn refused(input: &'static [u8], refusal: Refusal, written: &'static [u8]) -> Row {
-    Row {
-        input,
-        status: Status::Refused(refusal),
-        written,
-    }
-}
-
-/// The words of the command line, where there is one after the program's name.
-fn words_of(alloc: Global, command: Option<&str>) -> Result<Vec<String>, Fail> {
-    let mut words = Vec::new(alloc);
-    words.push(String::from_str(alloc, "axinet")?)?;
-    if let Some(command) = command {
-        words.push(String::from_str(alloc, command)?)?;
-    }
-    Ok(words)
-}
-
-/// What the top call answers of an input that is to be run, and all that it writes.
-fn run_input(
-    rt: &(impl Alloc<A = Global> + Abort),
-    input: &[u8],
-    sink: &mut MemorySink,
-) -> Result<Status, Fail> {
-    let alloc = rt.alloc();
-    let mut source = MemorySource::new(input.to_vec(alloc)?, Vec::new(alloc), 50);
-    let words = words_of(alloc, Some("run"))?;
-    Ok(axinet(alloc, &words, &mut source, sink, &OpenGate))
-}
-
-/// Fails where the top call answers or writes anything else than a row has.
-fn compare(rt: &(impl Alloc<A = Global> + Abort), row: &Row) -> Result<(), Fail> {
-    let alloc = rt.alloc();
-    let mut sink = MemorySink::new(alloc, 200, Vec::new(alloc), 70)?;
-    assert_eq!(rt; run_input(rt, row.input, &mut sink)?, row.status);
-    assert_eq!(rt; sink.bytes(), row.written);
-    Ok(())
-}
-
-/// The same of a row that has only the end of what is written.
-fn compare_end(rt: &(impl Alloc<A = Global> + Abort), row: &Row) -> Result<(), Fail> {
-    let alloc = rt.alloc();
-    let mut sink = MemorySink::new(alloc, 5000, Vec::new(alloc), 5000)?;
-    assert_eq!(rt; run_input(rt, row.input, &mut sink)?, row.status);
-    assert!(rt; sink.bytes().ends_with(row.written));
-    Ok(())
+    ran(input, Status::Refused(refusal), written)
 }
 
 fn no_traffic() -> Row {
@@ -225,7 +170,7 @@ fn compare_spaces(
     written: &[u8],
 ) -> Result<(), Fail> {
     let alloc = rt.alloc();
-    let words = words_of(alloc, Some(command))?;
+    let words = words_of(alloc, &["axinet", command])?;
     let mut bytes = Vec::new(alloc);
     bytes.resize(count, b' ')?;
     let mut source = SureSource::new(bytes);
@@ -263,15 +208,32 @@ fn long_inputs_are_refused(rt: HostRuntime) -> Result<(), Fail> {
     )
 }
 
+/// Fails where the top call answers anything else than a row has, between devices that never fail.
+fn compare_sure(rt: &(impl Alloc<A = Global> + Abort), row: &Row) -> Result<(), Fail> {
+    let alloc = rt.alloc();
+    let words = words_of(alloc, row.words)?;
+    let mut source = SureSource::new(row.input.to_vec(alloc)?);
+    let status = axinet(alloc, &words, &mut source, &mut SureSink::new(), &OpenGate);
+    assert_eq!(rt; status, row.status);
+    Ok(())
+}
+
+fn no_command() -> Row {
+    Row {
+        words: &["axinet"],
+        input: b"%%",
+        status: Status::Usage,
+        written: b"",
+    }
+}
+
 #[test]
 fn nothing_fails_between_a_sure_source_and_a_sure_sink(rt: HostRuntime) -> Result<(), Fail> {
-    let alloc = rt.alloc();
-    let input = a_wrapping_write().input;
-    for (command, status) in [(None, Status::Usage), (Some("run"), Status::Done)] {
-        let words = words_of(alloc, command)?;
-        let mut source = SureSource::new(input.to_vec(alloc)?);
-        let answer = axinet(alloc, &words, &mut source, &mut SureSink::new(), &OpenGate);
-        assert_eq!(rt; answer, status);
-    }
-    Ok(())
+    compare_sure(&rt, &no_command())?;
+    compare_sure(&rt, &a_wrapping_write())
+}
+
+#[test]
+fn a_refusal_has_its_exit_code(rt: HostRuntime) {
+    assert_eq!(rt; Status::Refused(Refusal::not_text()).code(), 3);
 }

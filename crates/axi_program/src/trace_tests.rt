@@ -1,36 +1,14 @@
 //! Traced runs and judged traces through the top call.
 
 use super::*;
-use std::alloc::Global;
-use std::process::Abort;
+use crate::test_rows::{Row, compare, judged};
 use std::test::Fail;
 use trace_check::PortFault;
 
-/// An input, the words after the program's name, what the top call answers and what it writes.
-#[derive(Clone, Copy)]
-struct Row {
-    input: &'static [u8],
-    command: &'static str,
-    option: Option<&'static str>,
-    status: Status,
-    written: &'static [u8],
-}
-
-fn judged(input: &'static [u8], status: Status, written: &'static [u8]) -> Row {
-    Row {
-        input,
-        command: "check",
-        option: None,
-        status,
-        written,
-    }
-}
-
 fn a_traced_run() -> Row {
     Row {
+        words: &["axinet", "run", "--trace=all"],
         input: b"%%\nwrite m 1 0x10 4 incr 11223344\nwait m\nread m 2 0x10 4 incr 1\n",
-        command: "run",
-        option: Some("--trace=all"),
         status: Status::Done,
         written: b"2 0 axi 4 +1,10,0,2,1,0,1:0:0 - - - -
 3 0 axi 4 - +11223344,f,1,1:0:0 - - -
@@ -47,9 +25,8 @@ rounds 9
 
 fn a_run_without_traffic() -> Row {
     Row {
+        words: &["axinet", "run", "--trace=all"],
         input: b"%%\n",
-        command: "run",
-        option: Some("--trace=all"),
         status: Status::Done,
         written: b"%%\nrounds 0\n",
     }
@@ -57,9 +34,8 @@ fn a_run_without_traffic() -> Row {
 
 fn a_run_without_a_trace() -> Row {
     Row {
+        words: &["axinet", "run", "--trace=none"],
         input: b"%%\n",
-        command: "run",
-        option: Some("--trace=none"),
         status: Status::Done,
         written: b"rounds 0\n",
     }
@@ -67,9 +43,8 @@ fn a_run_without_a_trace() -> Row {
 
 fn an_unknown_option() -> Row {
     Row {
+        words: &["axinet", "run", "--trace=some"],
         input: b"%%\n",
-        command: "run",
-        option: Some("--trace=some"),
         status: Status::Usage,
         written: b"",
     }
@@ -147,23 +122,6 @@ fn one_round_more() -> Row {
         Status::Refused(Refusal::bad_trace_line(1)),
         b"refused 22 BadTraceLine 1\n",
     )
-}
-
-/// Fails where the top call answers or writes anything else than a row has.
-fn compare(rt: &(impl Alloc<A = Global> + Abort), row: &Row) -> Result<(), Fail> {
-    let alloc = rt.alloc();
-    let mut source = MemorySource::new(row.input.to_vec(alloc)?, Vec::new(alloc), 100);
-    let mut sink = MemorySink::new(alloc, 1000, Vec::new(alloc), 1000)?;
-    let mut words = Vec::new(alloc);
-    words.push(String::from_str(alloc, "axinet")?)?;
-    words.push(String::from_str(alloc, row.command)?)?;
-    if let Some(option) = row.option {
-        words.push(String::from_str(alloc, option)?)?;
-    }
-    let status = axinet(alloc, &words, &mut source, &mut sink, &OpenGate);
-    assert_eq!(rt; status, row.status);
-    assert_eq!(rt; sink.bytes(), row.written);
-    Ok(())
 }
 
 #[test]

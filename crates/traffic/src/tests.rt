@@ -1,5 +1,7 @@
 //! Texts that are refused, and the transactions of texts that are read.
 
+ghost use Rattle.std.specs.Prelude.{◌≡◌, IfOk, length};
+
 use crate::{ManagerPort, Traffic, TrafficFault, read_traffic};
 use axi_beats::{Addr, Burst, Tag};
 use burst_address::BurstRule;
@@ -212,28 +214,38 @@ fn no_lines_are_read(rt: HostRuntime) -> Result<(), Fail> {
     Ok(())
 }
 
+/// The four transactions of the lines.
+fn read_lines(rt: &(impl Alloc<A = std::alloc::Global> + Abort)) -> Result<Traffic, Fail>
+    ensures { IfOk result (λ traffic. length traffic ≡ 4) }
+{
+    let traffic = read(rt.alloc(), some_lines()).map_err(|_| Fail::from("refused"))?;
+    assert!(rt; traffic.count() == 4);
+    Ok(traffic)
+}
+
 #[test]
-fn lines_are_read(rt: HostRuntime) -> Result<(), Fail> {
-    let Ok(traffic) = read(rt.alloc(), some_lines()) else {
-        return Err(Fail::from("refused"));
+fn bytes_are_read(rt: HostRuntime) -> Result<(), Fail> {
+    let traffic = read_lines(&rt)?;
+    let unstrobed = WriteByte {
+        value: 0,
+        strobed: false,
     };
-    assert_eq!(rt; traffic.count(), 4);
-    if traffic.count() == 4 {
-        let unstrobed = WriteByte {
-            value: 0,
-            strobed: false,
-        };
-        let bytes = [strobed(255), strobed(0), strobed(1), unstrobed, strobed(3)];
-        assert_eq!(rt; traffic.bytes(1), bytes.as_slice());
-        assert_eq!(rt; traffic.bytes(2), [strobed(10), strobed(11)].as_slice());
-        assert!(rt; traffic.bytes(3).is_empty());
-        assert_eq!(rt; traffic.txn(1).request.len, 1);
-        assert_eq!(rt; traffic.txn(2).after, 0);
-        assert_eq!(rt; *traffic.txn(3), the_third());
-        assert_eq!(rt; traffic.txn(4).request.len, 255);
-        assert_eq!(rt; traffic.manager(3), 1);
-        assert_eq!(rt; traffic.manager(4), 0);
-    }
+    let bytes = [strobed(255), strobed(0), strobed(1), unstrobed, strobed(3)];
+    assert_eq!(rt; traffic.bytes(1), bytes.as_slice());
+    assert_eq!(rt; traffic.bytes(2), [strobed(10), strobed(11)].as_slice());
+    assert!(rt; traffic.bytes(3).is_empty());
+    Ok(())
+}
+
+#[test]
+fn transactions_are_read(rt: HostRuntime) -> Result<(), Fail> {
+    let traffic = read_lines(&rt)?;
+    assert_eq!(rt; traffic.txn(1).request.len, 1);
+    assert_eq!(rt; traffic.txn(2).after, 0);
+    assert_eq!(rt; *traffic.txn(3), the_third());
+    assert_eq!(rt; traffic.txn(4).request.len, 255);
+    assert_eq!(rt; traffic.manager(3), 1);
+    assert_eq!(rt; traffic.manager(4), 0);
     Ok(())
 }
 

@@ -8,10 +8,10 @@ use super::sink::Sink;
 use super::source::{Failed, Source};
 use super::standard::{StdinSource, StdoutSink};
 use super::write_all::write_piece;
-use crate::status::{Refusal, Status};
 use std::alloc::Global;
 use std::io;
 use std::io::{ErrorKind, Read, Write};
+use std::process::Abort;
 use std::test::Fail;
 
 // A reader whose first call gives four bytes and whose later ones fail.
@@ -55,71 +55,106 @@ impl Write for TiringWriter {
     }
 }
 
-#[test]
-fn standard_streams(rt: HostRuntime) {
-    let mut source = StdinSource::new(ShortReader { used: false });
-    let mut buf = [0; 8];
-    for want in [Ok(4), Err(Failed), Err(Failed)] {
-        assert_eq!(rt; source.read(&mut buf), want);
-    }
-    assert_eq!(rt; buf[0], b'a');
-    let mut sink = StdoutSink::new(TiringWriter { calls: 0 });
-    for want in [Ok(1), Err(Failed), Err(Failed)] {
-        assert_eq!(rt; sink.write(b"abc"), want);
+/// Fails where a source answers anything else, call for call.
+fn compare_reads(
+    rt: &impl Abort,
+    source: &mut impl Source,
+    buf: &mut [u8],
+    wants: &[Result<usize, Failed>],
+) {
+    for (call, want) in wants.iter().enumerate() {
+        assert_eq!(rt; source.read(buf), *want, "read {call}");
     }
 }
 
+/// Fails where a sink answers anything else of the same piece, call for call.
+fn compare_writes(rt: &impl Abort, sink: &mut impl Sink, wants: &[Result<usize, Failed>]) {
+    for (call, want) in wants.iter().enumerate() {
+        assert_eq!(rt; sink.write(b"abcd"), *want, "write {call}");
+    }
+}
+
+#[test]
+fn a_standard_source_reads_until_it_fails(rt: HostRuntime) {
+    let mut source = StdinSource::new(ShortReader { used: false });
+    let mut buf = [0; 8];
+    compare_reads(
+        &rt,
+        &mut source,
+        &mut buf,
+        &[Ok(4), Err(Failed), Err(Failed)],
+    );
+    assert_eq!(rt; buf[0], b'a');
+}
+
+#[test]
+fn a_standard_sink_fails_where_nothing_is_taken(rt: HostRuntime) {
+    let mut sink = StdoutSink::new(TiringWriter { calls: 0 });
+    compare_writes(&rt, &mut sink, &[Ok(1), Err(Failed), Err(Failed)]);
+}
+
+/// The bytes `abcde`, two a call, where the calls of these numbers fail.
 fn source_of(alloc: Global, fail: &[u64]) -> Result<MemorySource, Fail> {
     let bytes = b"abcde".to_vec(alloc)?;
     Ok(MemorySource::new(bytes, fail.to_vec(alloc)?, 2))
 }
 
 #[test]
-fn memory_pair(rt: HostRuntime) -> Result<(), Fail> {
-    let alloc = rt.alloc();
-    let mut source = source_of(alloc, &[2, 5])?;
+fn a_memory_source_fails_at_the_planned_calls(rt: HostRuntime) -> Result<(), Fail> {
+    let mut source = source_of(rt.alloc(), &[2, 5])?;
     let mut buf = [0; 4];
-    for (call, want) in [Ok(2), Err(Failed), Ok(2), Ok(1), Err(Failed), Ok(0)]
-        .iter()
-        .enumerate()
-    {
-        assert_eq!(rt; source.read(&mut buf), *want, "read {call}");
-    }
+    let wants = [Ok(2), Err(Failed), Ok(2), Ok(1), Err(Failed), Ok(0)];
+    compare_reads(&rt, &mut source, &mut buf, &wants);
     assert_eq!(rt; buf, [b'e', b'd', 0, 0]);
-
-    let mut sink = MemorySink::new(alloc, 5, [2].to_vec(alloc)?, 3)?;
-    for (call, want) in [Ok(3), Err(Failed), Ok(2), Err(Failed)].iter().enumerate() {
-        assert_eq!(rt; sink.write(b"abcd"), *want, "write {call}");
-    }
-    assert_eq!(rt; sink.bytes(), b"abcab".as_slice());
-
-    let faults: [(&[u64], usize, Option<InputFault>); 3] = [
-        (&[], 5, None),
-        (&[], 4, Some(InputFault::TooLong)),
-        (&[4], 5, Some(InputFault::ReadFault)),
-    ];
-    for (fail, limit, want) in faults.iter() {
-        let mut source = source_of(alloc, fail)?;
-        match read_all(alloc, &mut source, *limit) {
-            Ok(text) => {
-                assert_eq!(rt; text.as_slice(), b"abcde".as_slice());
-                assert_eq!(rt; None, *want);
-            }
-            Err(fault) => assert_eq!(rt; Some(fault), *want),
-        }
-    }
-
-    let mut whole = MemorySink::new(alloc, 9, Vec::new(alloc), 4)?;
-    assert_eq!(rt; write_piece(&mut whole, b"abcdefghi"), Ok(()));
-    assert_eq!(rt; whole.bytes(), b"abcdefghi".as_slice());
-    assert_eq!(rt; write_piece(&mut whole, b"j"), Err(Failed));
-
-    OpenGate.enter(0);
-    let refusal = Refusal {
-        code: 1,
-        place: 0,
-        rule: 0,
-    };
-    assert_eq!(rt; Status::Refused(refusal).code(), 3);
     Ok(())
+}
+
+#[test]
+fn a_memory_sink_fails_at_the_planned_calls(rt: HostRuntime) -> Result<(), Fail> {
+    let alloc = rt.alloc();
+    let mut sink = MemorySink::new(alloc, 5, [2].to_vec(alloc)?, 3)?;
+    compare_writes(&rt, &mut sink, &[Ok(3), Err(Failed), Ok(2), Err(Failed)]);
+    assert_eq!(rt; sink.bytes(), b"abcab".as_slice());
+    Ok(())
+}
+
+/// Fails where `abcde`, of whose calls these fail, isn't read whole up to a limit, or isn't refused so.
+fn compare_whole(
+    rt: &(impl Alloc<A = Global> + Abort),
+    fail: &[u64],
+    limit: usize,
+    want: Option<InputFault>,
+) -> Result<(), Fail> {
+    let alloc = rt.alloc();
+    let mut source = source_of(alloc, fail)?;
+    match read_all(alloc, &mut source, limit) {
+        Ok(text) => {
+            assert_eq!(rt; text.as_slice(), b"abcde".as_slice());
+            assert_eq!(rt; None, want);
+        }
+        Err(fault) => assert_eq!(rt; Some(fault), want),
+    }
+    Ok(())
+}
+
+#[test]
+fn an_input_is_read_whole(rt: HostRuntime) -> Result<(), Fail> {
+    compare_whole(&rt, &[], 5, None)?;
+    compare_whole(&rt, &[], 4, Some(InputFault::TooLong))?;
+    compare_whole(&rt, &[4], 5, Some(InputFault::ReadFault))
+}
+
+#[test]
+fn a_piece_is_written_whole(rt: HostRuntime) -> Result<(), Fail> {
+    let alloc = rt.alloc();
+    let mut sink = MemorySink::new(alloc, 9, Vec::new(alloc), 4)?;
+    assert_eq!(rt; write_piece(&mut sink, b"abcdefghi"), Ok(()));
+    assert_eq!(rt; sink.bytes(), b"abcdefghi".as_slice());
+    assert_eq!(rt; write_piece(&mut sink, b"j"), Err(Failed));
+    Ok(())
+}
+
+#[test]
+fn an_open_gate_lets_enter(_rt: HostRuntime) {
+    OpenGate.enter(0);
 }

@@ -1,0 +1,78 @@
+//! A row of the tests of the top call, and what compares the top call with one.
+
+use super::*;
+use std::alloc::Global;
+use std::process::Abort;
+use std::test::Fail;
+
+/// The words of the command line, an input, what the top call answers, and what it writes.
+#[derive(Clone, Copy)]
+pub struct Row {
+    pub words: &'static [&'static str],
+    pub input: &'static [u8],
+    pub status: Status,
+    pub written: &'static [u8],
+}
+
+/// The row of an input that is run.
+pub fn ran(input: &'static [u8], status: Status, written: &'static [u8]) -> Row {
+    Row {
+        words: &["axinet", "run"],
+        input,
+        status,
+        written,
+    }
+}
+
+/// The row of a trace that is judged.
+pub fn judged(input: &'static [u8], status: Status, written: &'static [u8]) -> Row {
+    Row {
+        words: &["axinet", "check"],
+        input,
+        status,
+        written,
+    }
+}
+
+/// The words of a command line, of which the first one is the program's name.
+pub fn words_of(alloc: Global, words: &[&str]) -> Result<Vec<String>, Fail> {
+    let mut owned = Vec::new(alloc);
+    for word in words {
+        owned.push(String::from_str(alloc, word)?)?;
+    }
+    Ok(owned)
+}
+
+/// Fails where the top call answers anything else than a row has.
+fn call(
+    rt: &(impl Alloc<A = Global> + Abort),
+    row: &Row,
+    sink: &mut MemorySink,
+) -> Result<(), Fail> {
+    let alloc = rt.alloc();
+    let words = words_of(alloc, row.words)?;
+    let mut source = MemorySource::new(row.input.to_vec(alloc)?, Vec::new(alloc), 50);
+    assert_eq!(rt;
+        axinet(alloc, &words, &mut source, sink, &OpenGate),
+        row.status
+    );
+    Ok(())
+}
+
+/// Fails where the top call answers or writes anything else than a row has.
+pub fn compare(rt: &(impl Alloc<A = Global> + Abort), row: &Row) -> Result<(), Fail> {
+    let alloc = rt.alloc();
+    let mut sink = MemorySink::new(alloc, 1000, Vec::new(alloc), 70)?;
+    call(rt, row, &mut sink)?;
+    assert_eq!(rt; sink.bytes(), row.written);
+    Ok(())
+}
+
+/// The same of a row that has only the end of what is written.
+pub fn compare_end(rt: &(impl Alloc<A = Global> + Abort), row: &Row) -> Result<(), Fail> {
+    let alloc = rt.alloc();
+    let mut sink = MemorySink::new(alloc, 5000, Vec::new(alloc), 5000)?;
+    call(rt, row, &mut sink)?;
+    assert!(rt; sink.bytes().ends_with(row.written));
+    Ok(())
+}
