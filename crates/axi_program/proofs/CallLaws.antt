@@ -1,9 +1,9 @@
 -- What the top call's parts tell of the whole.
-use Rattle.std.proofs.Common.{◌≡◌, ◌<◌, ◌≤◌, ℕ, List, [], Option, Some, None, Bool, true, false, cond, not, length, refl, sym, ap, ◌∙◌, subst, inl, inr}
+use Rattle.std.proofs.Common.{◌≡◌, ◌<◌, ◌≤◌, ℕ, List, Option, Some, None, Bool, true, false, cond, not, length, refl, sym, ap, ◌∙◌, subst, inl, inr}
 use Rattle.std.specs.Prelude.{IfSome}
 use Rattle.manager_end.specs.Script.{ScriptItem}
 use Rattle.axi_program.proofs.DocumentLaws.{refusal-over}
-use Rattle.axi_program.specs.Call.{Came, IsComplete, IsReadWhole, IsTooLong, ReadsWhole, Tells}
+use Rattle.axi_program.specs.Call.{Came, IsComplete, IsTooLong, ReadsWhole, Tells}
 use Rattle.axi_program.specs.Document.{input_limit, refusal_of, script_of_input}
 use Rattle.axi_program.specs.Faults.{Rose}
 use Rattle.axi_program.specs.Outcome.{Concludes, Outcome, Refuses, check_outcome, document_outcome, input_outcome, outcome_by, outcome_of, run_outcome, status_of}
@@ -11,7 +11,7 @@ use Rattle.axi_program.specs.Refusals.{input_too_long, not_text}
 use Rattle.std.proofs.lemmas.Bool.{le-ltb, lt-ltb}
 use Rattle.std.specs.Str.{is_utf8}
 use Rattle.trace_check.specs.Verdicts.{verdict_of}
-use Rattle.axi_program.specs.Transfers.{IsOver, IsWhole}
+use Rattle.axi_program.specs.Transfers.{IsOver}
 use Rattle.axi_program.specs.declared.status.Refusal.{Refusal}
 use Rattle.axi_program.specs.declared.status.Status.{Status}
 use Rattle.axi_program.specs.declared.words.Command.{Command}
@@ -74,12 +74,6 @@ module _ {S K : Type 0} (command : Option Command) (left : S → Option (List �
         (map-some (left source) (λ input. outcome ≡ input_outcome asked input) (λ input. Concludes written writing (input_outcome asked input) sink sink' status)
         (λ input same. subst (λ (w : Outcome). Concludes written writing w sink sink' status) same concludes) is)
 
-    pub whole-outcome : (text : List ℕ) → IsWhole (left source) (left source') text → IfSome (left source) (λ input. input_outcome asked text ≡ input_outcome asked input)
-    whole-outcome text whole =
-        let go : (o : Option (List ℕ)) → IsWhole o (left source') text → IfSome o (λ input. input_outcome asked text ≡ input_outcome asked input) =
-        λ o. elim o as (λ o. IsWhole o (left source') text → IfSome o (λ input. input_outcome asked text ≡ input_outcome asked input)) [ None ↦ λ w. tt | Some input ↦ λ w. ap (input_outcome asked) w.0 ]
-        in go (left source) whole
-
     pub over-outcome : IsOver input_limit (left source) → IfSome (left source) (λ input. Refuses input_too_long ≡ input_outcome asked input)
     over-outcome over = map-some (left source) (λ input. input_limit < length input) (λ input. Refuses input_too_long ≡ input_outcome asked input) (λ input w. outcome-over asked input w) over
 
@@ -123,23 +117,6 @@ module _ {S K : Type 0} (command : Option Command) (left : S → Option (List �
   complete-by Unfinished tells used reads writes = inr (complete-came Unfinished (λ outcome c. c.0) tells)
 
 module _ {S : Type 0} (left : S → Option (List ℕ)) (source source' : S) where
-  -- the source was read to its end
-  pub whole-read : (text : List ℕ) → IsWhole (left source) (left source') text → IsReadWhole left source source'
-  whole-read text whole =
-      let go : (o : Option (List ℕ)) → IsWhole o (left source') text → IfSome o (λ input. left source' ≡ Some []) =
-      λ o. elim o as (λ o. IsWhole o (left source') text → IfSome o (λ input. left source' ≡ Some [])) [ None ↦ λ w. tt | Some input ↦ λ w. w.1 ]
-      in go (left source) whole
-
-  pub reads-by : (status : Status) → IsReadWhole left source source' → ReadsWhole left source source' status
-  reads-by Done read = read
-  reads-by Usage read = tt
-  reads-by (Refused refusal) read = inl read
-  reads-by (Broken fault) read = read
-  reads-by ReadFault read = tt
-  reads-by WriteFault read = inl read
-  reads-by NoMemory read = tt
-  reads-by Unfinished read = read
-
   -- its input is over the size, and refused for it
   module _ {K : Type 0} (written : K → Option (List ℕ)) (writing : K → ℕ) (sink sink' : K) where
     pub over-reads :

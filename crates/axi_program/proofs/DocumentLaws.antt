@@ -9,10 +9,7 @@ use Rattle.std.specs.Str.{is_utf8}
 use Rattle.plain_text.specs.Lines.{lines}
 use Rattle.plain_text.specs.Separator.{cut, has_separator, begins_with_separator, separator}
 use Rattle.plain_text.specs.SeparatorLaws.{IsSeparatorLine, is_cut_at_front}
-use Rattle.traffic.specs.Traffic.{IsRefusal}
-use Rattle.traffic.specs.declared.fault.TrafficFault.{TrafficFault}
-use Rattle.traffic.specs.declared.fault.TrafficFault.TheVariants.{BadLine, UnknownManager, BadId, IllegalBurst, TooMuchTraffic, NoMemory}
-use Rattle.axi_program.specs.Document.{TellsRefusal, document_fault, input_limit, refusal_of, traffic_lines}
+use Rattle.axi_program.specs.Document.{input_limit, refusal_of, traffic_lines}
 use Rattle.axi_program.specs.Refusals.{input_too_long, no_separator, not_built, not_text, traffic_refusal}
 use Rattle.axi_program.specs.Traffic.{fault_of}
 
@@ -64,19 +61,3 @@ module _ (input before traffic : List ℕ) (is : cut input ≡ Some (before, tra
 -- a text that isn't cut has no separator
 pub none-separator : (input : List ℕ) → cut input ≡ None → has_separator (lines input) ≡ false
 none-separator input none = sym (cuts_by_lines input).found ∙ ap is_some none
-
--- an input whose traffic is accepted, or refused
-module _ (input : List ℕ) (reached : refusal_of input ≡ option_and_then traffic_refusal (fault_of (traffic_lines input))) where
-  pub accepted-by : fault_of (traffic_lines input) ≡ None → refusal_of input ≡ None
-  accepted-by none = reached ∙ ap (option_and_then traffic_refusal) none
-
-  refused-by : (fault : TrafficFault) → fault_of (traffic_lines input) ≡ Some fault → refusal_of input ≡ traffic_refusal fault
-  refused-by fault is = reached ∙ ap (option_and_then traffic_refusal) is
-
-  pub tells-by : (fault : TrafficFault) → IsRefusal (fault_of (traffic_lines input)) fault → TellsRefusal input (document_fault (traffic_refusal fault))
-  tells-by (BadLine line) is = refused-by (BadLine line) is
-  tells-by (UnknownManager line) is = refused-by (UnknownManager line) is
-  tells-by (BadId line) is = refused-by (BadId line) is
-  tells-by (IllegalBurst line rule) is = refused-by (IllegalBurst line rule) is
-  tells-by TooMuchTraffic is = refused-by TooMuchTraffic is
-  tells-by NoMemory is = accepted-by is

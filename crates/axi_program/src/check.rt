@@ -2,7 +2,7 @@
 
 ghost use Rattle.std.specs.Prelude.{◌≤◌, length};
 ghost use Rattle.axi_program.specs.Outcome.{Concludes, Answers, Breaks, check_outcome, outcome_of};
-ghost use Rattle.axi_program.specs.Text.{broken_line, legal_line};
+ghost use Rattle.axi_program.specs.Text.{legal_line};
 
 use crate::document::INPUT_LIMIT;
 use crate::outside::sink::Sink;

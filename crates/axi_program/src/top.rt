@@ -2,7 +2,6 @@
 
 ghost use Rattle.std.specs.Prelude.{◌≡◌, ◌≢◌, ◌≤◌, map, string_bytes, length, IfSome, Some, None};
 ghost use Rattle.axi_program.specs.Call.{IsComplete, IsRightRun, ReadsWhole, Tells};
-ghost use Rattle.axi_program.specs.Document.{refusal_of};
 ghost use Rattle.axi_program.specs.Faults.{Rose};
 ghost use Rattle.axi_program.specs.Outcome.{Concludes, document_outcome, input_outcome};
 ghost use Rattle.axi_program.specs.Words.{command_of as command_by};

@@ -1,5 +1,5 @@
 //! Which bursts are legal. (Arm IHI 0022, burst length, burst size, burst type, address structure.)
-ghost use Rattle.std.specs.Prelude.{◌≡◌, ◌↔◌, ◌+◌, ◌*◌, ◌^◌, ◌<◌, ◌≤◌, not, IsOk, IfErr, Some};
+ghost use Rattle.std.specs.Prelude.{◌≡◌, ◌↔◌, ◌+◌, ◌*◌, ◌<◌, ◌≤◌, IsOk, IfErr, Some};
 ghost use Rattle.axi_beats.specs.Bus.{IsBusWidth};
 ghost use Rattle.burst_address.specs.Formulas.{aligned, size_of, beats_of};
 ghost use Rattle.burst_address.specs.Legal.{is_too_wide, is_length_of, is_start_of, is_in_page, broken_rule, IsLegal};

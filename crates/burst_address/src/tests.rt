@@ -1,10 +1,10 @@
 //! Bursts whose rules, addresses and lanes are known from the standard's formulas and figures.
-ghost use Rattle.std.specs.Prelude.{◌^◌, ◌<◌, ◌≤◌};
+ghost use Rattle.std.specs.Prelude.{◌<◌};
 ghost use Rattle.axi_beats.specs.Bus.{IsBusWidth};
 ghost use Rattle.burst_address.specs.Legal.{IsLegal};
 
 use crate::{BurstRule, beat_address, burst_count, lanes, laws, legal};
-use axi_beats::{Addr, Burst};
+use axi_beats::{Addr, Burst, is_bus_width};
 use std::process::Abort;
 
 fn request(burst: Burst, addr: u64, len: u8, size: u8) -> Addr {
@@ -21,7 +21,7 @@ fn request(burst: Burst, addr: u64, len: u8, size: u8) -> Addr {
 fn check_bus(rt: &impl Abort, bus: u8)
     ensures { IsBusWidth bus }
 {
-    assert!(rt; bus == 4 || bus == 8 || bus == 16 || bus == 32 || bus == 64 || bus == 128);
+    assert!(rt; is_bus_width(bus));
 }
 
 /// Checks that the request is legal on the bus.

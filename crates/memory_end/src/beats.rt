@@ -2,7 +2,6 @@
 //! read and write structure.)
 
 ghost use Rattle.std.specs.Prelude.{◌≡◌, ◌*◌, ◌/◌, ◌<◌, ◌≤◌, ◌^◌};
-ghost use Rattle.axi_beats.specs.Bus.{IsBusWidth};
 ghost use Rattle.burst_address.specs.Formulas.{beat_at};
 ghost use Rattle.memory_end.specs.Beats.{all_written, answered_lanes, strobed_status, written_bytes};
 ghost use Rattle.memory_end.specs.MemoryState.{IsMemoryConfig, IsReadEntry, IsRequest};

@@ -1,7 +1,6 @@
 //! `Memory`, seen in clauses as its state and its takes and puts of the round.
 
-ghost use Rattle.std.specs.Prelude.{ℕ, ◌≡◌, ◌<◌, ◌≤◌, ◌+◌, ◌%◌, ◌^◌, [], ◌∷◌, AllPairs, IfOk, length};
-ghost use Rattle.axi_beats.specs.Bus.{IsBusWidth};
+ghost use Rattle.std.specs.Prelude.{◌≡◌, ◌<◌, ◌+◌, [], ◌∷◌, AllPairs, IfOk};
 ghost use Rattle.axi_link.specs.Acted.{opened};
 ghost use Rattle.memory_end.specs.MemoryState.{IsMemoryConfig, memory_byte, new_memory};
 ghost use Rattle.memory_end.specs.MemoryTable.{CanMemory, memory_table};

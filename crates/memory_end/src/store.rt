@@ -1,8 +1,7 @@
 //! `ByteStore`, seen in clauses as the kept lines, their bytes and the fill value.
 
-ghost use Rattle.std.specs.Prelude.{◌≡◌, ◌<◌, ◌≤◌, ◌+◌, ◌%◌, ◌^◌, length, map, fold};
-ghost use Rattle.std.specs.Prelude.{slice_index, slice_set, nat_lt, if◌then◌else◌, AllPairs, IfOk, IfSome};
-ghost use Rattle.std.specs.List.{range_with_len};
+ghost use Rattle.std.specs.Prelude.{◌≡◌, ◌<◌, ◌≤◌, ◌+◌, ◌%◌, ◌^◌, length, fold};
+ghost use Rattle.std.specs.Prelude.{slice_index, slice_set, AllPairs, IfOk, IfSome};
 ghost use Rattle.flight.specs.Entries.{place_of};
 ghost use Rattle.memory_end.specs.Beats.{is_strobed, strobed_lanes, bytes_on, all_written};
 ghost use Rattle.memory_end.specs.Store.{new_store, byte_at, lanes_between, line_of};

@@ -1,11 +1,11 @@
 //! The write channels of a memory in one round: AW, W and B. Data is taken in the order of the
 //! addresses, whatever its transaction. (Arm IHI 0022, relationships between the channels.)
 
-ghost use Rattle.std.specs.Prelude.{◌≡◌, ◌<◌, ◌^◌, ℕ, All, IsTrue, IfSome, is_some, length, option_copied, slice_get};
+ghost use Rattle.std.specs.Prelude.{◌≡◌, ◌<◌, ◌^◌, All, IsTrue, IfSome, is_some, length, option_copied};
 ghost use Rattle.axi_link.specs.Table.{head_of, passing, put_of, take_of};
 ghost use Rattle.burst_address.specs.Formulas.{beat_at};
 ghost use Rattle.memory_end.specs.MemoryState.{IsMemoryConfig, IsWriteEntry};
-ghost use Rattle.memory_end.specs.MemoryTable.{after_aw, after_b, after_w, answer_to, lacks_data};
+ghost use Rattle.memory_end.specs.MemoryTable.{after_aw, after_b, after_w, lacks_data};
 ghost use Rattle.memory_end.specs.MemoryTable.{lacking_place, put_response, store_after, taken_data, with_beat};
 
 use crate::beats::{beat_address, strobed_status, write_beat};

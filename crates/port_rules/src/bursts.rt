@@ -1,5 +1,5 @@
 //! W beats, and the addresses that they belong to, for rules 9 and 10.
-ghost use Rattle.std.specs.Prelude.{◌≡◌, ◌≢◌, ◌+◌, ◌<◌, ◌≤◌, ◌^◌, ◌∷◌, ◌++◌, ◌&&◌, [], true, length, Option, Some, None, IfNone, OnOk, if◌then◌else◌, ℕ};
+ghost use Rattle.std.specs.Prelude.{◌≡◌, ◌≢◌, ◌+◌, ◌<◌, ◌≤◌, ◌∷◌, ◌&&◌, [], true, length, Option, Some, None, IfNone, OnOk, if◌then◌else◌};
 ghost use Rattle.std.specs.List.{list_all};
 ghost use Rattle.std.specs.VecDeque.{deque_len, deque_capacity};
 ghost use Rattle.axi_beats.specs.Bus.{IsBusWidth};

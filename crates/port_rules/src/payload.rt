@@ -1,6 +1,6 @@
 //! What a channel carries, and when it is the same as in the round before, for rules 1 and 2. (Arm IHI
 //! 0022, handshake process.)
-ghost use Rattle.std.specs.Prelude.{◌≡◌, ◌==◌, ◌<◌, ◌&&◌, Bool, length, Option, None};
+ghost use Rattle.std.specs.Prelude.{◌≡◌, ◌==◌, ◌<◌, ◌&&◌, Bool, Option, None};
 ghost use Rattle.axi_history.specs.PortHistory.{offer_of};
 ghost use Rattle.axi_history.specs.PortRules.{same_tag, same_address, same_bytes, same_data, same_response, same_read, handshake_rules, least_broken};
 

@@ -1,6 +1,6 @@
 //! Reads that aren't answered in full, for rules 11 and 12. (Arm IHI 0022, read data channel and
 //! transaction identifiers.)
-ghost use Rattle.std.specs.Prelude.{◌≡◌, ◌+◌, ◌<◌, ◌≤◌, ◌^◌, ◌∷◌, ◌++◌, [], ◌==◌, length, position, Option, None, OnOk, vec_len, vec_capacity, ℕ};
+ghost use Rattle.std.specs.Prelude.{◌≡◌, ◌+◌, ◌<◌, ◌≤◌, ◌^◌, ◌∷◌, ◌++◌, [], ◌==◌, length, position, Option, None, OnOk, vec_len, vec_capacity};
 ghost use Rattle.port_rules.specs.Reads.{left_of, read_fault, read_one, pending};
 
 use axi_beats::NoMemory;

@@ -1,6 +1,6 @@
 //! Writes whose address or whose last W beat was transferred, and that have no response, for rule 11.
 //! (Arm IHI 0022, dependencies between channel handshake signals.)
-ghost use Rattle.std.specs.Prelude.{◌≡◌, ◌+◌, ◌-◌, ◌<◌, ◌≤◌, ◌^◌, ◌∷◌, ◌++◌, [], ◌==◌, length, Option, None, OnOk, if◌then◌else◌, vec_len, vec_capacity, nat_lt, take, drop, position, ℕ};
+ghost use Rattle.std.specs.Prelude.{◌≡◌, ◌+◌, ◌-◌, ◌<◌, ◌≤◌, ◌^◌, ◌∷◌, ◌++◌, [], ◌==◌, length, Option, None, OnOk, if◌then◌else◌, vec_len, vec_capacity, nat_lt, take, drop, position};
 ghost use Rattle.std.specs.VecDeque.{deque_len, deque_capacity};
 ghost use Rattle.port_rules.specs.Kept.{response_fault, without_first};
 

@@ -1,5 +1,5 @@
 //! The first fault of a trace, from what its links break.
-ghost use Rattle.std.specs.Prelude.{◌≡◌, ◌≤◌, ◌<◌, ◌^◌, ℕ, List, None, length, IfOk};
+ghost use Rattle.std.specs.Prelude.{◌≡◌, ◌≤◌, ◌<◌, ℕ, List, None, length, IfOk};
 ghost use Rattle.axi_history.specs.declared.port.PortRound.{PortRound as Round};
 ghost use Rattle.trace_check.specs.Entries.{EntryStands};
 ghost use Rattle.trace_check.specs.Faults.{EntryServes, IsFaultOf, with_link};

@@ -1,15 +1,11 @@
 //! What is kept of a trace while its lines are read: a place for each link up to the greatest one, and the last line.
-ghost use Rattle.std.specs.Prelude.{◌≡◌, ◌≢◌, ◌<◌, ◌≤◌, ◌+◌, ◌∷◌, ◌++◌, ◌^◌, [], ℕ, true, List, Some, None, length, max, option_map, if◌then◌else◌, slice_index_or, vec_len, IfOk, OnOk};
-ghost use Rattle.std.specs.List.{last_or, list_all};
-ghost use Rattle.axi_beats.specs.Bus.{IsBusWidth};
+ghost use Rattle.std.specs.Prelude.{◌≡◌, ◌<◌, ◌+◌, ◌∷◌, ◌++◌, ◌^◌, [], true, List, Some, None, option_map, if◌then◌else◌, IfOk, OnOk};
+ghost use Rattle.std.specs.List.{list_all};
 ghost use Rattle.axi_history.specs.declared.port.PortKind.{PortKind as Kind};
 ghost use Rattle.axi_history.specs.declared.port.PortRound.{PortRound as Round};
 ghost use Rattle.axi_history.specs.PortRules.{or_else};
-ghost use Rattle.port_rules.specs.Checked.{HasSmallAddresses};
 ghost use Rattle.trace_text.specs.Ranges.{IsTraceRound};
 ghost use Rattle.trace_text.specs.Reading.{line_of};
-ghost use Rattle.trace_check.specs.Entries.{EntryFollows, EntryStands, EntryTakes};
-ghost use Rattle.trace_check.specs.Follows.{Follows, HasJudgedTo};
 ghost use Rattle.trace_check.specs.Lines.{agrees_with, comes_after, is_same_port, may_follow, taken_after};
 ghost use Rattle.trace_check.specs.Table.{TableStands, TakesLine, entry_of, place_of};
 

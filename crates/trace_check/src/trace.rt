@@ -1,5 +1,5 @@
 //! The judge of a whole trace.
-ghost use Rattle.std.specs.Prelude.{◌≡◌, ◌≤◌, ◌<◌, ◌^◌, [], ℕ, List, length, IfOk, OnOk};
+ghost use Rattle.std.specs.Prelude.{◌≡◌, ◌≤◌, ◌<◌, ◌^◌, [], List, length, IfOk, OnOk};
 ghost use Rattle.axi_history.specs.declared.port.PortRound.{PortRound as Round};
 ghost use Rattle.trace_check.specs.Histories.{number_of};
 ghost use Rattle.trace_check.specs.Lines.{judged_lines, shown_by};

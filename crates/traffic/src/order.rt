@@ -1,6 +1,6 @@
 //! What lines ask of the managers, and how much it is.
 
-ghost use Rattle.std.specs.Prelude.{◌≡◌, ◌<◌, length, option_map, IfSome};
+ghost use Rattle.std.specs.Prelude.{◌≡◌, ◌<◌, option_map};
 ghost use Rattle.plain_text.specs.Lines.{lines};
 ghost use Rattle.traffic.specs.Orders.{is_too_much, issued, order_of, orders_of};
 ghost use Rattle.traffic.specs.Seen.{order_seen};
