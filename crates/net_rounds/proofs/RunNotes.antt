@@ -22,15 +22,13 @@ use Rattle.net_rounds.specs.Due.{transactions_of}
 use Rattle.net_rounds.specs.Network.{after_rounds, is_finished}
 use Rattle.net_rounds.specs.Right.{IsNotedAnswer, IsNotedIssue, answers_after, issues_after}
 
-
 module _ (script : List ScriptItem) (run : RunFacts script) (n : ℕ) where
   issues-noted : All (IsNotedIssue script n) (run_issues script n)
   issues-noted =
       all-issues script (pair_at script n).manager.state.answers (IsNotedIssue script n) (λ place item at issued.
       let round = (note script n place).issued in
       let noted = issued-in script run place n round refl issued in
-      let There : Issue → Type 0 = λ j. (j.number ≡ item.txn.number) × (j.round ≡ round) in
-      (
+      let There : Issue → Type 0 = λ j. (j.number ≡ item.txn.number) × (j.round ≡ round) in (
         noted.0,
         subst (Any There) (sym (issues-are script round))
             (any-issue script (pair_at script round).manager.state.answers There place item at (note-within script run round place item at) (omega (arith, noted.1, issued)) (refl, noted.1)),
@@ -44,8 +42,7 @@ module _ (script : List ScriptItem) (run : RunFacts script) (n : ℕ) where
       all-answers script (pair_at script n).manager.state.answers (IsNotedAnswer script n) (λ place item at answered.
       let round = (note script n place).answered in
       let noted = answered-in script run place n round refl answered in
-      let There : Answer → Type 0 = λ b. (b.number ≡ item.txn.number) × (b.round ≡ round) in
-      (
+      let There : Answer → Type 0 = λ b. (b.number ≡ item.txn.number) × (b.round ≡ round) in (
         noted.0,
         subst (Any There) (sym (answers-are script round))
             (any-answer script (pair_at script round).manager.state.answers There place item at (note-within script run round place item at) (omega (arith, noted.1, answered)) (refl, noted.1)),
