@@ -4,7 +4,8 @@
 use Rattle.std.specs.Prelude.{◌≡◌, ◌≢◌, ◌==◌, ◌<◌, ◌++◌, ◌∷◌, [], ℕ, List, All, Any, filter, map, take, if◌then◌else◌}
 use Rattle.axi_history.specs.Records.{Byte, Transaction, Event, Issue, Answer, events_of}
 
--- the bytes of an answer: the values that were read, in order, and 0 for a byte that can't be read
+-- the bytes of an answer: the values that were read, in order, and 0 for a byte that can't be read and where no value is
+-- left
 abbrev pub answered_bytes : List Byte → List ℕ → List ℕ
 answered_bytes [] values = []
 answered_bytes (b ∷ more) [] = 0 ∷ answered_bytes more []
@@ -33,24 +34,46 @@ pub record AreInOrder (earlier later : Transaction) : Type 0 where
 abbrev pub of_manager : ℕ → List Transaction → List Transaction
 of_manager manager transactions = filter (λ (t : Transaction). t.manager == manager) transactions
 
+-- a sentence on each two transactions, in both orders
+abbrev pub OfEachTwo : List Transaction → (Transaction → Transaction → Type 0) → Type 0
+OfEachTwo transactions Sentence = All (λ (t : Transaction). All (λ (u : Transaction). Sentence t u) transactions) transactions
+
+-- where the order of two transactions counts, the earlier one is issued before the later one
+abbrev pub AreIssuedInOrder : List Issue → Transaction → Transaction → Type 0
+AreIssuedInOrder issues t u = AreInOrder t u → All (λ (i : Issue). i.number ≡ u.number → IsIssuedBefore issues t.number i.round) issues
+
+-- it is answered before the later one
+abbrev pub AreAnsweredInOrder : List Answer → Transaction → Transaction → Type 0
+AreAnsweredInOrder answers t u = AreInOrder t u → All (λ (a : Answer). a.number ≡ u.number → IsAnsweredBefore answers t.number a.round) answers
+
+-- and behind an access of the later one there is none of it
+abbrev pub AreAccessedInOrder : List Event → Transaction → Transaction → Type 0
+AreAccessedInOrder events t u =
+    AreInOrder t u → (earlier later : List Event) (e : Event) → events ≡ earlier ++ e ∷ later → e.number ≡ u.number →
+    All (λ (x : Event). x.number ≢ t.number) later
+
+-- an answer to the transaction has the values of its accesses, which for a write are not told
+abbrev pub HasItsBytes : List Event → Transaction → Answer → Type 0
+HasItsBytes events t a = a.number ≡ t.number → a.bytes ≡ (if t.write then [] else answered_bytes t.bytes (values_of t.number events))
+
+-- each issue of the transaction comes after the answers to those that it waits for: the first ones of its manager
+abbrev pub WaitsForAnswers : List Transaction → List Issue → List Answer → Transaction → Type 0
+WaitsForAnswers transactions issues answers t =
+    All (λ (i : Issue). i.number ≡ t.number → All (λ (u : Transaction). IsAnsweredBefore answers u.number i.round) (take t.after (of_manager t.manager transactions))) issues
+
 pub record Answered (transactions : List Transaction) (issues : List Issue) (events : List Event) (answers : List Answer) : Type 0 where
   -- no transaction has two answers
   pub once : (front middle back : List Answer) (a b : Answer) → answers ≡ front ++ a ∷ (middle ++ b ∷ back) → a.number ≢ b.number
   -- an answer carries its transaction's response and, for a read, the bytes of its accesses
   pub response : All (λ (a : Answer). Any (λ (t : Transaction). (t.number ≡ a.number) × (a.responses ≡ t.response)) transactions) answers
-  pub bytes :
-      All (λ (t : Transaction). All (λ (a : Answer). a.number ≡ t.number → a.bytes ≡ (if t.write then [] else answered_bytes t.bytes (values_of t.number events))) answers) transactions
+  pub bytes : All (λ (t : Transaction). All (HasItsBytes events t) answers) transactions
   -- issue, accesses, answer: strictly one after the other
   pub issue_before_event : All (λ (e : Event). IsIssuedBefore issues e.number e.round) events
   pub event_before_answer : All (λ (a : Answer). All (λ (e : Event). e.number ≡ a.number → e.round < a.round) events) answers
   pub issue_before_answer : All (λ (a : Answer). IsIssuedBefore issues a.number a.round) answers
   -- of one manager, ID and direction: issues, answers and accesses in order of number
-  pub issues_in_order :
-      All (λ (t : Transaction). All (λ (u : Transaction). AreInOrder t u → All (λ (i : Issue). i.number ≡ u.number → IsIssuedBefore issues t.number i.round) issues) transactions) transactions
-  pub answers_in_order :
-      All (λ (t : Transaction). All (λ (u : Transaction). AreInOrder t u → All (λ (a : Answer). a.number ≡ u.number → IsAnsweredBefore answers t.number a.round) answers) transactions) transactions
-  pub events_in_order :
-      All (λ (t : Transaction). All (λ (u : Transaction). AreInOrder t u → (earlier later : List Event) (e : Event) → events ≡ earlier ++ e ∷ later → e.number ≡ u.number → All (λ (x : Event). x.number ≢ t.number) later) transactions) transactions
+  pub issues_in_order : OfEachTwo transactions (AreIssuedInOrder issues)
+  pub answers_in_order : OfEachTwo transactions (AreAnsweredInOrder answers)
+  pub events_in_order : OfEachTwo transactions (AreAccessedInOrder events)
   -- a transaction is issued after those were answered that it waits for
-  pub waits :
-      All (λ (t : Transaction). All (λ (i : Issue). i.number ≡ t.number → All (λ (u : Transaction). IsAnsweredBefore answers u.number i.round) (take t.after (of_manager t.manager transactions))) issues) transactions
+  pub waits : All (WaitsForAnswers transactions issues answers) transactions

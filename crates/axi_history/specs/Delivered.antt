@@ -1,5 +1,6 @@
--- Delivery: each byte that may be accessed is accessed once, in burst order, at the subordinate that
--- the address names, and a read sees the latest write. (Arm IHI 0022, transaction ordering.)
+-- Delivery: the bytes of a transaction that may be accessed are accessed from the first on, each once, in burst order,
+-- at the subordinate that the address names, and all of them once it is answered; and a read sees the latest write.
+-- (Arm IHI 0022, transaction ordering.)
 use Rattle.std.specs.Prelude.{◌≡◌, ◌==◌, ◌&&◌, ◌++◌, ◌∷◌, [], ℕ, List, Bool, false, Option, Some, None, All, Any, map, if◌then◌else◌}
 use Rattle.axi_history.specs.Records.{Byte, Transaction, Event, Answer, due, events_of}
 

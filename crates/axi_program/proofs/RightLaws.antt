@@ -1,16 +1,56 @@
--- The run of a document that isn't refused is right.
-use Rattle.std.proofs.Common.{◌≡◌, ℕ, List, Some, None}
+-- The run of every document that isn't refused is right.
+use Rattle.std.proofs.Common.{◌≡◌, ℕ, Bool, true, false, cond, not, List, Option, Some, None, nat_lt, length, refl, sym, ◌∙◌}
+use Rattle.std.specs.Option.{option_and_then}
+use Rattle.std.specs.Str.{is_utf8}
 use Rattle.manager_end.specs.Script.{ScriptItem}
 use Rattle.net_rounds.proofs.NodeLawsHold.{node-laws}
 use Rattle.net_rounds.proofs.PortsLegal.{ports-are-legal}
 use Rattle.net_rounds.proofs.RunsRight.{runs-are-right}
 use Rattle.net_rounds.specs.Due.{IsNumberedTraffic}
-use Rattle.axi_program.specs.Call.{RunIsRight}
-use Rattle.axi_program.specs.Document.{refusal_of}
+use Rattle.plain_text.specs.Lines.{lines}
+use Rattle.plain_text.specs.Separator.{begins_with_separator, has_separator}
+use Rattle.traffic.proofs.KnownLemmas.{accepted_suits_all}
+use Rattle.traffic.proofs.RefusalLemmas.{refused}
+use Rattle.traffic.specs.Traffic.{traffic_of}
+use Rattle.traffic.specs.declared.fault.TrafficFault.{TrafficFault}
+use Rattle.traffic.specs.declared.fault.TrafficFault.TheVariants.{BadLine, UnknownManager, BadId, IllegalBurst, TooMuchTraffic, NoMemory}
+use Rattle.axi_program.proofs.ScriptLaws.{numbered-traffic}
+use Rattle.axi_program.specs.Call.{DocumentsRunRight, RunIsRight}
+use Rattle.axi_program.specs.Document.{input_limit, refusal_of, script_of_input, traffic_lines}
+use Rattle.axi_program.specs.Refusals.{input_too_long, no_separator, not_built, not_text, traffic_refusal}
+use Rattle.axi_program.specs.Traffic.{built_in_manager, built_in_managers, fault_of}
 use Rattle.axi_program.specs.declared.status.Refusal.{Refusal}
 
-pub run-is-right : (script : List ScriptItem) → IsNumberedTraffic script → RunIsRight script
+run-is-right : (script : List ScriptItem) → IsNumberedTraffic script → RunIsRight script
 run-is-right script traffic rounds = (runs-are-right node-laws script traffic rounds, ports-are-legal node-laws script traffic rounds)
 
-pub never-accepted : (input : List ℕ) (refusal : Refusal) (P : Type 0) → refusal_of input ≡ Some refusal → refusal_of input ≡ None → P
-never-accepted input refusal P refused accepted = absurd (cc)
+-- an input that isn't refused passes each test before its traffic
+passed : (over text some first : Bool) (o : Option Refusal) →
+    cond over (Some input_too_long) (cond (not text) (Some not_text) (cond (not some) (Some no_separator) (cond (not first) (Some (not_built 0)) o))) ≡ None → o ≡ None
+passed true text some first o e = absurd (cc)
+passed false false some first o e = absurd (cc)
+passed false true false first o e = absurd (cc)
+passed false true true false o e = absurd (cc)
+passed false true true true o e = e
+
+-- and its traffic isn't refused, since want of memory is no refusal
+unrefused : (traffic : List (List ℕ)) (o : Option TrafficFault) → fault_of traffic ≡ o → option_and_then traffic_refusal o ≡ None → o ≡ None
+unrefused traffic None is e = refl
+unrefused traffic (Some (BadLine line)) is e = absurd (cc)
+unrefused traffic (Some (UnknownManager line)) is e = absurd (cc)
+unrefused traffic (Some (BadId line)) is e = absurd (cc)
+unrefused traffic (Some (IllegalBurst line rule)) is e = absurd (cc)
+unrefused traffic (Some TooMuchTraffic) is e = absurd (cc)
+unrefused traffic (Some NoMemory) is e = sym is ∙ refused built_in_managers traffic NoMemory is
+
+accepted-traffic : (input : List ℕ) → refusal_of input ≡ None → fault_of (traffic_lines input) ≡ None
+accepted-traffic input accepted =
+    let traffic = traffic_lines input in
+    unrefused traffic (fault_of traffic) refl
+    (passed (nat_lt input_limit (length input)) (is_utf8 input) (has_separator (lines input)) (begins_with_separator (lines input)) (option_and_then traffic_refusal (fault_of traffic)) accepted)
+
+pub documents-run-right : DocumentsRunRight
+documents-run-right input accepted =
+    let traffic = traffic_lines input in
+    run-is-right (script_of_input input)
+    (numbered-traffic built_in_manager (record { name = refl; bus = refl; id_width = refl }) (traffic_of built_in_managers traffic) (accepted_suits_all built_in_managers traffic (accepted-traffic input accepted)))

@@ -13,14 +13,15 @@ use Rattle.manager_end.specs.ManagerState.{ManagerState, answered_one, is_answer
 use Rattle.manager_end.specs.Script.{CanPush, IsScript, ScriptItem}
 use Rattle.manager_end.specs.declared.script.Txn.{Txn}
 use Rattle.net_rounds.proofs.NetworkLemmas.{after_rounds-built_in, built_in_pair, pair_after-script}
-use Rattle.net_rounds.specs.BuiltIn.{bound, built_in, first_manager, script_of}
+use Rattle.net_rounds.specs.BuiltIn.{bound, built_in, first_manager, script_of_manager}
 use Rattle.net_rounds.specs.NetView.{NetView}
 use Rattle.net_rounds.specs.Network.{Network, after_rounds, is_finished}
 use Rattle.net_rounds.specs.Notes.{AreNotes}
 use Rattle.net_rounds.specs.Run.{run_length}
 use Rattle.axi_program.proofs.TextLaws.{answer_lines-next}
 use Rattle.axi_program.specs.Faults.{Rose}
-use Rattle.axi_program.specs.Outcome.{Answers, Stalls, line_at, noted_answers, parting, run_end, run_outcome, run_rounds, text_of, text_of_net, traced}
+use Rattle.axi_program.specs.Outcome.{Answers, Stalls, noted_answers, parting, run_end, run_outcome, run_rounds, text_of, traced}
+use Rattle.axi_program.specs.Pieces.{line_at, text_of_net}
 use Rattle.axi_program.specs.Text.{answer_lines, rounds_line, run_text}
 use Rattle.trace_text.specs.AnswerLine.{answer_line}
 use Rattle.axi_program.specs.Trace.{HasRun, traced_by}
@@ -148,10 +149,10 @@ on-err-map (Err e) P Q step holds = step holds
 -- the text of a network by its manager
 pub text-by_manager : (net : NetView) (s : ManagerState) → first_manager net.network.nodes ≡ Some s → text_of_net net ≡ answer_lines s.script s.answers ++ rounds_line net.rounds
 unfolding text_of_net noted_answers
-text-by_manager net s is = ap (λ (o : Option ManagerState). answer_lines (script_of o) (option_map_or (λ state. state.answers) o []) ++ rounds_line net.rounds) is
+text-by_manager net s is = ap (λ (o : Option ManagerState). answer_lines (script_of_manager o) (option_map_or (λ state. state.answers) o []) ++ rounds_line net.rounds) is
 
-run-script : (script : List ScriptItem) (n : ℕ) → script_of (first_manager (after_rounds n (built_in script)).nodes) ≡ script
-run-script script n = ap (λ net. script_of (first_manager net.nodes)) (after_rounds-built_in script n) ∙ pair_after-script (built_in_pair script) n
+run-script : (script : List ScriptItem) (n : ℕ) → script_of_manager (first_manager (after_rounds n (built_in script)).nodes) ≡ script
+run-script script n = ap (λ net. script_of_manager (first_manager net.nodes)) (after_rounds-built_in script n) ∙ pair_after-script (built_in_pair script) n
 
 -- the network of a script before its run
 abbrev pub built : List ScriptItem → NetView
@@ -170,10 +171,10 @@ run-text : (script : List ScriptItem) (net : NetView) → HasRun (built script) 
 unfolding run_rounds text_of_net
 run-text script net has =
     let same = run-end script net has in
-    let own : script_of (first_manager net.network.nodes) ≡ script = ap (λ (now : Network). script_of (first_manager now.nodes)) has.network ∙ run-script script net.rounds in
+    let own : script_of_manager (first_manager net.network.nodes) ≡ script = ap (λ (now : Network). script_of_manager (first_manager now.nodes)) has.network ∙ run-script script net.rounds in
     ap (λ (s : List ScriptItem). run_text s (noted_answers (run_end script)) (run_length (built_in script) (bound script))) (sym own)
-    ∙ ap (λ (now : Network). run_text (script_of (first_manager net.network.nodes)) (noted_answers now) (run_length (built_in script) (bound script))) (sym same)
-    ∙ ap (λ (n : ℕ). run_text (script_of (first_manager net.network.nodes)) (noted_answers net.network) n) (sym has.rounds)
+    ∙ ap (λ (now : Network). run_text (script_of_manager (first_manager net.network.nodes)) (noted_answers now) (run_length (built_in script) (bound script))) (sym same)
+    ∙ ap (λ (n : ℕ). run_text (script_of_manager (first_manager net.network.nodes)) (noted_answers net.network) n) (sym has.rounds)
 
 pub outcome-answers :
     (trace : Bool) (script : List ScriptItem) (net : NetView) → HasRun (built script) net → is_finished net.network ≡ true →

@@ -9,7 +9,6 @@ use Rattle.axi_program.specs.Outcome.{Concludes, input_outcome, status_of}
 use Rattle.axi_program.specs.Refusals.{input_too_long}
 use Rattle.axi_program.specs.declared.status.Status.{Status}
 use Rattle.axi_program.specs.declared.words.Command.{Command}
-use Rattle.axi_program.specs.declared.words.Command.TheVariants.{Check, Run}
 use Rattle.axi_program.specs.declared.status.Status.TheVariants.{Done, Usage, Refused, Broken, ReadFault, WriteFault, NoMemory, Unfinished}
 
 module _ {S K : Type 0} (command : Option Command) (left : S → Option (List ℕ)) (reading : S → ℕ) (written : K → Option (List ℕ)) (writing : K → ℕ) (source source' : S) (sink sink' : K) where
@@ -54,12 +53,11 @@ module _ {S : Type 0} (left : S → Option (List ℕ)) (source source' : S) wher
 abbrev pub IsComplete : Option Command → Option (List ℕ) → Status → Type 0
 IsComplete command left status = (status ≡ NoMemory) ⊎ IfSome command (λ asked. IfSome left (λ input. status ≡ status_of (input_outcome asked input)))
 
--- The run of a script is right after any number of rounds: what was asked was done, once and in order, and answered with
--- the right bytes; and every port kept the rules of AXI4.
+-- The run of a script is right after any number of rounds: what was done of what was asked was done once and in order,
+-- and answered with the right bytes, and all of it once the network is finished; and every port kept the rules of AXI4.
 abbrev pub RunIsRight : List ScriptItem → Type 0
 RunIsRight script = (rounds : ℕ) → IsRight script rounds × PortsLegal script rounds
 
 -- so is the run of every document that isn't refused
-abbrev pub IsRightRun : Command → List ℕ → Type 0
-IsRightRun (Run trace) input = refusal_of input ≡ None → RunIsRight (script_of_input input)
-IsRightRun Check input = Unit {0}
+abbrev pub DocumentsRunRight : Type 0
+DocumentsRunRight = (input : List ℕ) → refusal_of input ≡ None → RunIsRight (script_of_input input)

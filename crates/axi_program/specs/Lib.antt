@@ -10,4 +10,5 @@ pub mod Text
 pub mod Words
 pub mod Trace
 pub mod Outcome
+pub mod Pieces
 pub mod Call

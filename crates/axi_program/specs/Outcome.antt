@@ -1,11 +1,10 @@
 -- What an input comes to, and what a call that writes it has written.
-use Rattle.std.specs.Prelude.{◌≡◌, ◌++◌, ℕ, [], List, Bool, true, false, Option, Some, None, codes, drop, length, nat_lt, not, take, if◌then◌else◌}
+use Rattle.std.specs.Prelude.{◌≡◌, ◌++◌, ℕ, [], List, Bool, true, false, Option, Some, None, codes, length, nat_lt, not, if◌then◌else◌}
 use Rattle.std.specs.Option.{option_map_or}
 use Rattle.std.specs.Io.KnownBytes.{Appends}
 use Rattle.manager_end.specs.Answer.{AnswerView}
 use Rattle.manager_end.specs.Script.{ScriptItem}
-use Rattle.net_rounds.specs.BuiltIn.{bound, built_in, first_manager, script_of}
-use Rattle.net_rounds.specs.NetView.{NetView}
+use Rattle.net_rounds.specs.BuiltIn.{bound, built_in, first_manager}
 use Rattle.net_rounds.specs.Network.{Network, after_rounds, is_finished}
 use Rattle.net_rounds.specs.Run.{run_length}
 use Rattle.axi_program.specs.Document.{input_limit, refusal_of, script_of_input}
@@ -16,7 +15,7 @@ use Rattle.trace_check.specs.declared.verdict.Verdict.{Verdict}
 use Rattle.trace_check.specs.declared.verdict.Verdict.TheVariants.{BadTraceLine, Broken, Legal, NotBuilt}
 use Rattle.std.specs.Str.{is_utf8}
 use Rattle.axi_program.specs.Faults.{Rose}
-use Rattle.axi_program.specs.Text.{answer_lines, broken_line, legal_line, refusal_line, run_text}
+use Rattle.axi_program.specs.Text.{broken_line, legal_line, refusal_line, run_text}
 use Rattle.axi_program.specs.Trace.{trace_lines}
 use Rattle.axi_program.specs.Transfers.{AppendsPrefix}
 use Rattle.axi_program.specs.declared.status.Refusal.{Refusal}
@@ -115,11 +114,3 @@ module _ {K : Type 0} (written : K → Option (List ℕ)) (faults : K → ℕ) (
   Concludes WriteFault = Rose (faults before) (faults after) × AppendsPrefix (written before) (written after) (text_of outcome)
   Concludes NoMemory = after ≡ before
   Concludes Unfinished = (Unfinished ≡ status_of outcome) × Appends (written before) (written after) (text_of outcome)
-
--- the line of the answer at a place
-unfoldable pub line_at : List ScriptItem → List AnswerView → ℕ → List ℕ
-line_at script answers place = answer_lines (take 1 (drop place script)) (take 1 (drop place answers))
-
--- the text of a network that answered everything
-unfoldable pub text_of_net : NetView → List ℕ
-text_of_net net = run_text (script_of (first_manager net.network.nodes)) (noted_answers net.network) net.rounds

@@ -22,7 +22,7 @@ no_separator = record { code = 3; place = 0; rule = 0 }
 abbrev pub bad_line : ℕ → Refusal
 bad_line line = record { code = 17; place = line; rule = 0 }
 
--- the traffic line with this number names no manager
+-- the traffic line with this number names a manager that isn't there
 abbrev pub unknown_manager : ℕ → Refusal
 unknown_manager line = record { code = 18; place = line; rule = 0 }
 

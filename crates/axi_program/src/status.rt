@@ -32,7 +32,7 @@ impl Refusal {
     /// The code of a line of traffic that is of none of the forms.
     pub const BAD_LINE: u8 = 17;
 
-    /// The code of a line of traffic that names no manager.
+    /// The code of a line of traffic that names a manager that isn't there.
     pub const UNKNOWN_MANAGER: u8 = 18;
 
     /// The code of a line of traffic whose ID is too large for its manager.
@@ -84,7 +84,7 @@ impl Refusal {
         }
     }
 
-    /// The line of traffic with this number names no manager.
+    /// The line of traffic with this number names a manager that isn't there.
     pub fn unknown_manager(line: u32) -> Refusal
         ensures { result ≡ unknown_manager line }
     {

@@ -1,7 +1,7 @@
 //! The top call: it takes the words, reads the input, and writes what the input comes to.
 
-ghost use Rattle.std.specs.Prelude.{◌≡◌, ◌≢◌, ◌≤◌, map, string_bytes, length, IfSome, Some, None};
-ghost use Rattle.axi_program.specs.Call.{IsComplete, IsRightRun, ReadsWhole, Tells};
+ghost use Rattle.std.specs.Prelude.{◌≡◌, ◌≤◌, map, string_bytes, length, None};
+ghost use Rattle.axi_program.specs.Call.{DocumentsRunRight, IsComplete, ReadsWhole, Tells};
 ghost use Rattle.axi_program.specs.Faults.{Rose};
 ghost use Rattle.axi_program.specs.Outcome.{Concludes, document_outcome, input_outcome};
 ghost use Rattle.axi_program.specs.Words.{command_of as command_by};
@@ -24,9 +24,9 @@ use std::alloc::Global;
 /// program's name and `check`: then the source holds a trace, whose ports are judged. The gate is
 /// for the parts of a phase, which are done one after the other today.
 ///
-/// The order of causes: the words, reading, the refusals in their order, memory, writing. Of the
-/// refusals of a document the codes 1, 2, 3 and 23 come first, and then 17 to 21; of those of a trace
-/// 1, 2, 22 and 23.
+/// The order of causes: the words, reading, the refusals in their order, writing; want of memory may
+/// come in place of any but the first. Of the refusals of a document the codes 1, 2, 3 and 23 come
+/// first, and then 17 to 21; of those of a trace 1, 2, 22 and 23.
 pub fn axinet<S: Source, K: Sink, G: Gate>(
     alloc: Global,
     words: &[String],
@@ -43,12 +43,13 @@ pub fn axinet<S: Source, K: Sink, G: Gate>(
         source.old source.new sink.old sink.new result }
     ensures reads_whole { ReadsWhole S.left source.old source.new result }
 
-    // The run of a document that isn't refused is right, after any number of rounds: the bytes that
+    // The run of every document that isn't refused is right, after any number of rounds: the bytes that
     // may be accessed are accessed at the memory from the first on, each once, in burst order, and all
     // of them where their transaction is answered; it is answered at most once, with the bytes that
-    // were read and the defined response, in order; and every port keeps the rules of AXI4.
-    ensures right { result ≢ Status.NoMemory → result ≢ Status.ReadFault →
-        IfSome (command_by (map string_bytes words.now)) (λ asked. IfSome (S.left source.old) (IsRightRun asked)) }
+    // were read and the defined response, in order, and in the round that is told; all transactions are
+    // answered once the network is finished; and every port keeps the rules of AXI4. `tells` says that
+    // what is written is the text of that run.
+    ensures right { DocumentsRunRight }
 
     // Where the words name a command and no count of faults rises, the status is that of the
     // input's outcome, or memory was wanting.
@@ -75,7 +76,6 @@ pub fn axinet<S: Source, K: Sink, G: Gate>(
 fn heed<K: Sink>(alloc: Global, command: Command, input: &[u8], sink: &mut K) -> Status
     requires { length input.now ≤ INPUT_LIMIT }
     ensures concludes { Concludes K.written K.faults (input_outcome command input.now) sink.old sink.new result }
-    ensures right { result ≢ Status.NoMemory → IsRightRun command input.now }
     ensures count { K.faults sink.old ≤ K.faults sink.new }
 {
     match command {
@@ -88,7 +88,6 @@ fn heed<K: Sink>(alloc: Global, command: Command, input: &[u8], sink: &mut K) ->
 fn heed_document<K: Sink>(alloc: Global, trace: bool, input: &[u8], sink: &mut K) -> Status
     requires { length input.now ≤ INPUT_LIMIT }
     ensures concludes { Concludes K.written K.faults (document_outcome trace input.now) sink.old sink.new result }
-    ensures right { result ≢ Status.NoMemory → IsRightRun (Command.Run trace) input.now }
     ensures count { K.faults sink.old ≤ K.faults sink.new }
 {
     match read_document(alloc, input) {

@@ -29,6 +29,7 @@ pub mod RunFacts
 pub mod RunHistory
 pub mod RunKeeps
 pub mod RunLemmas
+pub mod RunNotes
 pub mod RunRounds
 pub mod RunSteps
 pub mod RunsRight

@@ -24,7 +24,7 @@ use Rattle.net_rounds.proofs.NotesLemmas.{FewNotes, few-begins, notes-are}
 use Rattle.net_rounds.proofs.Pair.{Pair, decided, moved, pair_after}
 use Rattle.net_rounds.proofs.PairLemmas.{PairHolds, can-manager, can-memory, pair-holds}
 use Rattle.net_rounds.proofs.TouchedLemmas.{touched-ascending, touched-kept}
-use Rattle.net_rounds.specs.BuiltIn.{IsTraffic, bound, built_in, first_manager, ram, script_of, touched_lines}
+use Rattle.net_rounds.specs.BuiltIn.{IsTraffic, bound, built_in, first_manager, ram, script_of_manager, touched_lines}
 use Rattle.net_rounds.specs.NetView.{IsNet, NetView, standing}
 use Rattle.net_rounds.specs.Network.{CanLink, Network, after_commit, after_decide, after_rounds, link_moved}
 use Rattle.net_rounds.specs.declared.ends.Ends.{Ends}
@@ -107,7 +107,7 @@ standing-script script true rounds = pair_after-script (built_in_pair script) (s
 -- a network that runs is that of a pair for which all this holds
 module _ (v : NetView) (is : IsNet v) where
   abbrev own_script : List ScriptItem
-  own_script = script_of (first_manager v.network.nodes)
+  own_script = script_of_manager (first_manager v.network.nodes)
 
   stood : Pair
   stood = standing_pair v.decided v.rounds (built_in_pair own_script)
@@ -134,8 +134,8 @@ module _ (v : NetView) (is : IsNet v) where
       subst (λ (net : Network). AllNumbered (CanLink net.ends net.nodes) 0 net.links) (sym same) (pair-can-commit p v.rounds (rounds-hold own_script is.traffic v.rounds))
 
   -- the script is that of each state of the run
-  script-of : (b : Bool) (rounds : ℕ) → script_of (first_manager (standing b rounds (built_in own_script)).nodes) ≡ own_script
-  script-of b rounds = ap (λ (net : Network). script_of (first_manager net.nodes)) (standing-network own_script b rounds) ∙ standing-script own_script b rounds
+  script-of : (b : Bool) (rounds : ℕ) → script_of_manager (first_manager (standing b rounds (built_in own_script)).nodes) ≡ own_script
+  script-of b rounds = ap (λ (net : Network). script_of_manager (first_manager net.nodes)) (standing-network own_script b rounds) ∙ standing-script own_script b rounds
 
   -- it is a network that runs at each state of its run
   pub net-stands : (b : Bool) (rounds : ℕ) → rounds < 2 ^ 63 → (b ≡ true → rounds < 2 ^ 63 - 1) → IsNet (record { network = standing b rounds (built_in own_script); rounds = rounds; decided = b; most = v.most })

@@ -39,7 +39,18 @@ module _ (script : List ScriptItem) (run : RunFacts script) where
             ap (λ (m : ℕ). (note script m place).issued) (sym same)
       ]
 
-  -- the round of an answer is the one in which it is noted
+  -- the round of an issue is the one in which it is noted
+  pub issued-in : (place n r : ℕ) → (note script n place).issued ≡ r → 0 < r → (r ≤ n) × ((note script r place).issued ≡ r)
+  issued-in place zero r is some = absurd (let past = (run.keeps 0).manager.in_order.issues_past place in omega arith)
+  issued-in place (suc n) r is some =
+      elim (run.notes n place).issued [
+        | inl same ↦ let earlier = issued-in place n r (sym same ∙ is) some in (omega (arith, earlier.0), earlier.1)
+        | inr new ↦
+            let now : suc n ≡ r = sym new.1 ∙ is in
+            (omega arith, ap (λ (m : ℕ). (note script m place).issued) (sym now) ∙ is)
+      ]
+
+  -- and so is that of an answer
   pub answered-in : (place n r : ℕ) → (note script n place).answered ≡ r → 0 < r → (r ≤ n) × ((note script r place).answered ≡ r)
   answered-in place zero r is some = absurd (let past = (run.keeps 0).manager.in_order.answers_past place in omega arith)
   answered-in place (suc n) r is some =

@@ -70,6 +70,6 @@ first_manager (Manager m ∷ more) = Some m.state
 first_manager (Memory m ∷ more) = first_manager more
 
 -- its script
-abbrev pub script_of : Option ManagerState → List ScriptItem
-script_of None = []
-script_of (Some state) = state.script
+abbrev pub script_of_manager : Option ManagerState → List ScriptItem
+script_of_manager None = []
+script_of_manager (Some state) = state.script

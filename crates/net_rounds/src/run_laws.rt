@@ -16,7 +16,8 @@ pub fn runs_are_least()
 /// is answered; a read saw what the latest write before it wrote, else 0. Each transaction was answered
 /// at most once, after its accesses, which came after its issue; with its response and the bytes that
 /// were read. Transactions of one ID and direction kept their order, and each waited for what it was to
-/// wait for. (Arm IHI 0022, ordering model.)
+/// wait for. Issues and answers name the rounds in which they were noted, and once the network is
+/// finished every transaction is answered. (Arm IHI 0022, ordering model.)
 pub fn runs_are_right()
     ensures { RunsAreRight }
 {}

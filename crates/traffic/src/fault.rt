@@ -19,7 +19,7 @@ use plain_text::lines::next_line;
 pub enum TrafficFault {
     /// Code 17: the line is of none of the forms.
     BadLine(u32),
-    /// Code 18: the line names no manager.
+    /// Code 18: the line names a manager that isn't there.
     UnknownManager(u32),
     /// Code 19: the ID is too large for the manager's ID width.
     BadId(u32),

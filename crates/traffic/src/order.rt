@@ -24,7 +24,8 @@ pub(crate) enum TextOrder<'a> {
     Issue(usize, TextAccess<'a>),
 }
 
-/// What the line asks, or `None` where it asks nothing, is of none of the forms or names no manager.
+/// What the line asks, or `None` where it asks nothing, is of none of the forms or names a manager that
+/// isn't there.
 #[tactic(auto, unfolding(crate::specs::Orders::order_of))]
 pub(crate) fn read_order<'a>(line: &'a [u8], managers: &[ManagerPort<'_>]) -> Option<TextOrder<'a>>
     ensures { option_map order_seen result ≡ order_of managers.now line.now }

@@ -4,7 +4,8 @@ use Rattle.std.proofs.KnownBytes.{Appends-trans}
 use Rattle.manager_end.specs.Script.{ScriptItem}
 use Rattle.net_rounds.specs.NetView.{NetView}
 use Rattle.axi_program.proofs.RunLaws.{Rose-later, built, has-run, outcome-answers, outcome-stalls, outcome-traces, prefix-later, prefix-whole, traced-is}
-use Rattle.axi_program.specs.Outcome.{parting, run_outcome, status_of, text_of, text_of_net, traced}
+use Rattle.axi_program.specs.Outcome.{parting, run_outcome, status_of, text_of, traced}
+use Rattle.axi_program.specs.Pieces.{text_of_net}
 use Rattle.axi_program.specs.Trace.{traced_by}
 use Rattle.axi_program.specs.Transfers.{AppendsPrefix}
 use Rattle.axi_program.proofs.run.run.Goals as goal

@@ -2,7 +2,7 @@ use Rattle.std.proofs.Common.{◌≡◌, ◌<◌, ◌+◌, ◌++◌, ℕ, List, 
 use Rattle.std.specs.Io.KnownBytes.{Appends}
 use Rattle.std.proofs.KnownBytes.{Appends-trans}
 use Rattle.axi_program.proofs.RunLaws.{lines-front, lines-next, on-err, prefix-later}
-use Rattle.axi_program.specs.Outcome.{line_at}
+use Rattle.axi_program.specs.Pieces.{line_at}
 use Rattle.axi_program.specs.Text.{answer_lines}
 use Rattle.axi_program.specs.Transfers.{AppendsPrefix}
 use Rattle.axi_program.proofs.run.write_answers.Goals as goal

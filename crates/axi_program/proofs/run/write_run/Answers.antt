@@ -1,6 +1,7 @@
 use Rattle.std.proofs.Common.{◌++◌, [], append-nil, sym}
 use Rattle.axi_program.proofs.RunLaws.{on-err-map, prefix-later}
-use Rattle.axi_program.specs.Outcome.{parting, text_of_net}
+use Rattle.axi_program.specs.Outcome.{parting}
+use Rattle.axi_program.specs.Pieces.{text_of_net}
 use Rattle.axi_program.specs.Transfers.{AppendsPrefix}
 use Rattle.axi_program.proofs.run.write_run.Goals as goal
 

@@ -2,7 +2,7 @@ use Rattle.std.proofs.Common.{◌≡◌, ◌++◌, [], ℕ, List, append-nil, sy
 use Rattle.std.specs.Io.KnownBytes.{Appends}
 use Rattle.std.proofs.KnownBytes.{Appends-trans}
 use Rattle.axi_program.proofs.RunLaws.{on-err, on-err-map, on-ok-map, prefix-later, prefix-whole, text-by_manager}
-use Rattle.axi_program.specs.Outcome.{text_of_net}
+use Rattle.axi_program.specs.Pieces.{text_of_net}
 use Rattle.axi_program.specs.Text.{answer_lines, rounds_line}
 use Rattle.axi_program.specs.Transfers.{AppendsPrefix}
 use Rattle.axi_program.proofs.run.write_text.Goals as goal

@@ -1,6 +1,7 @@
 use Rattle.std.proofs.Common.{◌≡◌, Err, Some, sym, ap, subst, ◌∙◌}
 use Rattle.std.specs.Prelude.{map, string_bytes}
 use Rattle.axi_program.proofs.CallLaws.{complete-by, never-usage, over-outcome, over-reads, tells-by}
+use Rattle.axi_program.proofs.RightLaws.{documents-run-right}
 use Rattle.axi_program.specs.Call.{Tells}
 use Rattle.axi_program.specs.Outcome.{Concludes, Refuses}
 use Rattle.axi_program.specs.Refusals.{input_too_long}
@@ -42,3 +43,20 @@ returns-in-Err-TooLong-clause-complete g c =
     complete-by asked g.S.Source.left g.S.Source.faults g.K.Sink.written g.K.Sink.faults c.args.source.now c.read_all.new.source c.args.sink.now c.refuse.new.sink c.refuse.result (tells-over g c)
     (λ used. absurd (never-usage asked g.S.Source.left g.S.Source.faults g.K.Sink.written g.K.Sink.faults c.args.source.now c.read_all.new.source c.args.sink.now c.refuse.new.sink (Refuses input_too_long) c.refuse.result (concludes-over g c) used))
     reads writes
+
+-- the law speaks of documents, whatever the call answers
+
+pub returns-in-None-clause-right : goal.returns-in-None-clause-right
+returns-in-None-clause-right g c = documents-run-right
+
+pub returns-in-Ok-clause-right : goal.returns-in-Ok-clause-right
+returns-in-Ok-clause-right g c = documents-run-right
+
+pub returns-in-Err-TooLong-clause-right : goal.returns-in-Err-TooLong-clause-right
+returns-in-Err-TooLong-clause-right g c = documents-run-right
+
+pub returns-in-Err-ReadFault-clause-right : goal.returns-in-Err-ReadFault-clause-right
+returns-in-Err-ReadFault-clause-right g c = documents-run-right
+
+pub returns-in-Err-NoMemory-clause-right : goal.returns-in-Err-NoMemory-clause-right
+returns-in-Err-NoMemory-clause-right g c = documents-run-right

@@ -1,6 +1,5 @@
 use Rattle.std.proofs.Common.{sym, ap, subst, ◌∙◌}
 use Rattle.axi_program.proofs.CallLaws.{checks, runs}
-use Rattle.axi_program.specs.Call.{IsRightRun}
 use Rattle.axi_program.specs.Outcome.{Concludes, Outcome, input_outcome}
 use Rattle.axi_program.specs.declared.words.Command.{Command}
 use Rattle.axi_program.proofs.top.heed.Goals as goal
@@ -14,6 +13,3 @@ pub returns-in-Check-clause-concludes : goal.returns-in-Check-clause-concludes
 returns-in-Check-clause-concludes g c =
     subst (λ (o : Outcome). Concludes g.K.Sink.written g.K.Sink.faults o c.args.sink.now c.check.new.sink c.check.result)
     (checks c.args.input.now ∙ ap (λ (asked : Command). input_outcome asked c.args.input.now) (sym c.in-Check.is)) c.check.ensures.concludes
-
-pub returns-in-Run-clause-right : goal.returns-in-Run-clause-right
-returns-in-Run-clause-right g c = λ there. subst (λ (asked : Command). IsRightRun asked c.args.input.now) (sym c.in-Run.is) (c.heed_document.ensures.right there)
