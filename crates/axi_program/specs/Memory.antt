@@ -5,32 +5,32 @@ use Rattle.axi_program.specs.Faults.{next_count}
 
 -- the numbers of the calls that are to fail, the first call being number 1, how many were made, and how many failed;
 -- both counts stand still at the largest `u64`
-pub record Plan : Type 0 where
+pub record CallFaultsView : Type 0 where
   pub failing : List ℕ
   pub calls : ℕ
   pub faults : ℕ
 
 -- no call was made
-abbrev pub new_plan : List ℕ → Plan
-new_plan failing = record { failing = failing; calls = 0; faults = 0 }
+abbrev pub new_call_faults : List ℕ → CallFaultsView
+new_call_faults failing = record { failing = failing; calls = 0; faults = 0 }
 
 -- the next call is one that is to fail; a call past the largest `u64` has a number that nothing names
-abbrev pub is_due : Plan → Bool
-is_due plan = nat_lt plan.calls (2 ^ 64 - 1) && list_any (λ number. number == plan.calls + 1) plan.failing
+abbrev pub is_due : CallFaultsView → Bool
+is_due call_faults = nat_lt call_faults.calls (2 ^ 64 - 1) && list_any (λ number. number == call_faults.calls + 1) call_faults.failing
 
 -- one more call, and whether it failed
-abbrev pub after_call : Plan → Bool → Plan
-after_call plan fails = record {
-  failing = plan.failing;
-  calls = next_count plan.calls;
-  faults = if fails then next_count plan.faults else plan.faults;
+abbrev pub after_call : CallFaultsView → Bool → CallFaultsView
+after_call call_faults fails = record {
+  failing = call_faults.failing;
+  calls = next_count call_faults.calls;
+  faults = if fails then next_count call_faults.faults else call_faults.faults;
 }
 
 -- the bytes still to come, the most that one read moves, and the calls
 pub record Input : Type 0 where
   pub left : List ℕ
   pub most : ℕ
-  pub plan : Plan
+  pub call_faults : CallFaultsView
 
 -- how many bytes a read that doesn't fail moves into a buffer of so many bytes
 abbrev pub read_count : Input → ℕ → ℕ
@@ -39,9 +39,9 @@ read_count input room = min (min input.most room) (length input.left)
 -- the input after a read into a buffer of so many bytes
 abbrev pub after_read : Input → ℕ → Input
 after_read input room = record {
-  left = if is_due input.plan then input.left else drop (read_count input room) input.left;
+  left = if is_due input.call_faults then input.left else drop (read_count input room) input.left;
   most = input.most;
-  plan = after_call input.plan (is_due input.plan);
+  call_faults = after_call input.call_faults (is_due input.call_faults);
 }
 
 -- one read moves at least a byte, and the next one is not past the end
@@ -54,7 +54,7 @@ pub record Output : Type 0 where
   pub written : List ℕ
   pub capacity : ℕ
   pub most : ℕ
-  pub plan : Plan
+  pub call_faults : CallFaultsView
 
 -- one write takes at least a byte, and memory was set aside for the whole capacity
 pub record IsReserved (most written capacity reserved : ℕ) : Type 0 where
@@ -64,7 +64,7 @@ pub record IsReserved (most written capacity reserved : ℕ) : Type 0 where
 
 -- the next write fails: it is one that is to fail, or no byte is free
 abbrev pub write_fails : Output → Bool
-write_fails output = is_due output.plan || nat_le output.capacity (length output.written)
+write_fails output = is_due output.call_faults || nat_le output.capacity (length output.written)
 
 -- how many bytes a write that doesn't fail takes of a piece of so many bytes
 abbrev pub write_count : Output → ℕ → ℕ
@@ -76,5 +76,5 @@ after_write output piece = record {
   written = if write_fails output then output.written else output.written ++ take (write_count output (length piece)) piece;
   capacity = output.capacity;
   most = output.most;
-  plan = after_call output.plan (write_fails output);
+  call_faults = after_call output.call_faults (write_fails output);
 }

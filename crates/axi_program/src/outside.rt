@@ -3,7 +3,7 @@
 pub mod gate;
 pub mod memory_sink;
 pub mod memory_source;
-mod planned_faults;
+mod call_faults;
 pub mod read_all;
 pub mod sink;
 pub mod source;

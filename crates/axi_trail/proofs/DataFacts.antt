@@ -66,7 +66,7 @@ single_beats t addresses =
     ∙ sym (ap length (own_writes t addresses) ∙ length-map (of_key number_of_address t addresses) write_asked)
 
 pub answered_have_their_data : AnsweredHaveTheirData
-answered_have_their_data plan now trail asks answers t =
+answered_have_their_data schedule now trail asks answers t =
     let front : IsPrefix (completed trail.aw (data_marks trail)) trail.aw = prefix_first (length (filter (λ (m : Mark). m.last) (data_marks trail))) trail.aw in
     let own_front : IsPrefix (of_key number_of_asked t (map burst_asked (completed trail.aw (data_marks trail)))) (of_key number_of_asked t (map burst_asked trail.aw)) =
     prefix_of_key number_of_asked t (prefix_map burst_asked front) in

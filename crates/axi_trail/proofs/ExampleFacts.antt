@@ -6,7 +6,7 @@ use Rattle.std.proofs.lemmas.List.Elements.{All-cons, All-nil}
 use Rattle.axi_beats.specs.declared.beat.Addr.{Addr}
 use Rattle.axi_beats.specs.declared.response.Resp.TheVariants.{Okay}
 use Rattle.flight.specs.Entries.{of_key}
-use Rattle.axi_trail.specs.Example.{read_address, write_address, first_read_data, last_read_data, write_data_beat, write_response, no_share, read_share, write_share, example_plan, example_progress, example_upper, example_lower, ExampleKeepsContracts}
+use Rattle.axi_trail.specs.Example.{read_address, write_address, first_read_data, last_read_data, write_data_beat, write_response, no_share, read_share, write_share, example_schedule, example_progress, example_upper, example_lower, ExampleKeepsContracts}
 use Rattle.axi_trail.specs.LinkContracts.{Asks, Answers, Requests, WholeBeforeTheNext, without_id}
 use Rattle.axi_trail.specs.Schedule.{Share, bytes_on}
 use Rattle.axi_trail.specs.Streams.{IsPrefix}
@@ -65,25 +65,25 @@ module _ (shares : ℕ → Share) (id_width : ℕ) (issued : ℕ → Bool) (show
 never_nil : {X : Type 0} (x : X) (xs : List X) → x ∷ xs ≢ []
 never_nil x xs e = cc
 
-no_write : (t : ℕ) → 8 ≢ t → example_plan.writes t ≡ no_share
+no_write : (t : ℕ) → 8 ≢ t → example_schedule.writes t ≡ no_share
 no_write t ne = ap (λ b. cond b write_share no_share) (ne_eqb t 8 (λ e. ne (sym e)))
 
-no_read : (t : ℕ) → 7 ≢ t → example_plan.reads t ≡ no_share
+no_read : (t : ℕ) → 7 ≢ t → example_schedule.reads t ≡ no_share
 no_read t ne = ap (λ b. cond b read_share no_share) (ne_eqb t 7 (λ e. ne (sym e)))
 
-example_asks : Asks example_plan example_progress example_upper
+example_asks : Asks example_schedule example_progress example_upper
 example_asks = record {
-  writes = requests_alone example_plan.writes 4 example_progress.issued write_asked write_address [] refl (prefix_itself (without_id write_address ∷ [])) (omega arith)
+  writes = requests_alone example_schedule.writes 4 example_progress.issued write_asked write_address [] refl (prefix_itself (without_id write_address ∷ [])) (omega arith)
       (never_nil 0 (2 ∷ 0 ∷ 1 ∷ [])) (λ t ne. ap (λ s. s.chain) (no_write t ne)) refl;
-  reads = requests_alone example_plan.reads 4 example_progress.issued burst_asked read_address (read_reply first_read_data ∷ []) refl (prefix_itself (without_id read_address ∷ [])) (omega arith)
+  reads = requests_alone example_schedule.reads 4 example_progress.issued burst_asked read_address (read_reply first_read_data ∷ []) refl (prefix_itself (without_id read_address ∷ [])) (omega arith)
       (never_nil 0 (3 ∷ 1 ∷ 1 ∷ [])) (λ t ne. ap (λ s. s.chain) (no_read t ne)) refl;
-  data_is_the_schedules = at_each (λ t. IsPrefix (of_key number_of_data t (write_data_beat ∷ [])) (flat_map (λ beats. beats) (example_plan.writes t).write_data)) 8
+  data_is_the_schedules = at_each (λ t. IsPrefix (of_key number_of_data t (write_data_beat ∷ [])) (flat_map (λ beats. beats) (example_schedule.writes t).write_data)) 8
       (prefix_itself (write_data_beat ∷ []))
-      (λ t ne. empty_prefix (of_key number_of_data t (write_data_beat ∷ [])) (flat_map (λ beats. beats) (example_plan.writes t).write_data) (of_key-other number_of_data t write_data_beat ne));
+      (λ t ne. empty_prefix (of_key number_of_data t (write_data_beat ∷ [])) (flat_map (λ beats. beats) (example_schedule.writes t).write_data) (of_key-other number_of_data t write_data_beat ne));
   data_follows_addresses = prefix_agree (prefix_itself (mark_of_data write_data_beat ∷ []));
 }
 
-example_answers : Answers example_plan example_progress example_lower
+example_answers : Answers example_schedule example_progress example_lower
 example_answers = record {
   answers_in_order_of_id = at_each (λ id. IsPrefix (map mark_of_reply (of_key id_of_reply id (write_reply write_response ∷ []))) (marks (of_key id_of_asked id (write_asked write_address ∷ [])))) 2
       (prefix_itself (mark_of_reply (write_reply write_response) ∷ []))
@@ -93,24 +93,24 @@ example_answers = record {
       (prefix_itself (mark_of_reply (read_reply first_read_data) ∷ mark_of_reply (read_reply last_read_data) ∷ []))
       (λ id ne. empty_prefix (map mark_of_reply (of_key id_of_reply id (read_reply first_read_data ∷ read_reply last_read_data ∷ []))) (marks (of_key id_of_asked id (burst_asked read_address ∷ [])))
       (ap (map mark_of_reply) (none_of_two id_of_reply (read_reply first_read_data) (read_reply last_read_data) id ne ne)));
-  responses_are_the_schedules = at_each (λ t. IsPrefix (map (λ b. b.resp) (of_key number_of_response t (write_response ∷ []))) (example_plan.writes t).responses) 8
+  responses_are_the_schedules = at_each (λ t. IsPrefix (map (λ b. b.resp) (of_key number_of_response t (write_response ∷ []))) (example_schedule.writes t).responses) 8
       (prefix_itself (Okay ∷ []))
-      (λ t ne. empty_prefix (map (λ b. b.resp) (of_key number_of_response t (write_response ∷ []))) (example_plan.writes t).responses (ap (map (λ b. b.resp)) (of_key-other number_of_response t write_response ne)));
-  read_responses_are_the_schedules = at_each (λ t. IsPrefix (map (λ r. r.resp) (of_key number_of_read_data t (first_read_data ∷ last_read_data ∷ []))) (example_plan.reads t).responses) 7
+      (λ t ne. empty_prefix (map (λ b. b.resp) (of_key number_of_response t (write_response ∷ []))) (example_schedule.writes t).responses (ap (map (λ b. b.resp)) (of_key-other number_of_response t write_response ne)));
+  read_responses_are_the_schedules = at_each (λ t. IsPrefix (map (λ r. r.resp) (of_key number_of_read_data t (first_read_data ∷ last_read_data ∷ []))) (example_schedule.reads t).responses) 7
       (prefix_itself (Okay ∷ Okay ∷ []))
-      (λ t ne. empty_prefix (map (λ r. r.resp) (of_key number_of_read_data t (first_read_data ∷ last_read_data ∷ []))) (example_plan.reads t).responses
+      (λ t ne. empty_prefix (map (λ r. r.resp) (of_key number_of_read_data t (first_read_data ∷ last_read_data ∷ []))) (example_schedule.reads t).responses
       (ap (map (λ r. r.resp)) (none_of_two number_of_read_data first_read_data last_read_data t ne ne)));
   answered_after_its_data = at_each (λ id. IsPrefix (map mark_of_reply (of_key id_of_reply id (write_reply write_response ∷ []))) (marks (of_key id_of_asked id (write_asked write_address ∷ [])))) 2
       (prefix_itself (mark_of_reply (write_reply write_response) ∷ []))
       (λ id ne. empty_prefix (map mark_of_reply (of_key id_of_reply id (write_reply write_response ∷ []))) (marks (of_key id_of_asked id (write_asked write_address ∷ [])))
       (ap (map mark_of_reply) (of_key-other id_of_reply id (write_reply write_response) ne)));
-  done_when_answered = at_each (λ t. 0 < length (example_plan.writes t).parts → length (example_plan.writes t).parts ≤ length (of_key number_of_response t (write_response ∷ [])) → IsTrue (example_progress.written t)) 8
+  done_when_answered = at_each (λ t. 0 < length (example_schedule.writes t).parts → length (example_schedule.writes t).parts ≤ length (of_key number_of_response t (write_response ∷ [])) → IsTrue (example_progress.written t)) 8
       (λ some all. refl)
       (λ t ne some all. absurd (omega (arith, ap (λ s. length s.parts) (no_write t ne))));
-  bytes_are_filled = at_each (λ t. IsPrefix (bytes_on (of_key number_of_read_data t (first_read_data ∷ last_read_data ∷ [])) (example_plan.reads t).lanes) (example_progress.filled t)) 7
+  bytes_are_filled = at_each (λ t. IsPrefix (bytes_on (of_key number_of_read_data t (first_read_data ∷ last_read_data ∷ [])) (example_schedule.reads t).lanes) (example_progress.filled t)) 7
       (prefix_itself (10 ∷ 11 ∷ 12 ∷ 13 ∷ 20 ∷ 21 ∷ 22 ∷ 23 ∷ []))
-      (λ t ne. empty_prefix (bytes_on (of_key number_of_read_data t (first_read_data ∷ last_read_data ∷ [])) (example_plan.reads t).lanes) (example_progress.filled t)
-      (ap (λ rs. bytes_on rs (example_plan.reads t).lanes) (none_of_two number_of_read_data first_read_data last_read_data t ne ne)));
+      (λ t ne. empty_prefix (bytes_on (of_key number_of_read_data t (first_read_data ∷ last_read_data ∷ [])) (example_schedule.reads t).lanes) (example_progress.filled t)
+      (ap (λ rs. bytes_on rs (example_schedule.reads t).lanes) (none_of_two number_of_read_data first_read_data last_read_data t ne ne)));
 }
 
 pub example_keeps_contracts : ExampleKeepsContracts

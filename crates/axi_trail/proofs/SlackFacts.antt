@@ -37,9 +37,9 @@ requests_down shares id_width early late shown addresses fewer replies more grow
 }
 
 pub asking_goes_down : AskingGoesDown
-asking_goes_down plan early late lower upper grows behind asks = record {
-  writes = requests_down plan.writes plan.id_width early.issued late.issued write_asked upper.aw lower.aw _ _ grows.issued behind.aw (prefix_map write_reply behind.b) asks.writes;
-  reads = requests_down plan.reads plan.id_width early.issued late.issued burst_asked upper.ar lower.ar _ _ grows.issued behind.ar (prefix_map read_reply behind.r) asks.reads;
+asking_goes_down schedule early late lower upper grows behind asks = record {
+  writes = requests_down schedule.writes schedule.id_width early.issued late.issued write_asked upper.aw lower.aw _ _ grows.issued behind.aw (prefix_map write_reply behind.b) asks.writes;
+  reads = requests_down schedule.reads schedule.id_width early.issued late.issued burst_asked upper.ar lower.ar _ _ grows.issued behind.ar (prefix_map read_reply behind.r) asks.reads;
   data_is_the_schedules = λ t. prefix_trans (prefix_of_key number_of_data t behind.w) (asks.data_is_the_schedules t);
   data_follows_addresses = Agree_fronts (prefix_map mark_of_data behind.w) (prefix_flat_map marks_of (prefix_map burst_asked behind.aw)) asks.data_follows_addresses;
 }
@@ -66,36 +66,36 @@ pub prefix_bytes : {beats more : List RBeat} (lanes : List Span) → IsPrefix be
 prefix_bytes {beats} {more} lanes p = prefix_of_same (bytes_front beats p.rest lanes) (ap (λ t. bytes_on t lanes) (sym p.whole))
 
 pub answering_goes_up : AnsweringGoesUp
-answering_goes_up plan early late lower upper grows behind answers = record {
+answering_goes_up schedule early late lower upper grows behind answers = record {
   answers_in_order_of_id = in_order_goes_up (prefix_map write_asked behind.aw) (prefix_map write_reply behind.b) answers.answers_in_order_of_id;
   reads_in_order_of_id = in_order_goes_up (prefix_map burst_asked behind.ar) (prefix_map read_reply behind.r) answers.reads_in_order_of_id;
   responses_are_the_schedules = λ t. prefix_trans (prefix_map (λ b. b.resp) (prefix_of_key number_of_response t behind.b)) (answers.responses_are_the_schedules t);
   read_responses_are_the_schedules = λ t. prefix_trans (prefix_map (λ r. r.resp) (prefix_of_key number_of_read_data t behind.r)) (answers.read_responses_are_the_schedules t);
   answered_after_its_data = in_order_goes_up (prefix_map write_asked (completed_front behind.aw (prefix_map mark_of_data behind.w))) (prefix_map write_reply behind.b) answers.answered_after_its_data;
   done_when_answered = λ t some all. grows.written t (answers.done_when_answered t some (omega (arith, prefix_length (prefix_of_key number_of_response t behind.b))));
-  bytes_are_filled = λ t. prefix_trans (prefix_trans (prefix_bytes (plan.reads t).lanes (prefix_of_key number_of_read_data t behind.r)) (answers.bytes_are_filled t)) (grows.filled t);
+  bytes_are_filled = λ t. prefix_trans (prefix_trans (prefix_bytes (schedule.reads t).lanes (prefix_of_key number_of_read_data t behind.r)) (answers.bytes_are_filled t)) (grows.filled t);
 }
 
 pub asked_through_link : AskedThroughLink
-asked_through_link plan early late number links uppers lowers grows run n asks =
+asked_through_link schedule early late number links uppers lowers grows run n asks =
     let fifo : IsFifo (trail_above uppers links n number) (trail_below lowers links n number) (link_of (links n) number) = links_are_queues number links uppers lowers run n in
     let heads : (IsBehind (trail_below lowers links n number) (trail_above uppers links n number))
     × (IsBehind (seen_below (trail_below lowers links n number) (link_of (links n) number)) (trail_above uppers links n number))
     × (IsBehind (trail_below lowers links n number) (seen_above (trail_above uppers links n number) (link_of (links n) number))) =
     heads_are_behind (trail_above uppers links n number) (trail_below lowers links n number) (link_of (links n) number) fifo in (
-      asking_goes_down plan early late (trail_below lowers links n number) (trail_above uppers links n number) grows heads.0 asks,
-      asking_goes_down plan early late (seen_below (trail_below lowers links n number) (link_of (links n) number)) (trail_above uppers links n number) grows heads.1 asks,
-      asking_goes_down plan early late (trail_below lowers links (suc n) number) (trail_above uppers links n number) grows (taken_was_put_before number links uppers lowers run n).0 asks,
+      asking_goes_down schedule early late (trail_below lowers links n number) (trail_above uppers links n number) grows heads.0 asks,
+      asking_goes_down schedule early late (seen_below (trail_below lowers links n number) (link_of (links n) number)) (trail_above uppers links n number) grows heads.1 asks,
+      asking_goes_down schedule early late (trail_below lowers links (suc n) number) (trail_above uppers links n number) grows (taken_was_put_before number links uppers lowers run n).0 asks,
     )
 
 pub answered_through_link : AnsweredThroughLink
-answered_through_link plan early late number links uppers lowers grows run n answers =
+answered_through_link schedule early late number links uppers lowers grows run n answers =
     let fifo : IsFifo (trail_above uppers links n number) (trail_below lowers links n number) (link_of (links n) number) = links_are_queues number links uppers lowers run n in
     let heads : (IsBehind (trail_below lowers links n number) (trail_above uppers links n number))
     × (IsBehind (seen_below (trail_below lowers links n number) (link_of (links n) number)) (trail_above uppers links n number))
     × (IsBehind (trail_below lowers links n number) (seen_above (trail_above uppers links n number) (link_of (links n) number))) =
     heads_are_behind (trail_above uppers links n number) (trail_below lowers links n number) (link_of (links n) number) fifo in (
-      answering_goes_up plan early late (trail_below lowers links n number) (trail_above uppers links n number) grows heads.0 answers,
-      answering_goes_up plan early late (trail_below lowers links n number) (seen_above (trail_above uppers links n number) (link_of (links n) number)) grows heads.2 answers,
-      answering_goes_up plan early late (trail_below lowers links n number) (trail_above uppers links (suc n) number) grows (taken_was_put_before number links uppers lowers run n).1 answers,
+      answering_goes_up schedule early late (trail_below lowers links n number) (trail_above uppers links n number) grows heads.0 answers,
+      answering_goes_up schedule early late (trail_below lowers links n number) (seen_above (trail_above uppers links n number) (link_of (links n) number)) grows heads.2 answers,
+      answering_goes_up schedule early late (trail_below lowers links n number) (trail_above uppers links (suc n) number) grows (taken_was_put_before number links uppers lowers run n).1 answers,
     )

@@ -13,33 +13,33 @@ use Rattle.axi_trail.specs.Words.{Asked, Reply, IsAnswered, InOrderOfId, held_as
 -- what is asked at the upper end is asked at the lower end, which has taken less and answered more
 abbrev pub AskingGoesDown : Type 0
 AskingGoesDown =
-    (plan : Schedule) (early late : Progress) (lower upper : Beats) → Grows early late → IsBehind lower upper →
-    Asks plan early upper → Asks plan late lower
+    (schedule : Schedule) (early late : Progress) (lower upper : Beats) → Grows early late → IsBehind lower upper →
+    Asks schedule early upper → Asks schedule late lower
 
 -- what is answered at the lower end is answered at the upper end, which has put more and taken fewer answers
 abbrev pub AnsweringGoesUp : Type 0
 AnsweringGoesUp =
-    (plan : Schedule) (early late : Progress) (lower upper : Beats) → Grows early late → IsBehind lower upper →
-    Answers plan early lower → Answers plan late upper
+    (schedule : Schedule) (early late : Progress) (lower upper : Beats) → Grows early late → IsBehind lower upper →
+    Answers schedule early lower → Answers schedule late upper
 
 -- what is asked at the upper end after n rounds is asked at the lower end: after n rounds, with the heads that the node
 -- there looks at, and after one more round
 abbrev pub AskedThroughLink : Type 0
 AskedThroughLink =
-    (plan : Schedule) (early late : Progress) (number : ℕ) (links : ℕ → List LinkView) (uppers lowers : ℕ → Out) → Grows early late → IsLinkRun number links uppers lowers → (n : ℕ) →
-    Asks plan early (trail_above uppers links n number) →
-    Asks plan late (trail_below lowers links n number)
-    × Asks plan late (seen_below (trail_below lowers links n number) (link_of (links n) number))
-    × Asks plan late (trail_below lowers links (suc n) number)
+    (schedule : Schedule) (early late : Progress) (number : ℕ) (links : ℕ → List LinkView) (uppers lowers : ℕ → Out) → Grows early late → IsLinkRun number links uppers lowers → (n : ℕ) →
+    Asks schedule early (trail_above uppers links n number) →
+    Asks schedule late (trail_below lowers links n number)
+    × Asks schedule late (seen_below (trail_below lowers links n number) (link_of (links n) number))
+    × Asks schedule late (trail_below lowers links (suc n) number)
 
 -- and what is answered at the lower end is answered at the upper end
 abbrev pub AnsweredThroughLink : Type 0
 AnsweredThroughLink =
-    (plan : Schedule) (early late : Progress) (number : ℕ) (links : ℕ → List LinkView) (uppers lowers : ℕ → Out) → Grows early late → IsLinkRun number links uppers lowers → (n : ℕ) →
-    Answers plan early (trail_below lowers links n number) →
-    Answers plan late (trail_above uppers links n number)
-    × Answers plan late (seen_above (trail_above uppers links n number) (link_of (links n) number))
-    × Answers plan late (trail_above uppers links (suc n) number)
+    (schedule : Schedule) (early late : Progress) (number : ℕ) (links : ℕ → List LinkView) (uppers lowers : ℕ → Out) → Grows early late → IsLinkRun number links uppers lowers → (n : ℕ) →
+    Answers schedule early (trail_below lowers links n number) →
+    Answers schedule late (trail_above uppers links n number)
+    × Answers schedule late (seen_above (trail_above uppers links n number) (link_of (links n) number))
+    × Answers schedule late (trail_above uppers links (suc n) number)
 
 -- the requests of a transaction are answered in their order: a request is answered exactly where the answers to
 -- its transaction are as many as the transaction's requests, up to this one, ask for
@@ -68,5 +68,5 @@ OldestHeldIsNextOfItsOwn =
 -- a transaction's write data is there, as far as its answers go: the beats of its first requests, one for each answer
 abbrev pub AnsweredHaveTheirData : Type 0
 AnsweredHaveTheirData =
-    (plan : Schedule) (now : Progress) (trail : Beats) → Asks plan now trail → Answers plan now trail → (t : ℕ) →
+    (schedule : Schedule) (now : Progress) (trail : Beats) → Asks schedule now trail → Answers schedule now trail → (t : ℕ) →
     beats_of (take (length (of_key number_of_response t trail.b)) (of_key number_of_asked t (map burst_asked trail.aw))) ≤ length (of_key number_of_data t trail.w)

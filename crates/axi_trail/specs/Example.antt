@@ -52,8 +52,8 @@ write_share = record {
   chain = 0 ∷ 2 ∷ 0 ∷ 1 ∷ [];
 }
 
-abbrev pub example_plan : Schedule
-example_plan = record {
+abbrev pub example_schedule : Schedule
+example_schedule = record {
   id_width = 4;
   writes = λ t. if t == 8 then write_share else no_share;
   reads = λ t. if t == 7 then read_share else no_share;
@@ -76,4 +76,4 @@ example_lower = record { aw = write_address ∷ []; w = write_data_beat ∷ []; 
 
 -- the link keeps both contracts
 abbrev pub ExampleKeepsContracts : Type 0
-ExampleKeepsContracts = Asks example_plan example_progress example_upper × Answers example_plan example_progress example_lower × IsBehind example_lower example_upper
+ExampleKeepsContracts = Asks example_schedule example_progress example_upper × Answers example_schedule example_progress example_lower × IsBehind example_lower example_upper

@@ -40,30 +40,30 @@ pub record Requests (shares : ℕ → Share) (id_width : ℕ) (issued : ℕ → 
   pub was_issued : All (λ a. IsTrue (issued a.tag.txn)) addresses
 
 -- What the node above a link asks: on AW, W and AR, in the light of the answers on B and R.
-pub record Asks (plan : Schedule) (now : Progress) (trail : Beats) : Type 0 where
+pub record Asks (schedule : Schedule) (now : Progress) (trail : Beats) : Type 0 where
   -- on AW
-  pub writes : Requests plan.writes plan.id_width now.issued write_asked trail.aw (write_replies trail)
+  pub writes : Requests schedule.writes schedule.id_width now.issued write_asked trail.aw (write_replies trail)
   -- on AR
-  pub reads : Requests plan.reads plan.id_width now.issued burst_asked trail.ar (read_replies trail)
+  pub reads : Requests schedule.reads schedule.id_width now.issued burst_asked trail.ar (read_replies trail)
   -- the write data of a transaction is the first of that of its parts, beat for beat, strobes and WLAST too
-  pub data_is_the_schedules : (t : ℕ) → IsPrefix (of_key number_of_data t trail.w) (flat_map (λ beats. beats) (plan.writes t).write_data)
+  pub data_is_the_schedules : (t : ℕ) → IsPrefix (of_key number_of_data t trail.w) (flat_map (λ beats. beats) (schedule.writes t).write_data)
   -- write data comes in order of the write addresses, each burst in AWLEN + 1 beats, the last one with WLAST; it
   -- may come before its address
   pub data_follows_addresses : Agree (data_marks trail) (announced_marks trail)
 
 -- What the node below a link answers: on B and R, in the light of what was asked on AW, W and AR.
-pub record Answers (plan : Schedule) (now : Progress) (trail : Beats) : Type 0 where
+pub record Answers (schedule : Schedule) (now : Progress) (trail : Beats) : Type 0 where
   -- the responses to the writes of an ID come in order of their addresses
   pub answers_in_order_of_id : InOrderOfId (writes_asked trail) (write_replies trail)
   -- the read data of an ID comes in order of the addresses, each burst in ARLEN + 1 beats, the last one with RLAST
   pub reads_in_order_of_id : InOrderOfId (reads_asked trail) (read_replies trail)
   -- the responses to a transaction's writes are the first of those that are due to its parts
-  pub responses_are_the_schedules : (t : ℕ) → IsPrefix (map (λ b. b.resp) (of_key number_of_response t trail.b)) (plan.writes t).responses
+  pub responses_are_the_schedules : (t : ℕ) → IsPrefix (map (λ b. b.resp) (of_key number_of_response t trail.b)) (schedule.writes t).responses
   -- the responses of a transaction's read data are the first of those that are due to its beats
-  pub read_responses_are_the_schedules : (t : ℕ) → IsPrefix (map (λ r. r.resp) (of_key number_of_read_data t trail.r)) (plan.reads t).responses
+  pub read_responses_are_the_schedules : (t : ℕ) → IsPrefix (map (λ r. r.resp) (of_key number_of_read_data t trail.r)) (schedule.reads t).responses
   -- a write is answered after its last beat of data
   pub answered_after_its_data : InOrderOfId (map write_asked (completed trail.aw (data_marks trail))) (write_replies trail)
   -- a transaction whose writes are all answered is written
-  pub done_when_answered : (t : ℕ) → 0 < length (plan.writes t).parts → length (plan.writes t).parts ≤ length (of_key number_of_response t trail.b) → IsTrue (now.written t)
+  pub done_when_answered : (t : ℕ) → 0 < length (schedule.writes t).parts → length (schedule.writes t).parts ≤ length (of_key number_of_response t trail.b) → IsTrue (now.written t)
   -- the read data of a transaction is what its subordinate has read for it
-  pub bytes_are_filled : (t : ℕ) → IsPrefix (bytes_on (of_key number_of_read_data t trail.r) (plan.reads t).lanes) (now.filled t)
+  pub bytes_are_filled : (t : ℕ) → IsPrefix (bytes_on (of_key number_of_read_data t trail.r) (schedule.reads t).lanes) (now.filled t)

@@ -24,7 +24,7 @@ use Rattle.axi_trail.proofs.SlackFacts.{asked_through_link}
 use Rattle.axi_trail.proofs.StreamFacts.{prefix_itself}
 use Rattle.axi_trail.proofs.TrailFacts.{links_are_queues}
 use Rattle.burst_address.specs.Legal.{IsLegal}
-use Rattle.link_ports.specs.LegalPlan.{IsLegalPlan}
+use Rattle.link_ports.specs.LegalSchedule.{IsLegalSchedule}
 use Rattle.link_ports.specs.PortLaws.{IsOffered, IsOfferedAgain, HasTransferred, HasOffered, WriteDataIsLegal, WriteAddressesAreLegal, WriteResponsesAreLegal, ReadAddressesAreLegal, ReadDataIsLegal}
 use Rattle.link_ports.specs.PortView.{seen_address, seen_itself, seen_response, seen_read_beat, shown, port_round, port_history}
 use Rattle.link_ports.proofs.AddressFacts.{legal_kept, last_is_legal, never_exokay}
@@ -57,19 +57,19 @@ module _ (number : ℕ) (kind : PortKind) (links : ℕ → List LinkView) (upper
   again = waiting_are_offered_again number kind links uppers lowers run n
 
   -- what is asked, with the heads that the node below looks at
-  asked_below : (plan : Schedule) (now : Progress) → Asks plan now (trail_above uppers links n number) → Asks plan now (seen_below (trail_below lowers links n number) (link_of (links n) number))
-  asked_below plan now asks = (asked_through_link plan now now number links uppers lowers (grows_itself now) run n asks).1
+  asked_below : (schedule : Schedule) (now : Progress) → Asks schedule now (trail_above uppers links n number) → Asks schedule now (seen_below (trail_below lowers links n number) (link_of (links n) number))
+  asked_below schedule now asks = (asked_through_link schedule now now number links uppers lowers (grows_itself now) run n asks).1
 
 pub write_addresses_are_legal : WriteAddressesAreLegal
-write_addresses_are_legal plan now number kind links uppers lowers run legal n asks =
-    let seen : Asks plan now (seen_below (trail_below lowers links n number) (link_of (links n) number)) = asked_below number kind links uppers lowers run n plan now asks in
-    addresses_kept plan.writes plan.id_width kind.bus now.issued write_asked (trail_below lowers links n number).aw (link_of (links n) number).aw (write_replies (trail_below lowers links n number))
+write_addresses_are_legal schedule now number kind links uppers lowers run legal n asks =
+    let seen : Asks schedule now (seen_below (trail_below lowers links n number) (link_of (links n) number)) = asked_below number kind links uppers lowers run n schedule now asks in
+    addresses_kept schedule.writes schedule.id_width kind.bus now.issued write_asked (trail_below lowers links n number).aw (link_of (links n) number).aw (write_replies (trail_below lowers links n number))
     (takes_from number (lowers n).aw_take) (waiting on_aw (port_history number kind links uppers lowers n)) (again number kind links uppers lowers run n).aw seen.writes legal.writes
 
 pub read_addresses_are_legal : ReadAddressesAreLegal
-read_addresses_are_legal plan now number kind links uppers lowers run legal n asks =
-    let seen : Asks plan now (seen_below (trail_below lowers links n number) (link_of (links n) number)) = asked_below number kind links uppers lowers run n plan now asks in
-    addresses_kept plan.reads plan.id_width kind.bus now.issued burst_asked (trail_below lowers links n number).ar (link_of (links n) number).ar (read_replies (trail_below lowers links n number))
+read_addresses_are_legal schedule now number kind links uppers lowers run legal n asks =
+    let seen : Asks schedule now (seen_below (trail_below lowers links n number) (link_of (links n) number)) = asked_below number kind links uppers lowers run n schedule now asks in
+    addresses_kept schedule.reads schedule.id_width kind.bus now.issued burst_asked (trail_below lowers links n number).ar (link_of (links n) number).ar (read_replies (trail_below lowers links n number))
     (takes_from number (lowers n).ar_take) (waiting on_ar (port_history number kind links uppers lowers n)) (again number kind links uppers lowers run n).ar seen.reads legal.reads
 
 -- ---- answers
@@ -112,7 +112,7 @@ module _ (number : ℕ) (kind : PortKind) (links : ℕ → List LinkView) (upper
   fifo = links_are_queues number links uppers lowers run n
 
 pub write_responses_are_legal : WriteResponsesAreLegal
-write_responses_are_legal plan now number kind links uppers lowers run n answers =
+write_responses_are_legal schedule now number kind links uppers lowers run n answers =
     let has : HasTransferred (port_history number kind links uppers lowers n) (trail_below lowers links n number) (trail_above uppers links n number) = passed number kind links uppers lowers run n in
     let order : InOrderOfId (map write_asked (completed (trail_below lowers links n number).aw (map mark_of_data (trail_below lowers links n number).w))) (map write_reply ((trail_above uppers links n number).b ++ (link_of (links n) number).b)) =
     subst (λ (bs : List BBeat). InOrderOfId (map write_asked (completed (trail_below lowers links n number).aw (map mark_of_data (trail_below lowers links n number).w))) (map write_reply bs)) (fifo number kind links uppers lowers run n).b answers.answered_after_its_data in
@@ -122,7 +122,7 @@ write_responses_are_legal plan now number kind links uppers lowers run n answers
     (takes_from number (uppers n).b_take) has.aw has.w has.b order
 
 pub read_data_is_legal : ReadDataIsLegal
-read_data_is_legal plan now number kind links uppers lowers run n answers =
+read_data_is_legal schedule now number kind links uppers lowers run n answers =
     let has : HasTransferred (port_history number kind links uppers lowers n) (trail_below lowers links n number) (trail_above uppers links n number) = passed number kind links uppers lowers run n in
     let order : InOrderOfId (map burst_asked (trail_below lowers links n number).ar) (map read_reply ((trail_above uppers links n number).r ++ (link_of (links n) number).r)) =
     subst (λ (rs : List RBeat). InOrderOfId (map burst_asked (trail_below lowers links n number).ar) (map read_reply rs)) (fifo number kind links uppers lowers run n).r answers.reads_in_order_of_id in
@@ -134,21 +134,21 @@ read_data_is_legal plan now number kind links uppers lowers run n answers =
 -- ---- write data
 
 -- rules 9 and 10, of what has been offered in the rounds up to this one
-data_kept : (bus : ℕ) (history : List PortRound) (plan : Schedule) (now : Progress) (trail : Beats) → offered on_aw history ≡ map seen_address trail.aw → offered on_w history ≡ map seen_itself trail.w →
-    Asks plan now trail → IsLegalPlan bus plan → least_broken ((9, last_is_on_the_last_beat bus history) ∷ (10, strobes_are_on_valid_lanes bus history) ∷ []) ≡ None
-data_kept bus history plan now trail on_aw' on_w' asks legal =
+data_kept : (bus : ℕ) (history : List PortRound) (schedule : Schedule) (now : Progress) (trail : Beats) → offered on_aw history ≡ map seen_address trail.aw → offered on_w history ≡ map seen_itself trail.w →
+    Asks schedule now trail → IsLegalSchedule bus schedule → least_broken ((9, last_is_on_the_last_beat bus history) ∷ (10, strobes_are_on_valid_lanes bus history) ∷ []) ≡ None
+data_kept bus history schedule now trail on_aw' on_w' asks legal =
     let shown_data : offered on_w history ≡ trail.w = on_w' ∙ itself trail.w in
     let lasts : last_is_on_the_last_beat bus history ≡ true = rw (on_aw', shown_data) (lasts_kept bus trail.aw trail.w asks.data_follows_addresses) in
     let strobes : strobes_are_on_valid_lanes bus history ≡ true =
     rw (on_aw', shown_data)
-    (strobes_kept bus trail.aw trail.w plan.writes asks.data_follows_addresses (left_at_first bus trail.aw trail.w plan.writes asks.writes.asks_only_its_parts asks.data_is_the_schedules legal.write_data)) in
+    (strobes_kept bus trail.aw trail.w schedule.writes asks.data_follows_addresses (left_at_first bus trail.aw trail.w schedule.writes asks.writes.asks_only_its_parts asks.data_is_the_schedules legal.write_data)) in
     rw (lasts, strobes) refl
 
 pub write_data_is_legal : WriteDataIsLegal
-write_data_is_legal plan now number kind links uppers lowers run legal n asks =
-    let seen : Asks plan now (seen_below (trail_below lowers links n number) (link_of (links n) number)) = asked_below number kind links uppers lowers run n plan now asks in
+write_data_is_legal schedule now number kind links uppers lowers run legal n asks =
+    let seen : Asks schedule now (seen_below (trail_below lowers links n number) (link_of (links n) number)) = asked_below number kind links uppers lowers run n schedule now asks in
     let has : HasOffered (port_history number kind links uppers lowers (suc n)) (seen_below (trail_below lowers links n number) (link_of (links n) number)) (seen_above (trail_above uppers links n number) (link_of (links n) number)) =
     offered_are_trails number kind links uppers lowers n in
     handshake_kept same_data data_itself (waiting on_w (port_history number kind links uppers lowers n)) (offer_of (port_round number kind links uppers lowers n).w)
     ((9, last_is_on_the_last_beat kind.bus (port_history number kind links uppers lowers (suc n))) ∷ (10, strobes_are_on_valid_lanes kind.bus (port_history number kind links uppers lowers (suc n))) ∷ []) (again number kind links uppers lowers run n).w
-    ∙ data_kept kind.bus (port_history number kind links uppers lowers (suc n)) plan now (seen_below (trail_below lowers links n number) (link_of (links n) number)) has.aw has.w seen legal
+    ∙ data_kept kind.bus (port_history number kind links uppers lowers (suc n)) schedule now (seen_below (trail_below lowers links n number) (link_of (links n) number)) has.aw has.w seen legal

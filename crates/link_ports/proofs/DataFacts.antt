@@ -19,7 +19,7 @@ use Rattle.axi_trail.proofs.PrefixFacts.{prefix_length, prefix_same, prefix_of_s
 use Rattle.axi_trail.proofs.StreamFacts.{prefix_append, prefix_trans}
 use Rattle.burst_address.specs.Formulas.{beat_at, lower_lane, size_of, upper_lane}
 use Rattle.flight.specs.Entries.{of_key}
-use Rattle.link_ports.specs.LegalPlan.{IsDataOf}
+use Rattle.link_ports.specs.LegalSchedule.{IsDataOf}
 use Rattle.link_ports.specs.PortView.{seen_address}
 use Rattle.link_ports.proofs.AddressFacts.{seen_is_asked}
 use Rattle.link_ports.proofs.BurstFacts.{FirstBurst, first_burst, lasts_due, own_data, others_data}

@@ -5,7 +5,7 @@ use Rattle.std.proofs.lemmas.List.Elements.{All-cons, All-nil}
 use Rattle.axi_beats.specs.declared.beat.Addr.{Addr}
 use Rattle.axi_history.specs.PortRules.{strobes_within}
 use Rattle.axi_link.specs.Moves.{appended}
-use Rattle.axi_trail.specs.Example.{read_address, write_address, write_data_beat, write_response, no_share, read_share, write_share, example_plan, example_progress, example_upper, example_lower}
+use Rattle.axi_trail.specs.Example.{read_address, write_address, write_data_beat, write_response, no_share, read_share, write_share, example_schedule, example_progress, example_upper, example_lower}
 use Rattle.axi_trail.specs.LinkContracts.{Asks, Answers, Requests}
 use Rattle.axi_trail.specs.Schedule.{Share}
 use Rattle.axi_trail.specs.Streams.{IsPrefix, over}
@@ -18,7 +18,7 @@ use Rattle.axi_trail.proofs.StreamFacts.{prefix_itself, prefix_nil}
 use Rattle.burst_address.specs.Formulas.{beat_at, lower_lane, size_of, upper_lane}
 use Rattle.burst_address.specs.Legal.{IsLegal}
 use Rattle.link_ports.specs.Example.{ExamplePort, HastyPort, ExampleKeepsContracts, manager_moves, memory_moves, links_between}
-use Rattle.link_ports.specs.LegalPlan.{IsDataOf, IsLegalPlan}
+use Rattle.link_ports.specs.LegalSchedule.{IsDataOf, IsLegalSchedule}
 use Rattle.link_ports.proofs.ChannelFacts.{grows_itself}
 
 pub example_port : ExamplePort
@@ -37,7 +37,7 @@ one_beat = record {
       (let first : 0 ≡ n = omega arith in first) refl;
 }
 
-example_is_legal : IsLegalPlan 4 example_plan
+example_is_legal : IsLegalSchedule 4 example_schedule
 example_is_legal = record {
   writes = λ t.
       let go : (b : Bool) → All (λ part. IsLegal part 4) (cond b write_share no_share).parts = elim [
@@ -70,13 +70,13 @@ no_requests shares id_width issued asked_as replies = record {
 write_sent : Beats
 write_sent = record { aw = write_address ∷ []; w = write_data_beat ∷ []; b = []; ar = []; r = [] }
 
-asked_at_most : Asks example_plan example_progress write_sent
+asked_at_most : Asks example_schedule example_progress write_sent
 unfolding write_sent
 asked_at_most =
-    let asks : Asks example_plan example_progress example_upper = trails.example_keeps_contracts.0 in
+    let asks : Asks example_schedule example_progress example_upper = trails.example_keeps_contracts.0 in
     record {
       writes = asks.writes;
-      reads = no_requests example_plan.reads 4 example_progress.issued burst_asked [];
+      reads = no_requests example_schedule.reads 4 example_progress.issued burst_asked [];
       data_is_the_schedules = asks.data_is_the_schedules;
       data_follows_addresses = asks.data_follows_addresses;
     }
@@ -124,9 +124,9 @@ no_read_address (suc (suc (suc zero))) = refl
 no_read_address (suc (suc (suc (suc zero)))) = refl
 no_read_address (suc (suc (suc (suc (suc n))))) = refl
 
-example_asks : (n : ℕ) → Asks example_plan example_progress (trail_above manager_moves (links_between memory_moves) n 0)
+example_asks : (n : ℕ) → Asks example_schedule example_progress (trail_above manager_moves (links_between memory_moves) n 0)
 unfolding write_sent
-example_asks n = asking_goes_down example_plan example_progress example_progress (trail_above manager_moves (links_between memory_moves) n 0) write_sent (grows_itself example_progress)
+example_asks n = asking_goes_down example_schedule example_progress example_progress (trail_above manager_moves (links_between memory_moves) n 0) write_sent (grows_itself example_progress)
     (record {
       aw = first_alone (λ m. appended 0 (manager_moves m).aw_put) (write_address ∷ []) refl no_later_address n;
       w = first_alone (λ m. appended 0 (manager_moves m).w_put) (write_data_beat ∷ []) refl no_later_data n;
@@ -137,12 +137,12 @@ example_asks n = asking_goes_down example_plan example_progress example_progress
 
 -- what the memory answers
 
-no_answers : Answers example_plan example_progress no_beats
+no_answers : Answers example_schedule example_progress no_beats
 no_answers = record {
   answers_in_order_of_id = λ id. prefix_nil [];
   reads_in_order_of_id = λ id. prefix_nil [];
-  responses_are_the_schedules = λ t. prefix_nil (example_plan.writes t).responses;
-  read_responses_are_the_schedules = λ t. prefix_nil (example_plan.reads t).responses;
+  responses_are_the_schedules = λ t. prefix_nil (example_schedule.writes t).responses;
+  read_responses_are_the_schedules = λ t. prefix_nil (example_schedule.reads t).responses;
   answered_after_its_data = λ id. prefix_nil [];
   done_when_answered = λ t some all. absurd (omega arith);
   bytes_are_filled = λ t. prefix_nil (example_progress.filled t);
@@ -151,15 +151,15 @@ no_answers = record {
 write_answered : Beats
 write_answered = record { aw = write_address ∷ []; w = write_data_beat ∷ []; b = write_response ∷ []; ar = []; r = [] }
 
-answered_at_last : Answers example_plan example_progress write_answered
+answered_at_last : Answers example_schedule example_progress write_answered
 unfolding write_answered
 answered_at_last =
-    let answers : Answers example_plan example_progress example_lower = trails.example_keeps_contracts.1 in
+    let answers : Answers example_schedule example_progress example_lower = trails.example_keeps_contracts.1 in
     record {
       answers_in_order_of_id = answers.answers_in_order_of_id;
       reads_in_order_of_id = λ id. prefix_nil [];
       responses_are_the_schedules = answers.responses_are_the_schedules;
-      read_responses_are_the_schedules = λ t. prefix_nil (example_plan.reads t).responses;
+      read_responses_are_the_schedules = λ t. prefix_nil (example_schedule.reads t).responses;
       answered_after_its_data = answers.answered_after_its_data;
       done_when_answered = answers.done_when_answered;
       bytes_are_filled = λ t. prefix_nil (example_progress.filled t);
@@ -173,8 +173,8 @@ no_read_data (suc (suc (suc zero))) = refl
 no_read_data (suc (suc (suc (suc n)))) = refl
 
 -- before the response, and after it
-answers_before : (n : ℕ) → (trail_below memory_moves (links_between memory_moves) n 0).b ≡ [] → Answers example_plan example_progress (trail_below memory_moves (links_between memory_moves) n 0)
-answers_before n none = answering_goes_up example_plan example_progress example_progress no_beats (trail_below memory_moves (links_between memory_moves) n 0) (grows_itself example_progress)
+answers_before : (n : ℕ) → (trail_below memory_moves (links_between memory_moves) n 0).b ≡ [] → Answers example_schedule example_progress (trail_below memory_moves (links_between memory_moves) n 0)
+answers_before n none = answering_goes_up example_schedule example_progress example_progress no_beats (trail_below memory_moves (links_between memory_moves) n 0) (grows_itself example_progress)
     (record {
       aw = prefix_nil (trail_below memory_moves (links_between memory_moves) n 0).aw;
       w = prefix_nil (trail_below memory_moves (links_between memory_moves) n 0).w;
@@ -183,9 +183,9 @@ answers_before n none = answering_goes_up example_plan example_progress example_
       r = prefix_same (nothing_added (λ m. appended 0 (memory_moves m).r_put) no_read_data n) (prefix_itself []);
     }) no_answers
 
-answers_after : (n : ℕ) → Answers example_plan example_progress (trail_below memory_moves (links_between memory_moves) (suc (suc (suc (suc n)))) 0)
+answers_after : (n : ℕ) → Answers example_schedule example_progress (trail_below memory_moves (links_between memory_moves) (suc (suc (suc (suc n)))) 0)
 unfolding write_answered
-answers_after n = answering_goes_up example_plan example_progress example_progress write_answered (trail_below memory_moves (links_between memory_moves) (suc (suc (suc (suc n)))) 0) (grows_itself example_progress)
+answers_after n = answering_goes_up example_schedule example_progress example_progress write_answered (trail_below memory_moves (links_between memory_moves) (suc (suc (suc (suc n)))) 0) (grows_itself example_progress)
     (record {
       aw = prefix_of_same (prefix_itself (write_address ∷ [])) (sym (first_four (λ m. (moved_below (memory_moves m) (links_between memory_moves m) 0).aw) (write_address ∷ []) refl (λ m. refl) n));
       w = prefix_of_same (prefix_itself (write_data_beat ∷ [])) (sym (first_four (λ m. (moved_below (memory_moves m) (links_between memory_moves m) 0).w) (write_data_beat ∷ []) refl (λ m. refl) n));
@@ -194,7 +194,7 @@ answers_after n = answering_goes_up example_plan example_progress example_progre
       r = prefix_same (nothing_added (λ m. appended 0 (memory_moves m).r_put) no_read_data (suc (suc (suc (suc n))))) (prefix_itself []);
     }) answered_at_last
 
-example_answers : (n : ℕ) → Answers example_plan example_progress (trail_below memory_moves (links_between memory_moves) n 0)
+example_answers : (n : ℕ) → Answers example_schedule example_progress (trail_below memory_moves (links_between memory_moves) n 0)
 example_answers zero = answers_before 0 refl
 example_answers (suc zero) = answers_before 1 refl
 example_answers (suc (suc zero)) = answers_before 2 refl

@@ -7,10 +7,10 @@ use Rattle.axi_link.specs.Acted.{no_moves}
 use Rattle.axi_link.specs.LinkView.{LinkView, empty_link}
 use Rattle.axi_link.specs.Moves.{link_after}
 use Rattle.axi_link.specs.declared.out.Out.{Out}
-use Rattle.axi_trail.specs.Example.{write_address, write_data_beat, write_response, example_plan, example_progress}
+use Rattle.axi_trail.specs.Example.{write_address, write_data_beat, write_response, example_schedule, example_progress}
 use Rattle.axi_trail.specs.LinkContracts.{Asks, Answers}
 use Rattle.axi_trail.specs.Trail.{IsLinkRun, trail_above, trail_below}
-use Rattle.link_ports.specs.LegalPlan.{IsLegalPlan}
+use Rattle.link_ports.specs.LegalSchedule.{IsLegalSchedule}
 use Rattle.link_ports.specs.PortView.{seen_address, seen_response, port_history}
 
 abbrev pub bus_of_four : PortKind
@@ -73,6 +73,6 @@ HastyPort = axi4_history_fault 4 (port_history 0 bus_of_four (links_between hast
 -- nodes keep their contracts after any number of rounds.
 abbrev pub ExampleKeepsContracts : Type 0
 ExampleKeepsContracts =
-    IsLegalPlan 4 example_plan
-    × ((n : ℕ) → Asks example_plan example_progress (trail_above manager_moves (links_between memory_moves) n 0))
-    × ((n : ℕ) → Answers example_plan example_progress (trail_below memory_moves (links_between memory_moves) n 0))
+    IsLegalSchedule 4 example_schedule
+    × ((n : ℕ) → Asks example_schedule example_progress (trail_above manager_moves (links_between memory_moves) n 0))
+    × ((n : ℕ) → Answers example_schedule example_progress (trail_below memory_moves (links_between memory_moves) n 0))

@@ -1,4 +1,4 @@
 pub mod Example
-pub mod LegalPlan
+pub mod LegalSchedule
 pub mod PortLaws
 pub mod PortView

@@ -11,7 +11,7 @@ use Rattle.axi_link.specs.declared.out.Out.{Out}
 use Rattle.axi_trail.specs.LinkContracts.{Asks, Answers}
 use Rattle.axi_trail.specs.Schedule.{Schedule, Progress}
 use Rattle.axi_trail.specs.Trail.{Beats, IsLinkRun, trail_above, trail_below, seen_above, seen_below}
-use Rattle.link_ports.specs.LegalPlan.{IsLegalPlan}
+use Rattle.link_ports.specs.LegalSchedule.{IsLegalSchedule}
 use Rattle.link_ports.specs.PortView.{seen_address, seen_itself, seen_response, seen_read_beat, port_round, port_history}
 
 -- Ports and trails.
@@ -68,36 +68,36 @@ WaitingAreOfferedAgain =
 -- AW keeps rules 1 to 8
 abbrev pub WriteAddressesAreLegal : Type 0
 WriteAddressesAreLegal =
-    (plan : Schedule) (now : Progress) (number : ℕ) (kind : PortKind) (links : ℕ → List LinkView) (uppers lowers : ℕ → Out) → IsLinkRun number links uppers lowers → IsLegalPlan kind.bus plan → (n : ℕ) →
-    Asks plan now (trail_above uppers links n number) →
+    (schedule : Schedule) (now : Progress) (number : ℕ) (kind : PortKind) (links : ℕ → List LinkView) (uppers lowers : ℕ → Out) → IsLinkRun number links uppers lowers → IsLegalSchedule kind.bus schedule → (n : ℕ) →
+    Asks schedule now (trail_above uppers links n number) →
     least_broken (write_address_rules kind.bus (port_history number kind links uppers lowers n) (port_round number kind links uppers lowers n)) ≡ None
 
 -- W keeps rules 1, 2, 9 and 10
 abbrev pub WriteDataIsLegal : Type 0
 WriteDataIsLegal =
-    (plan : Schedule) (now : Progress) (number : ℕ) (kind : PortKind) (links : ℕ → List LinkView) (uppers lowers : ℕ → Out) → IsLinkRun number links uppers lowers → IsLegalPlan kind.bus plan → (n : ℕ) →
-    Asks plan now (trail_above uppers links n number) →
+    (schedule : Schedule) (now : Progress) (number : ℕ) (kind : PortKind) (links : ℕ → List LinkView) (uppers lowers : ℕ → Out) → IsLinkRun number links uppers lowers → IsLegalSchedule kind.bus schedule → (n : ℕ) →
+    Asks schedule now (trail_above uppers links n number) →
     least_broken (write_data_rules kind.bus (port_history number kind links uppers lowers n) (port_round number kind links uppers lowers n)) ≡ None
 
 -- B keeps rules 1, 2, 8 and 11
 abbrev pub WriteResponsesAreLegal : Type 0
 WriteResponsesAreLegal =
-    (plan : Schedule) (now : Progress) (number : ℕ) (kind : PortKind) (links : ℕ → List LinkView) (uppers lowers : ℕ → Out) → IsLinkRun number links uppers lowers → (n : ℕ) →
-    Answers plan now (trail_below lowers links n number) →
+    (schedule : Schedule) (now : Progress) (number : ℕ) (kind : PortKind) (links : ℕ → List LinkView) (uppers lowers : ℕ → Out) → IsLinkRun number links uppers lowers → (n : ℕ) →
+    Answers schedule now (trail_below lowers links n number) →
     least_broken (write_response_rules (port_history number kind links uppers lowers n) (port_round number kind links uppers lowers n)) ≡ None
 
 -- AR keeps rules 1 to 8
 abbrev pub ReadAddressesAreLegal : Type 0
 ReadAddressesAreLegal =
-    (plan : Schedule) (now : Progress) (number : ℕ) (kind : PortKind) (links : ℕ → List LinkView) (uppers lowers : ℕ → Out) → IsLinkRun number links uppers lowers → IsLegalPlan kind.bus plan → (n : ℕ) →
-    Asks plan now (trail_above uppers links n number) →
+    (schedule : Schedule) (now : Progress) (number : ℕ) (kind : PortKind) (links : ℕ → List LinkView) (uppers lowers : ℕ → Out) → IsLinkRun number links uppers lowers → IsLegalSchedule kind.bus schedule → (n : ℕ) →
+    Asks schedule now (trail_above uppers links n number) →
     least_broken (read_address_rules kind.bus (port_history number kind links uppers lowers n) (port_round number kind links uppers lowers n)) ≡ None
 
 -- R keeps rules 1, 2, 8, 11 and 12
 abbrev pub ReadDataIsLegal : Type 0
 ReadDataIsLegal =
-    (plan : Schedule) (now : Progress) (number : ℕ) (kind : PortKind) (links : ℕ → List LinkView) (uppers lowers : ℕ → Out) → IsLinkRun number links uppers lowers → (n : ℕ) →
-    Answers plan now (trail_below lowers links n number) →
+    (schedule : Schedule) (now : Progress) (number : ℕ) (kind : PortKind) (links : ℕ → List LinkView) (uppers lowers : ℕ → Out) → IsLinkRun number links uppers lowers → (n : ℕ) →
+    Answers schedule now (trail_below lowers links n number) →
     least_broken (read_data_rules (port_history number kind links uppers lowers n) (port_round number kind links uppers lowers n)) ≡ None
 
 -- All channels together.
@@ -105,16 +105,16 @@ ReadDataIsLegal =
 -- a round breaks no rule, where both nodes have kept their contracts up to it
 abbrev pub RoundsAreLegal : Type 0
 RoundsAreLegal =
-    (plan : Schedule) (now : Progress) (number : ℕ) (kind : PortKind) (links : ℕ → List LinkView) (uppers lowers : ℕ → Out) → IsLinkRun number links uppers lowers → IsLegalPlan kind.bus plan → (n : ℕ) →
-    Asks plan now (trail_above uppers links n number) →
-    Answers plan now (trail_below lowers links n number) →
+    (schedule : Schedule) (now : Progress) (number : ℕ) (kind : PortKind) (links : ℕ → List LinkView) (uppers lowers : ℕ → Out) → IsLinkRun number links uppers lowers → IsLegalSchedule kind.bus schedule → (n : ℕ) →
+    Asks schedule now (trail_above uppers links n number) →
+    Answers schedule now (trail_below lowers links n number) →
     axi4_fault kind.bus (port_history number kind links uppers lowers n) (port_round number kind links uppers lowers n) ≡ None
 
 -- A link on which the node above asks and the node below answers as the contracts say, after any number of rounds, has
 -- a port that breaks none of the rules of an AXI4 port.
 abbrev pub LinksAreLegal : Type 0
 LinksAreLegal =
-    (plan : Schedule) (now : ℕ → Progress) (number : ℕ) (kind : PortKind) (links : ℕ → List LinkView) (uppers lowers : ℕ → Out) → IsLinkRun number links uppers lowers → IsLegalPlan kind.bus plan →
-    ((n : ℕ) → Asks plan (now n) (trail_above uppers links n number)) →
-    ((n : ℕ) → Answers plan (now n) (trail_below lowers links n number)) →
+    (schedule : Schedule) (now : ℕ → Progress) (number : ℕ) (kind : PortKind) (links : ℕ → List LinkView) (uppers lowers : ℕ → Out) → IsLinkRun number links uppers lowers → IsLegalSchedule kind.bus schedule →
+    ((n : ℕ) → Asks schedule (now n) (trail_above uppers links n number)) →
+    ((n : ℕ) → Answers schedule (now n) (trail_below lowers links n number)) →
     (n : ℕ) → axi4_history_fault kind.bus (port_history number kind links uppers lowers n) ≡ None

@@ -22,7 +22,7 @@ use Rattle.axi_trail.specs.Words.{Asked, Mark, Reply, announced_marks, burst_ask
 use Rattle.manager_end.specs.Beats.{data_beat, data_beats, request_of as request_of_item}
 use Rattle.manager_end.specs.ManagerOrder.{IsAt, note_at}
 use Rattle.manager_end.specs.ManagerState.{ManagerState, issued_of, of_direction, writes_of}
-use Rattle.manager_end.specs.ManagerTrail.{HasItem, IsPlanOf, ManagerAsks, ManagerKeeps, first_data, shares_of}
+use Rattle.manager_end.specs.ManagerTrail.{HasItem, IsScheduleOf, ManagerAsks, ManagerKeeps, first_data, shares_of}
 use Rattle.manager_end.specs.Script.{ScriptItem}
 use Rattle.manager_end.proofs.AskedLemmas.{ids-asked, lone-numbers, lone-of_key, one-asked, parts-asked, whole-asked}
 use Rattle.manager_end.proofs.HeldLemmas.{asked_by}
@@ -57,14 +57,14 @@ data-of_number bus t (p ∷ ps) =
     ]
 
 -- the data of a transaction is the schedule's
-data-asked : (plan : Schedule) (bus : ℕ) (script : List ScriptItem) → IsPlanOf plan bus script → (t : ℕ) → IsPrefix (of_key number_of_data t (flat_map (λ (p : ℕ × ScriptItem). data_beats p.1 bus) (writes_of script))) (flat_map (λ beats. beats) (plan.writes t).write_data)
-data-asked plan bus script planned t =
+data-asked : (schedule : Schedule) (bus : ℕ) (script : List ScriptItem) → IsScheduleOf schedule bus script → (t : ℕ) → IsPrefix (of_key number_of_data t (flat_map (λ (p : ℕ × ScriptItem). data_beats p.1 bus) (writes_of script))) (flat_map (λ beats. beats) (schedule.writes t).write_data)
+data-asked schedule bus script scheduled t =
     let own = data-of_number bus t (writes_of script)
-    in elim (lone-of_key number_of_item t (writes_of script) (lone-numbers plan bus script planned true)) [
-      | inl none ↦ prefix_same (own ∙ ap (flat_map (λ (p : ℕ × ScriptItem). data_beats p.1 bus)) none) (prefix_nil (flat_map (λ beats. beats) (plan.writes t).write_data))
+    in elim (lone-of_key number_of_item t (writes_of script) (lone-numbers schedule bus script scheduled true)) [
+      | inl none ↦ prefix_same (own ∙ ap (flat_map (λ (p : ℕ × ScriptItem). data_beats p.1 bus)) none) (prefix_nil (flat_map (λ beats. beats) (schedule.writes t).write_data))
       | inr one ↦
           let place = direction-at true script one.0 one.1 one.2
-          in let beats_due : (plan.writes t).write_data ≡ data_beats one.1.1 bus ∷ [] = ap (λ (k : ℕ). (plan.writes k).write_data) (sym one.3) ∙ (at-all (HasItem plan bus) script one.1.0 one.1.1 planned.items place.0).write_data place.1
+          in let beats_due : (schedule.writes t).write_data ≡ data_beats one.1.1 bus ∷ [] = ap (λ (k : ℕ). (schedule.writes k).write_data) (sym one.3) ∙ (at-all (HasItem schedule bus) script one.1.0 one.1.1 scheduled.items place.0).write_data place.1
           in prefix_same (own ∙ ap (flat_map (λ (p : ℕ × ScriptItem). data_beats p.1 bus)) one.4) (prefix_of_same (prefix_itself (data_beats one.1.1 bus ++ [])) (sym (ap (flat_map (λ (beats : List WBeat). beats)) beats_due)))
     ]
 
@@ -102,7 +102,7 @@ marks-of_items bus (p ∷ ps) =
     ∙ ap (λ (ms : List Mark). ms ++ map mark_of_data (flat_map (λ (q : ℕ × ScriptItem). data_beats q.1 bus) ps)) (marks-of_item bus p.1)
     ∙ ap (λ (ms : List Mark). burst_marks p.1.txn.number p.1.txn.request.len ++ ms) (marks-of_items bus ps)
 
-module _ (plan : Schedule) (now : Progress) (rounds : ℕ) (s : ManagerState) (trail : Beats) (keeps : ManagerKeeps plan rounds s trail)
+module _ (schedule : Schedule) (now : Progress) (rounds : ℕ) (s : ManagerState) (trail : Beats) (keeps : ManagerKeeps schedule rounds s trail)
     (known : (place : ℕ) (item : ScriptItem) → IsAt s place item → 0 < (note_at s place).issued → IsTrue (now.issued item.txn.number)) where
   issued-asked : (write : Bool) → All (λ (a : Addr). IsTrue (now.issued a.tag.txn)) (map (λ (p : ℕ × ScriptItem). request_of_item p.1) (take (issued_of write s) (of_direction write s.script)))
   issued-asked write = all-at (λ (a : Addr). IsTrue (now.issued a.tag.txn)) (map (λ (p : ℕ × ScriptItem). request_of_item p.1) (take (issued_of write s) (of_direction write s.script))) (λ k a at.
@@ -113,23 +113,23 @@ module _ (plan : Schedule) (now : Progress) (rounds : ℕ) (s : ManagerState) (t
 
   -- the requests of a direction
   requests-asked : (write : Bool) (len_of : Addr → ℕ) (addresses : List Addr) (replies : List Reply) → addresses ≡ map (λ (p : ℕ × ScriptItem). request_of_item p.1) (take (issued_of write s) (of_direction write s.script)) →
-      Requests (shares_of plan write) plan.id_width now.issued (λ a. record { number = a.tag.txn; id = a.id; len = len_of a }) addresses replies
+      Requests (shares_of schedule write) schedule.id_width now.issued (λ a. record { number = a.tag.txn; id = a.id; len = len_of a }) addresses replies
   requests-asked write len_of addresses replies put =
       let shown : map (λ (a : Addr). record { number = a.tag.txn; id = a.id; len = len_of a }) (map (λ (p : ℕ × ScriptItem). request_of_item p.1) (take (issued_of write s) (of_direction write s.script))) ≡ map (asked_by len_of) (take (issued_of write s) (of_direction write s.script)) =
       map-map (λ (a : Addr). record { number = a.tag.txn; id = a.id; len = len_of a }) (λ (p : ℕ × ScriptItem). request_of_item p.1) (take (issued_of write s) (of_direction write s.script))
-      in subst (λ (addrs : List Addr). Requests (shares_of plan write) plan.id_width now.issued (λ a. record { number = a.tag.txn; id = a.id; len = len_of a }) addrs replies) (sym put) (record {
-        asks_only_its_parts = parts-asked plan s.bus s.script keeps.planned write (issued_of write s);
-        ids_fit = ids-asked plan s.bus s.script keeps.planned write (issued_of write s);
-        whole_before_the_next = subst (WholeBeforeTheNext (shares_of plan write)) (sym shown) (whole-asked plan s.bus s.script keeps.planned write (issued_of write s) len_of);
-        one_id_at_a_time = subst (λ (asked : List Asked). OneIdAtATime (shares_of plan write) asked replies) (sym shown) (one-asked plan s.bus s.script keeps.planned write (issued_of write s) len_of replies);
+      in subst (λ (addrs : List Addr). Requests (shares_of schedule write) schedule.id_width now.issued (λ a. record { number = a.tag.txn; id = a.id; len = len_of a }) addrs replies) (sym put) (record {
+        asks_only_its_parts = parts-asked schedule s.bus s.script keeps.scheduled write (issued_of write s);
+        ids_fit = ids-asked schedule s.bus s.script keeps.scheduled write (issued_of write s);
+        whole_before_the_next = subst (WholeBeforeTheNext (shares_of schedule write)) (sym shown) (whole-asked schedule s.bus s.script keeps.scheduled write (issued_of write s) len_of);
+        one_id_at_a_time = subst (λ (asked : List Asked). OneIdAtATime (shares_of schedule write) asked replies) (sym shown) (one-asked schedule s.bus s.script keeps.scheduled write (issued_of write s) len_of replies);
         was_issued = issued-asked write;
       })
 
-  sent-asked : (t : ℕ) → IsPrefix (of_key number_of_data t trail.w) (flat_map (λ beats. beats) (plan.writes t).write_data)
+  sent-asked : (t : ℕ) → IsPrefix (of_key number_of_data t trail.w) (flat_map (λ beats. beats) (schedule.writes t).write_data)
   sent-asked t =
       let own : IsPrefix (of_key number_of_data t trail.w) (of_key number_of_data t (flat_map (λ (p : ℕ × ScriptItem). data_beats p.1 s.bus) (writes_of s.script))) =
       prefix_of_key number_of_data t (prefix_same keeps.passed.w (sent-prefix s.bus s.sent_writes s.sent_beats (writes_of s.script)))
-      in let due = data-asked plan s.bus s.script keeps.planned t
+      in let due = data-asked schedule s.bus s.script keeps.scheduled t
       in record { rest = own.rest ++ due.rest; whole = due.whole ∙ ap (λ (ws : List WBeat). ws ++ due.rest) own.whole ∙ append_assoc (of_key number_of_data t trail.w) own.rest due.rest }
 
   marks-agree : Agree (data_marks trail) (announced_marks trail)
@@ -144,9 +144,9 @@ module _ (plan : Schedule) (now : Progress) (rounds : ℕ) (s : ManagerState) (t
 
 -- a manager that keeps its invariant asks as it should
 pub manager-asks : ManagerAsks
-manager-asks plan now rounds s trail keeps known = record {
-  writes = requests-asked plan now rounds s trail keeps known true (λ a. 0) trail.aw (write_replies trail) keeps.passed.aw;
-  reads = requests-asked plan now rounds s trail keeps known false (λ a. a.len) trail.ar (read_replies trail) keeps.passed.ar;
-  data_is_the_schedules = λ t. sent-asked plan now rounds s trail keeps known t;
-  data_follows_addresses = marks-agree plan now rounds s trail keeps known;
+manager-asks schedule now rounds s trail keeps known = record {
+  writes = requests-asked schedule now rounds s trail keeps known true (λ a. 0) trail.aw (write_replies trail) keeps.passed.aw;
+  reads = requests-asked schedule now rounds s trail keeps known false (λ a. a.len) trail.ar (read_replies trail) keeps.passed.ar;
+  data_is_the_schedules = λ t. sent-asked schedule now rounds s trail keeps known t;
+  data_follows_addresses = marks-agree schedule now rounds s trail keeps known;
 }

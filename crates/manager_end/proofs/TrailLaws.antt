@@ -54,15 +54,15 @@ span-at bus request k less =
     in slice_get-get_or (spans_of bus request) k none (subst (λ (n : ℕ). k < n) (sym long) less)
     ∙ ap (λ (s : Span). Some s) (get_or-map-range_with_len span 0 (beats_of request) k k none less (omega arith))
 
-module _ (plan : Schedule) (now : Progress) (rounds : ℕ) (links : List LinkView) (s : ManagerState) (trail : Beats) (keeps : ManagerKeeps plan rounds s trail) (answers : Answers plan now (manager_trail links s trail)) where
+module _ (schedule : Schedule) (now : Progress) (rounds : ℕ) (links : List LinkView) (s : ManagerState) (trail : Beats) (keeps : ManagerKeeps schedule rounds s trail) (answers : Answers schedule now (manager_trail links s trail)) where
   stays : IsManager (manager_next (suc rounds) links s)
   stays = manager-stays links s (suc rounds) (omega arith) keeps.is_manager
 
   write-shown : (place : ℕ) (item : ScriptItem) → IsAt s place item → item.txn.write ≡ true → (0 < (note_at (manager_next (suc rounds) links s) place).issued) ↔ Contains (map (λ a. a.tag.txn) (manager_trail links s trail).aw) item.txn.number
-  write-shown place item at directed = issued-shown true (manager_next (suc rounds) links s) (manager_trail links s trail).aw keeps.planned.numbered stays.issues (aw-after plan now rounds links s trail keeps answers) place item at directed
+  write-shown place item at directed = issued-shown true (manager_next (suc rounds) links s) (manager_trail links s trail).aw keeps.scheduled.numbered stays.issues (aw-after schedule now rounds links s trail keeps answers) place item at directed
 
   read-shown : (place : ℕ) (item : ScriptItem) → IsAt s place item → item.txn.write ≡ false → (0 < (note_at (manager_next (suc rounds) links s) place).issued) ↔ Contains (map (λ a. a.tag.txn) (manager_trail links s trail).ar) item.txn.number
-  read-shown place item at directed = issued-shown false (manager_next (suc rounds) links s) (manager_trail links s trail).ar keeps.planned.numbered stays.issues (ar-after plan now rounds links s trail keeps answers) place item at directed
+  read-shown place item at directed = issued-shown false (manager_next (suc rounds) links s) (manager_trail links s trail).ar keeps.scheduled.numbered stays.issues (ar-after schedule now rounds links s trail keeps answers) place item at directed
 
   -- a write whose response is taken
   write-came : (place : ℕ) (item : ScriptItem) → IsAt s place item → item.txn.write ≡ true → (x : Entry × BBeat) → manager_b links s ≡ Some x → place ≡ x.0.place → IsWriteNote (manager_next (suc rounds) links s) (manager_trail links s trail) place item
@@ -72,11 +72,11 @@ module _ (plan : Schedule) (now : Progress) (rounds : ℕ) (links : List LinkVie
       in let due : IsDue s.script true place (note_at s place) = subst (λ (q : ℕ). IsDue s.script true q (note_at s q)) (sym here) (taken-waits links s keeps.is_manager true x.0 (b-taken links s keeps.is_manager x taken))
       in let last = last-answers (suc rounds) x.1.resp [] (note_at s place) (write-last s.script place (note_at s place) due)
       in let note = keeps.passed.write_notes place item at directed
-      in let number = b-number plan now rounds links s trail keeps answers x taken
+      in let number = b-number schedule now rounds links s trail keeps answers x taken
       in let one : number.0 ≡ item = same_Some number.0 item (sym number.1 ∙ ap (slice_get s.script) (sym here) ∙ at)
       in let own : x.1.tag.txn ≡ item.txn.number = number.2 ∙ ap (λ (i : ScriptItem). i.txn.number) one
       in let after : of_key number_of_response item.txn.number (manager_trail links s trail).b ≡ of_key number_of_response item.txn.number trail.b ++ x.1 ∷ [] =
-      ap (of_key number_of_response item.txn.number) (b-after plan now rounds links s trail keeps answers) ∙ own-here number_of_response item.txn.number trail.b (manager_b links s) x taken own
+      ap (of_key number_of_response item.txn.number) (b-after schedule now rounds links s trail keeps answers) ∙ own-here number_of_response item.txn.number trail.b (manager_b links s) x taken own
       in let none : length (note_at s place).resps ≡ 0 = let single : (note_at s place).due_resps ≡ 1 = due.due_resps ∙ ap (λ (b : Bool). cond b 1 (due.item.txn.request.len + 1)) due.direction in omega (arith, due.more)
       in let before : length (of_key number_of_response item.txn.number trail.b) ≡ 0 = sym (length-map (of_key number_of_response item.txn.number trail.b) (λ (b : BBeat). b.resp)) ∙ ap length (sym note.responses) ∙ none
       in let single : length (of_key number_of_response item.txn.number (manager_trail links s trail).b) ≡ 1 = ap length after ∙ length-append (of_key number_of_response item.txn.number trail.b) (x.1 ∷ []) ∙ ap (λ (n : ℕ). n + 1) before
@@ -97,10 +97,10 @@ module _ (plan : Schedule) (now : Progress) (rounds : ℕ) (links : List LinkVie
       in let same = stays-same links s keeps.is_manager keeps.in_order.waiting (suc rounds) (omega arith) true of_way.0 (place, item) of_way.1 not_taken
       in let note = keeps.passed.write_notes place item at directed
       in let others : of_key number_of_response item.txn.number (manager_trail links s trail).b ≡ of_key number_of_response item.txn.number trail.b =
-      ap (of_key number_of_response item.txn.number) (b-after plan now rounds links s trail keeps answers)
+      ap (of_key number_of_response item.txn.number) (b-after schedule now rounds links s trail keeps answers)
       ∙ own-other number_of_response item.txn.number trail.b (manager_b links s) (λ x taken own.
-      let number = b-number plan now rounds links s trail keeps answers x taken
-      in apart x taken (number-once s.script keeps.planned.numbered place x.0.place item number.0 at number.1 (sym own ∙ number.2)))
+      let number = b-number schedule now rounds links s trail keeps answers x taken
+      in apart x taken (number-once s.script keeps.scheduled.numbered place x.0.place item number.0 at number.1 (sym own ∙ number.2)))
       in record {
         issued = write-shown place item at directed;
         responses = same.0 ∙ note.responses ∙ ap (map (λ (b : BBeat). b.resp)) (sym others);
@@ -115,7 +115,7 @@ module _ (plan : Schedule) (now : Progress) (rounds : ℕ) (links : List LinkVie
   ]
 
   -- a read of which a beat is taken
-  read-came : (place : ℕ) (item : ScriptItem) → IsAt s place item → item.txn.write ≡ false → (x : Entry × RBeat) → manager_r links s ≡ Some x → place ≡ x.0.place → IsReadNote plan (manager_next (suc rounds) links s) (manager_trail links s trail) place item
+  read-came : (place : ℕ) (item : ScriptItem) → IsAt s place item → item.txn.write ≡ false → (x : Entry × RBeat) → manager_r links s ≡ Some x → place ≡ x.0.place → IsReadNote schedule (manager_next (suc rounds) links s) (manager_trail links s trail) place item
   read-came place item at directed x taken here =
       let noted : note_at (manager_next (suc rounds) links s) place ≡ answered_in (suc rounds) x.1.resp (bytes_on_valid_lanes s.bus item.txn.request (length (note_at s place).resps) x.1.lanes) (note_at s place) =
       subst (λ (q : ℕ). note_at (manager_next (suc rounds) links s) q ≡ read_in (suc rounds) s.bus (slice_get s.script q) x.1 (note_at s q)) (sym here) (r-noted links s keeps.is_manager (suc rounds) x taken)
@@ -124,19 +124,19 @@ module _ (plan : Schedule) (now : Progress) (rounds : ℕ) (links : List LinkVie
       in let own_item : due.item ≡ item = same_Some due.item item (sym due.at ∙ at)
       in let whole : (note_at s place).due_resps ≡ item.txn.request.len + 1 = due.due_resps ∙ ap (λ (i : ScriptItem). due_resps i.txn) own_item ∙ ap (λ (b : Bool). cond b 1 (item.txn.request.len + 1)) directed
       in let note = keeps.passed.read_notes place item at directed
-      in let number = r-number plan now rounds links s trail keeps answers x taken
+      in let number = r-number schedule now rounds links s trail keeps answers x taken
       in let one : number.0 ≡ item = same_Some number.0 item (sym number.1 ∙ ap (slice_get s.script) (sym here) ∙ at)
       in let own : x.1.tag.txn ≡ item.txn.number = number.2 ∙ ap (λ (i : ScriptItem). i.txn.number) one
       in let after : of_key number_of_read_data item.txn.number (manager_trail links s trail).r ≡ of_key number_of_read_data item.txn.number trail.r ++ x.1 ∷ [] =
-      ap (of_key number_of_read_data item.txn.number) (r-after plan now rounds links s trail keeps answers) ∙ own-here number_of_read_data item.txn.number trail.r (manager_r links s) x taken own
+      ap (of_key number_of_read_data item.txn.number) (r-after schedule now rounds links s trail keeps answers) ∙ own-here number_of_read_data item.txn.number trail.r (manager_r links s) x taken own
       in let before : length (of_key number_of_read_data item.txn.number trail.r) ≡ length (note_at s place).resps = sym (length-map (of_key number_of_read_data item.txn.number trail.r) (λ (r : RBeat). r.resp)) ∙ ap length (sym note.responses)
       in let more : length (of_key number_of_read_data item.txn.number (manager_trail links s trail).r) ≡ length (note_at s place).resps + 1 = ap length after ∙ length-append (of_key number_of_read_data item.txn.number trail.r) (x.1 ∷ []) ∙ ap (λ (n : ℕ). n + 1) before
-      in let lanes = (at-all (HasItem plan s.bus) s.script place item keeps.planned.items at).lanes directed
+      in let lanes = (at-all (HasItem schedule s.bus) s.script place item keeps.scheduled.items at).lanes directed
       in let span = span-at s.bus item.txn.request (length (of_key number_of_read_data item.txn.number trail.r)) (omega (arith, due.more))
-      in let pushed : bytes_on (of_key number_of_read_data item.txn.number (manager_trail links s trail).r) (plan.reads item.txn.number).lanes ≡ bytes_on (of_key number_of_read_data item.txn.number trail.r) (plan.reads item.txn.number).lanes ++ bytes_on_valid_lanes s.bus item.txn.request (length (note_at s place).resps) x.1.lanes =
-      ap (λ (rs : List RBeat). bytes_on rs (plan.reads item.txn.number).lanes) after
-      ∙ bytes-push (of_key number_of_read_data item.txn.number trail.r) (plan.reads item.txn.number).lanes x.1 _ (ap (λ (spans : List Span). slice_get spans (length (of_key number_of_read_data item.txn.number trail.r))) lanes ∙ span)
-      ∙ ap (λ (k : ℕ). bytes_on (of_key number_of_read_data item.txn.number trail.r) (plan.reads item.txn.number).lanes ++ bytes_on_valid_lanes s.bus item.txn.request k x.1.lanes) before
+      in let pushed : bytes_on (of_key number_of_read_data item.txn.number (manager_trail links s trail).r) (schedule.reads item.txn.number).lanes ≡ bytes_on (of_key number_of_read_data item.txn.number trail.r) (schedule.reads item.txn.number).lanes ++ bytes_on_valid_lanes s.bus item.txn.request (length (note_at s place).resps) x.1.lanes =
+      ap (λ (rs : List RBeat). bytes_on rs (schedule.reads item.txn.number).lanes) after
+      ∙ bytes-push (of_key number_of_read_data item.txn.number trail.r) (schedule.reads item.txn.number).lanes x.1 _ (ap (λ (spans : List Span). slice_get spans (length (of_key number_of_read_data item.txn.number trail.r))) lanes ∙ span)
+      ∙ ap (λ (k : ℕ). bytes_on (of_key number_of_read_data item.txn.number trail.r) (schedule.reads item.txn.number).lanes ++ bytes_on_valid_lanes s.bus item.txn.request k x.1.lanes) before
       in let ends : (b : Bool) → is_last (note_at s place) ≡ b → (0 < (note_at (manager_next (suc rounds) links s) place).answered) ↔ (length (of_key number_of_read_data item.txn.number (manager_trail links s trail).r) ≡ suc item.txn.request.len) =
       elim [
         | true ↦ λ last.
@@ -155,7 +155,7 @@ module _ (plan : Schedule) (now : Progress) (rounds : ℕ) (links : List LinkVie
       }
 
   -- a read whose data isn't taken
-  read-waits : (place : ℕ) (item : ScriptItem) → IsAt s place item → item.txn.write ≡ false → ((x : Entry × RBeat) → manager_r links s ≡ Some x → place ≢ x.0.place) → IsReadNote plan (manager_next (suc rounds) links s) (manager_trail links s trail) place item
+  read-waits : (place : ℕ) (item : ScriptItem) → IsAt s place item → item.txn.write ≡ false → ((x : Entry × RBeat) → manager_r links s ≡ Some x → place ≢ x.0.place) → IsReadNote schedule (manager_next (suc rounds) links s) (manager_trail links s trail) place item
   read-waits place item at directed apart =
       let of_way : (n : ℕ) × (slice_get (of_direction false s.script) n ≡ Some (place, item)) = direction-of false s.script place item at directed
       in let not_taken : (e : Entry) → taken_of links s false ≡ Some e → place ≢ e.place = λ e taken here.
@@ -164,30 +164,30 @@ module _ (plan : Schedule) (now : Progress) (rounds : ℕ) (links : List LinkVie
       in let same = stays-same links s keeps.is_manager keeps.in_order.waiting (suc rounds) (omega arith) false of_way.0 (place, item) of_way.1 not_taken
       in let note = keeps.passed.read_notes place item at directed
       in let others : of_key number_of_read_data item.txn.number (manager_trail links s trail).r ≡ of_key number_of_read_data item.txn.number trail.r =
-      ap (of_key number_of_read_data item.txn.number) (r-after plan now rounds links s trail keeps answers)
+      ap (of_key number_of_read_data item.txn.number) (r-after schedule now rounds links s trail keeps answers)
       ∙ own-other number_of_read_data item.txn.number trail.r (manager_r links s) (λ x taken own.
-      let number = r-number plan now rounds links s trail keeps answers x taken
-      in apart x taken (number-once s.script keeps.planned.numbered place x.0.place item number.0 at number.1 (sym own ∙ number.2)))
+      let number = r-number schedule now rounds links s trail keeps answers x taken
+      in apart x taken (number-once s.script keeps.scheduled.numbered place x.0.place item number.0 at number.1 (sym own ∙ number.2)))
       in record {
         issued = read-shown place item at directed;
         responses = same.0 ∙ note.responses ∙ ap (map (λ (r : RBeat). r.resp)) (sym others);
-        bytes = same.1 ∙ note.bytes ∙ ap (λ (rs : List RBeat). bytes_on rs (plan.reads item.txn.number).lanes) (sym others);
+        bytes = same.1 ∙ note.bytes ∙ ap (λ (rs : List RBeat). bytes_on rs (schedule.reads item.txn.number).lanes) (sym others);
         answered = (λ some. ap length others ∙ note.answered.0 (subst (λ (n : ℕ). 0 < n) same.2 some), λ whole. subst (λ (n : ℕ). 0 < n) (sym same.2) (note.answered.1 (sym (ap length others) ∙ whole)));
       }
 
-  read-note : (place : ℕ) (item : ScriptItem) → IsAt s place item → item.txn.write ≡ false → IsReadNote plan (manager_next (suc rounds) links s) (manager_trail links s trail) place item
+  read-note : (place : ℕ) (item : ScriptItem) → IsAt s place item → item.txn.write ≡ false → IsReadNote schedule (manager_next (suc rounds) links s) (manager_trail links s trail) place item
   read-note place item at directed = elim (hits (λ (x : Entry × RBeat). x.0.place) (manager_r links s) place) [
     | inl x ↦ read-came place item at directed x.0 x.1 x.2
     | inr apart ↦ read-waits place item at directed apart
   ]
 
-  passes : HasPassed plan (manager_next (suc rounds) links s) (manager_trail links s trail)
+  passes : HasPassed schedule (manager_next (suc rounds) links s) (manager_trail links s trail)
   passes = record {
-    aw = aw-after plan now rounds links s trail keeps answers;
-    w = w-after plan now rounds links s trail keeps answers;
-    ar = ar-after plan now rounds links s trail keeps answers;
-    write_entries = write-entries-after plan now rounds links s trail keeps answers;
-    read_entries = read-entries-after plan now rounds links s trail keeps answers;
+    aw = aw-after schedule now rounds links s trail keeps answers;
+    w = w-after schedule now rounds links s trail keeps answers;
+    ar = ar-after schedule now rounds links s trail keeps answers;
+    write_entries = write-entries-after schedule now rounds links s trail keeps answers;
+    read_entries = read-entries-after schedule now rounds links s trail keeps answers;
     writes_in_order = answers.answers_in_order_of_id;
     reads_in_order = answers.reads_in_order_of_id;
     write_notes = write-note;
@@ -196,11 +196,11 @@ module _ (plan : Schedule) (now : Progress) (rounds : ℕ) (links : List LinkVie
 
 -- it holds after one more round
 pub manager-steps : ManagerSteps
-manager-steps plan now rounds links s trail keeps answers = record {
-  is_manager = stays plan now rounds links s trail keeps answers;
-  planned = keeps.planned;
+manager-steps schedule now rounds links s trail keeps answers = record {
+  is_manager = stays schedule now rounds links s trail keeps answers;
+  scheduled = keeps.scheduled;
   in_order = order-stays rounds links s keeps.is_manager keeps.in_order;
-  passed = passes plan now rounds links s trail keeps answers;
+  passed = passes schedule now rounds links s trail keeps answers;
 }
 
 none-contained : {X : Type 0} (x : X) → Contains [] x → ⊥
@@ -208,14 +208,14 @@ none-contained x has = absurd (omega (arith, has.1))
 
 -- it holds of a manager that has issued nothing
 pub manager-opens : ManagerOpens
-manager-opens plan script lower bus is wide words planned =
+manager-opens schedule script lower bus is wide words scheduled =
     let unissued : (place : ℕ) → (note_at (new_manager script lower bus) place).issued ≡ 0 = λ place. new-note (λ a. a.issued ≡ 0) script place (λ resps bytes. refl)
     in let none : (place : ℕ) → (note_at (new_manager script lower bus) place).answered ≡ 0 = λ place. new-note (λ a. a.answered ≡ 0) script place (λ resps bytes. refl)
     in let no_resps : (place : ℕ) → (note_at (new_manager script lower bus) place).resps ≡ [] = λ place. new-note (λ a. a.resps ≡ []) script place (λ resps bytes. refl)
     in let no_bytes : (place : ℕ) → (note_at (new_manager script lower bus) place).bytes ≡ [] = λ place. new-note (λ a. a.bytes ≡ []) script place (λ resps bytes. refl)
     in record {
       is_manager = manager-begins script lower bus is wide words;
-      planned = planned;
+      scheduled = scheduled;
       in_order = order-begins script lower bus;
       passed = record {
         aw = refl;

@@ -27,7 +27,7 @@ use Rattle.manager_end.specs.Beats.{data_beat, request_of as request_of_item}
 use Rattle.manager_end.specs.ManagerOrder.{IsAt, note_at}
 use Rattle.manager_end.specs.ManagerState.{ManagerState, due_resps, entry_of, of_direction, writes_of, reads_of}
 use Rattle.manager_end.specs.ManagerTable.{below, ending, manager_aw, manager_w, manager_ar, manager_b, manager_r, manager_r_last, manager_next}
-use Rattle.manager_end.specs.ManagerTrail.{IsPlanOf, ManagerKeeps, held_items, manager_trail, sent_data, shares_of}
+use Rattle.manager_end.specs.ManagerTrail.{IsScheduleOf, ManagerKeeps, held_items, manager_trail, sent_data, shares_of}
 use Rattle.manager_end.specs.Script.{ScriptItem}
 use Rattle.manager_end.specs.declared.entry.Entry.{Entry}
 use Rattle.manager_end.proofs.AskedLemmas.{IsLone, lone-numbers, lone-take, middle, none-of_key, one-asked}
@@ -65,14 +65,14 @@ held-at write n script len_of ids id w others e first same =
     ap (slice_get script) (ap (λ (entry : Entry). entry.place) (sym same)) ∙ holding-has len_of (λ p. slice_get script p.0 ≡ Some p.1) (take n (of_direction write script)) ids id w others (items-at write n script) first
 
 -- as many answer beats of a held one came as have its number
-done-is : (plan : Schedule) (bus n : ℕ) (script : List ScriptItem) (write : Bool) (len_of : Addr → ℕ) (replies : List Reply) (id : ℕ) (w : Waiting (ℕ × ScriptItem)) (others : List (Waiting (ℕ × ScriptItem))) → IsPlanOf plan bus script →
+done-is : (schedule : Schedule) (bus n : ℕ) (script : List ScriptItem) (write : Bool) (len_of : Addr → ℕ) (replies : List Reply) (id : ℕ) (w : Waiting (ℕ × ScriptItem)) (others : List (Waiting (ℕ × ScriptItem))) → IsScheduleOf schedule bus script →
     InOrderOfId (map (asked_by len_of) (take n (of_direction write script))) replies → of_key id_held id (holding len_of (take n (of_direction write script)) (map id_of_reply replies)) ≡ w ∷ others →
     length (of_key number_of_reply w.request.1.txn.number replies) ≡ w.done
-done-is plan bus n script write len_of replies id w others planned order first =
+done-is schedule bus n script write len_of replies id w others scheduled order first =
     let items : List (ℕ × ScriptItem) = take n (of_direction write script)
     in let own = held-shows len_of items replies id ∙ ap (map (waiting_shown (asked_by len_of))) first
-    in let next = oldest_held_is_next_of_its_own (shares_of plan write) (map (asked_by len_of) items) replies (one-asked plan bus script planned write n len_of replies) order id (waiting_shown (asked_by len_of) w) (map (waiting_shown (asked_by len_of)) others) own
-    in let lone : IsLone number_of_item items = lone-take number_of_item n (of_direction write script) (lone-numbers plan bus script planned write)
+    in let next = oldest_held_is_next_of_its_own (shares_of schedule write) (map (asked_by len_of) items) replies (one-asked schedule bus script scheduled write n len_of replies) order id (waiting_shown (asked_by len_of) w) (map (waiting_shown (asked_by len_of)) others) own
+    in let lone : IsLone number_of_item items = lone-take number_of_item n (of_direction write script) (lone-numbers schedule bus script scheduled write)
     in let alone : IsLone number_of_asked (map (asked_by len_of) items) =
     λ j k a b at_a at_b same.
     let from : (p : ℕ × ScriptItem) × (slice_get items j ≡ Some p) × (asked_by len_of p ≡ a) = map-from (asked_by len_of) items j a at_a
@@ -112,7 +112,7 @@ next-equal a b = elim (cases_eq a b) [
   | inr apart ↦ ne_eqb (a + 1) (b + 1) (λ same. apart (omega arith)) ∙ sym (ne_eqb a b apart)
 ]
 
-module _ (plan : Schedule) (now : Progress) (rounds : ℕ) (links : List LinkView) (s : ManagerState) (trail : Beats) (keeps : ManagerKeeps plan rounds s trail) (answers : Answers plan now (manager_trail links s trail)) where
+module _ (schedule : Schedule) (now : Progress) (rounds : ℕ) (links : List LinkView) (s : ManagerState) (trail : Beats) (keeps : ManagerKeeps schedule rounds s trail) (answers : Answers schedule now (manager_trail links s trail)) where
   -- what has been put after the round
   pub aw-after : (manager_trail links s trail).aw ≡ map (λ (p : ℕ × ScriptItem). request_of_item p.1) (take (manager_next (suc rounds) links s).issued_writes (writes_of s.script))
   aw-after = put-grows (λ (p : ℕ × ScriptItem). request_of_item p.1) (writes_of s.script) s.issued_writes (manager_aw links s) trail.aw _ (aw-next links s) (aw-moved links s) keeps.passed.aw
@@ -194,7 +194,7 @@ module _ (plan : Schedule) (now : Progress) (rounds : ℕ) (links : List LinkVie
       in let replies : of_key number_of_reply w.request.1.txn.number (map read_reply trail.r) ≡ map read_reply (of_key number_of_read_data w.request.1.txn.number trail.r) = of_key-map number_of_reply read_reply w.request.1.txn.number trail.r
       in let shown : of_key id_held x.1.id (holding (λ a. a.len) (take s.issued_reads (reads_of s.script)) (map id_of_reply (map read_reply trail.r))) ≡ w ∷ others =
       ap (λ (ids : List ℕ). of_key id_held x.1.id (holding (λ a. a.len) (take s.issued_reads (reads_of s.script)) ids)) (map-map id_of_reply read_reply trail.r) ∙ first
-      in let done = done-is plan s.bus s.issued_reads s.script false (λ a. a.len) (map read_reply trail.r) x.1.id w others keeps.planned reads-before shown
+      in let done = done-is schedule s.bus s.issued_reads s.script false (λ a. a.len) (map read_reply trail.r) x.1.id w others keeps.scheduled reads-before shown
       in ap length note.responses
       ∙ length-map (of_key number_of_read_data w.request.1.txn.number trail.r) (λ r. r.resp)
       ∙ sym (length-map (of_key number_of_read_data w.request.1.txn.number trail.r) read_reply)

@@ -21,7 +21,7 @@ use Rattle.manager_end.specs.Script.{ScriptItem, IsScript}
 
 -- the shares of a direction
 abbrev pub shares_of : Schedule → Bool → ℕ → Share
-shares_of plan write = if write then plan.writes else plan.reads
+shares_of schedule write = if write then schedule.writes else schedule.reads
 
 -- the valid lanes of each beat of a burst on a bus
 abbrev pub spans_of : ℕ → Addr → List Span
@@ -29,11 +29,11 @@ spans_of bus request = map (λ n. record { low = low_lane bus request n; high = 
 
 -- The schedule of the link below a manager has this transaction as it is: as one request, with its own data, and the
 -- valid lanes of its beats wanted.
-pub record HasItem (plan : Schedule) (bus : ℕ) (item : ScriptItem) : Type 0 where
-  pub parts : (shares_of plan item.txn.write item.txn.number).parts ≡ without_id (request_of_item item) ∷ []
-  pub write_data : item.txn.write ≡ true → (plan.writes item.txn.number).write_data ≡ data_beats item bus ∷ []
-  pub lanes : item.txn.write ≡ false → (plan.reads item.txn.number).lanes ≡ spans_of bus item.txn.request
-  pub id_fits : item.txn.request.id < 2 ^ plan.id_width
+pub record HasItem (schedule : Schedule) (bus : ℕ) (item : ScriptItem) : Type 0 where
+  pub parts : (shares_of schedule item.txn.write item.txn.number).parts ≡ without_id (request_of_item item) ∷ []
+  pub write_data : item.txn.write ≡ true → (schedule.writes item.txn.number).write_data ≡ data_beats item bus ∷ []
+  pub lanes : item.txn.write ≡ false → (schedule.reads item.txn.number).lanes ≡ spans_of bus item.txn.request
+  pub id_fits : item.txn.request.id < 2 ^ schedule.id_width
 
 -- a transaction of this script, direction and ID
 pub record IsItsOwn (script : List ScriptItem) (write : Bool) (id number : ℕ) : Type 0 where
@@ -45,11 +45,11 @@ pub record IsItsOwn (script : List ScriptItem) (write : Bool) (id number : ℕ) 
 
 -- The schedule of the link below a manager is that of its script: the transactions are numbered in their order, each
 -- is there as it is, and the chain of a transaction has the others of its direction and ID, and none from elsewhere.
-pub record IsPlanOf (plan : Schedule) (bus : ℕ) (script : List ScriptItem) : Type 0 where
+pub record IsScheduleOf (schedule : Schedule) (bus : ℕ) (script : List ScriptItem) : Type 0 where
   pub numbered : AllPairs (λ (a b : ScriptItem). a.txn.number < b.txn.number) script
-  pub items : All (HasItem plan bus) script
+  pub items : All (HasItem schedule bus) script
   pub chains :
-      All (λ (item : ScriptItem). (number : ℕ) → SameChain (shares_of plan item.txn.write) number item.txn.number →
+      All (λ (item : ScriptItem). (number : ℕ) → SameChain (shares_of schedule item.txn.write) number item.txn.number →
       IsItsOwn script item.txn.write item.txn.request.id number) script
 
 -- how many answer beats come after the first one: none for a write, and as many as data beats for a read
@@ -80,14 +80,14 @@ pub record IsWriteNote (s : ManagerState) (trail : Beats) (place : ℕ) (item : 
 
 -- What is noted of a read: the responses and the bytes of the beats that came for it. It is answered when all have
 -- come.
-pub record IsReadNote (plan : Schedule) (s : ManagerState) (trail : Beats) (place : ℕ) (item : ScriptItem) : Type 0 where
+pub record IsReadNote (schedule : Schedule) (s : ManagerState) (trail : Beats) (place : ℕ) (item : ScriptItem) : Type 0 where
   pub issued : (0 < (note_at s place).issued) ↔ Contains (map number_of_address trail.ar) item.txn.number
   pub responses : (note_at s place).resps ≡ map (λ r. r.resp) (of_key number_of_read_data item.txn.number trail.r)
-  pub bytes : (note_at s place).bytes ≡ bytes_on (of_key number_of_read_data item.txn.number trail.r) (plan.reads item.txn.number).lanes
+  pub bytes : (note_at s place).bytes ≡ bytes_on (of_key number_of_read_data item.txn.number trail.r) (schedule.reads item.txn.number).lanes
   pub answered : (0 < (note_at s place).answered) ↔ (length (of_key number_of_read_data item.txn.number trail.r) ≡ suc item.txn.request.len)
 
 -- What a manager's state has to do with its trail.
-pub record HasPassed (plan : Schedule) (s : ManagerState) (trail : Beats) : Type 0 where
+pub record HasPassed (schedule : Schedule) (s : ManagerState) (trail : Beats) : Type 0 where
   -- it has put the first requests of each direction, and the data of the first writes
   pub aw : trail.aw ≡ map (λ (p : ℕ × ScriptItem). request_of_item p.1) (take s.issued_writes (writes_of s.script))
   pub w : trail.w ≡ sent_data s
@@ -100,20 +100,20 @@ pub record HasPassed (plan : Schedule) (s : ManagerState) (trail : Beats) : Type
   pub reads_in_order : InOrderOfId (reads_asked trail) (read_replies trail)
   -- what is noted has come
   pub write_notes : (place : ℕ) (item : ScriptItem) → IsAt s place item → item.txn.write ≡ true → IsWriteNote s trail place item
-  pub read_notes : (place : ℕ) (item : ScriptItem) → IsAt s place item → item.txn.write ≡ false → IsReadNote plan s trail place item
+  pub read_notes : (place : ℕ) (item : ScriptItem) → IsAt s place item → item.txn.write ≡ false → IsReadNote schedule s trail place item
 
 -- What holds of a manager over its rounds and its trail.
-pub record ManagerKeeps (plan : Schedule) (rounds : ℕ) (s : ManagerState) (trail : Beats) : Type 0 where
+pub record ManagerKeeps (schedule : Schedule) (rounds : ℕ) (s : ManagerState) (trail : Beats) : Type 0 where
   pub is_manager : IsManager s
-  pub planned : IsPlanOf plan s.bus s.script
+  pub scheduled : IsScheduleOf schedule s.bus s.script
   pub in_order : AreInOrder rounds s
-  pub passed : HasPassed plan s trail
+  pub passed : HasPassed schedule s trail
 
 -- it holds of a manager that has issued nothing
 abbrev pub ManagerOpens : Type 0
 ManagerOpens =
-    (plan : Schedule) (script : List ScriptItem) (lower bus : ℕ) → IsScript script → IsBusWidth bus → All (λ (item : ScriptItem). IsLegal item.txn.request bus) script →
-    IsPlanOf plan bus script → ManagerKeeps plan 0 (new_manager script lower bus) no_beats
+    (schedule : Schedule) (script : List ScriptItem) (lower bus : ℕ) → IsScript script → IsBusWidth bus → All (λ (item : ScriptItem). IsLegal item.txn.request bus) script →
+    IsScheduleOf schedule bus script → ManagerKeeps schedule 0 (new_manager script lower bus) no_beats
 
 -- the trail after a round
 abbrev pub manager_trail : List LinkView → ManagerState → Beats → Beats
@@ -122,13 +122,13 @@ manager_trail links s trail = joined trail (moved_above (manager_out links s) li
 -- it holds after one more round, where the link answers as it should
 abbrev pub ManagerSteps : Type 0
 ManagerSteps =
-    (plan : Schedule) (now : Progress) (rounds : ℕ) (links : List LinkView) (s : ManagerState) (trail : Beats) → ManagerKeeps plan rounds s trail →
-    Answers plan now (manager_trail links s trail) →
-    ManagerKeeps plan (suc rounds) (manager_next (suc rounds) links s) (manager_trail links s trail)
+    (schedule : Schedule) (now : Progress) (rounds : ℕ) (links : List LinkView) (s : ManagerState) (trail : Beats) → ManagerKeeps schedule rounds s trail →
+    Answers schedule now (manager_trail links s trail) →
+    ManagerKeeps schedule (suc rounds) (manager_next (suc rounds) links s) (manager_trail links s trail)
 
 -- a manager that keeps it asks as it should, where the issued ones are known to be issued
 abbrev pub ManagerAsks : Type 0
 ManagerAsks =
-    (plan : Schedule) (now : Progress) (rounds : ℕ) (s : ManagerState) (trail : Beats) → ManagerKeeps plan rounds s trail →
+    (schedule : Schedule) (now : Progress) (rounds : ℕ) (s : ManagerState) (trail : Beats) → ManagerKeeps schedule rounds s trail →
     ((place : ℕ) (item : ScriptItem) → IsAt s place item → 0 < (note_at s place).issued → IsTrue (now.issued item.txn.number)) →
-    Asks plan now trail
+    Asks schedule now trail

@@ -13,17 +13,17 @@ use Rattle.memory_end.specs.Status.{is_inside}
 use Rattle.memory_end.specs.Store.{Store, byte_at}
 use Rattle.memory_end.specs.declared.config.MemoryConfig.{MemoryConfig}
 
-pub record Accessed (plan : Schedule) (config : MemoryConfig) (store : Store) (w : List WBeat) (r : List RBeat) (all : List Access) : Type 0 where
-  pub written : (number : ℕ) → map (λ (a : Access). a.byte) (accesses_of true number all) ≡ due_writes config (plan.writes number) (length (of_key number_of_data number w))
-  pub read : (number : ℕ) → map (λ (a : Access). a.byte.address) (accesses_of false number all) ≡ due_reads config (plan.reads number) (length (of_key number_of_read_data number r))
+pub record Accessed (schedule : Schedule) (config : MemoryConfig) (store : Store) (w : List WBeat) (r : List RBeat) (all : List Access) : Type 0 where
+  pub written : (number : ℕ) → map (λ (a : Access). a.byte) (accesses_of true number all) ≡ due_writes config (schedule.writes number) (length (of_key number_of_data number w))
+  pub read : (number : ℕ) → map (λ (a : Access). a.byte.address) (accesses_of false number all) ≡ due_reads config (schedule.reads number) (length (of_key number_of_read_data number r))
   pub answered :
       (number : ℕ) →
-      bytes_on (of_key number_of_read_data number r) (plan.reads number).lanes
-      ≡ filled_bytes (allowed_before config (plan.reads number) (length (of_key number_of_read_data number r))) (map (λ (a : Access). a.byte.value) (accesses_of false number all))
+      bytes_on (of_key number_of_read_data number r) (schedule.reads number).lanes
+      ≡ filled_bytes (allowed_before config (schedule.reads number) (length (of_key number_of_read_data number r))) (map (λ (a : Access). a.byte.value) (accesses_of false number all))
   pub bytes : (address : ℕ) → IsTrue (is_inside config address) → left_at address config.fill all ≡ byte_at store address
   pub latest : (earlier later : List Access) (a : Access) → all ≡ earlier ++ a ∷ later → a.write ≡ false → a.byte.value ≡ left_at a.byte.address config.fill earlier
-  pub writes_in_order : AccessesInOrder plan.writes true all
-  pub reads_in_order : AccessesInOrder plan.reads false all
+  pub writes_in_order : AccessesInOrder schedule.writes true all
+  pub reads_in_order : AccessesInOrder schedule.reads false all
 
 pub addresses-of_accesses : (number : ℕ) (write : Bool) (bytes : List Byte) → map (λ (a : Access). a.byte.address) (accesses number write bytes) ≡ map (λ (b : Byte). b.address) bytes
 addresses-of_accesses number write [] = refl

@@ -48,12 +48,12 @@ stored-lanes config store address (k ∷ lanes) =
     ]
     in go (is_inside config (address k)) refl
 
-module _ (plan : Schedule) (config : MemoryConfig) (store : Store) (e : ReadEntry) (w : List WBeat) (r : List RBeat) (all : List Access) where
+module _ (schedule : Schedule) (config : MemoryConfig) (store : Store) (e : ReadEntry) (w : List WBeat) (r : List RBeat) (all : List Access) where
   abbrev t : ℕ
   t = e.request.tag.txn
 
   abbrev share : Share
-  share = plan.reads e.request.tag.txn
+  share = schedule.reads e.request.tag.txn
 
   abbrev beat : RBeat
   beat = next_beat config store e
@@ -73,10 +73,10 @@ module _ (plan : Schedule) (config : MemoryConfig) (store : Store) (e : ReadEntr
   -- what the beat is of its transaction, and that nothing has come of later ones
   pub record IsNextRead : Type 0 where
     pub is_config : IsMemoryConfig config
-    pub lanes : (plan.reads e.request.tag.txn).lanes ≡ map (span_of config) (beats_of_parts (plan.reads e.request.tag.txn).parts)
+    pub lanes : (schedule.reads e.request.tag.txn).lanes ≡ map (span_of config) (beats_of_parts (schedule.reads e.request.tag.txn).parts)
     pub rest : List BeatOf
-    pub place : drop (length (of_key number_of_read_data e.request.tag.txn r)) (beats_of_parts (plan.reads e.request.tag.txn).parts) ≡ record { request = without_id e.request; beat = e.put } ∷ rest
-    pub none_later : (after : ℕ) → ComesBefore plan.reads e.request.tag.txn after → length (of_key number_of_read_data after r) ≡ 0
+    pub place : drop (length (of_key number_of_read_data e.request.tag.txn r)) (beats_of_parts (schedule.reads e.request.tag.txn).parts) ≡ record { request = without_id e.request; beat = e.put } ∷ rest
+    pub none_later : (after : ℕ) → ComesBefore schedule.reads e.request.tag.txn after → length (of_key number_of_read_data after r) ≡ 0
 
   own-beats : of_key number_of_read_data t (r ++ beat ∷ []) ≡ of_key number_of_read_data t r ++ beat ∷ []
   own-beats = of_key-push number_of_read_data t r beat refl
@@ -99,7 +99,7 @@ module _ (plan : Schedule) (config : MemoryConfig) (store : Store) (e : ReadEntr
       ∙ map-map (λ (b : Byte). b.address) (λ lane. record { address = lane_address e.request e.put config.bus lane; value = byte_at store (lane_address e.request e.put config.bus lane) })
       (filter (λ lane. is_okay (read_status config (lane_address e.request e.put config.bus lane))) (valid_lanes e.request e.put config.bus))
 
-  module _ (is : Accessed plan config store w r all) (next : IsNextRead) where
+  module _ (is : Accessed schedule config store w r all) (next : IsNextRead) where
     due-more : due_reads config share (suc so_far) ≡ due_reads config share so_far ++ read_addresses config now
     due-more =
         flat_map_next (read_addresses config) so_far (beats_of_parts share.parts) (record { request = without_id e.request; beat = e.put }) next.rest next.place
@@ -119,13 +119,13 @@ module _ (plan : Schedule) (config : MemoryConfig) (store : Store) (e : ReadEntr
         ∙ sym due-more
         ∙ ap (due_reads config share) (sym own-count)
 
-    read-more : (number : ℕ) → map (λ (a : Access). a.byte.address) (accesses_of false number (all ++ new)) ≡ due_reads config (plan.reads number) (length (of_key number_of_read_data number (r ++ beat ∷ [])))
+    read-more : (number : ℕ) → map (λ (a : Access). a.byte.address) (accesses_of false number (all ++ new)) ≡ due_reads config (schedule.reads number) (length (of_key number_of_read_data number (r ++ beat ∷ [])))
     read-more number = elim (cases_eq t number) [
-      | inl own ↦ subst (λ (n : ℕ). map (λ (a : Access). a.byte.address) (accesses_of false n (all ++ new)) ≡ due_reads config (plan.reads n) (length (of_key number_of_read_data n (r ++ beat ∷ [])))) own read-own
+      | inl own ↦ subst (λ (n : ℕ). map (λ (a : Access). a.byte.address) (accesses_of false n (all ++ new)) ≡ due_reads config (schedule.reads n) (length (of_key number_of_read_data n (r ++ beat ∷ [])))) own read-own
       | inr ne ↦
           ap (map (λ (a : Access). a.byte.address)) (other-accesses number ne)
           ∙ is.read number
-          ∙ ap (λ xs. due_reads config (plan.reads number) (length xs)) (sym (of_key-push_other number_of_read_data number r beat ne))
+          ∙ ap (λ xs. due_reads config (schedule.reads number) (length xs)) (sym (of_key-push_other number_of_read_data number r beat ne))
     ]
 
     values-counted : length (map (λ (a : Access). a.byte.value) (accesses_of false t all)) ≡ count_allowed (allowed_before config share so_far)
@@ -158,16 +158,16 @@ module _ (plan : Schedule) (config : MemoryConfig) (store : Store) (e : ReadEntr
         ∙ map-append (λ (a : Access). a.byte.value) (accesses_of false t all) new
         ∙ ap (λ xs. map (λ (a : Access). a.byte.value) (accesses_of false t all) ++ xs) (values-of_accesses t false bytes_read)))
 
-    answered-more : (number : ℕ) → bytes_on (of_key number_of_read_data number (r ++ beat ∷ [])) (plan.reads number).lanes
-        ≡ filled_bytes (allowed_before config (plan.reads number) (length (of_key number_of_read_data number (r ++ beat ∷ [])))) (map (λ (a : Access). a.byte.value) (accesses_of false number (all ++ new)))
+    answered-more : (number : ℕ) → bytes_on (of_key number_of_read_data number (r ++ beat ∷ [])) (schedule.reads number).lanes
+        ≡ filled_bytes (allowed_before config (schedule.reads number) (length (of_key number_of_read_data number (r ++ beat ∷ [])))) (map (λ (a : Access). a.byte.value) (accesses_of false number (all ++ new)))
     answered-more number = elim (cases_eq t number) [
-      | inl own ↦ subst (λ (n : ℕ). bytes_on (of_key number_of_read_data n (r ++ beat ∷ [])) (plan.reads n).lanes
-          ≡ filled_bytes (allowed_before config (plan.reads n) (length (of_key number_of_read_data n (r ++ beat ∷ [])))) (map (λ (a : Access). a.byte.value) (accesses_of false n (all ++ new)))) own answered-own
+      | inl own ↦ subst (λ (n : ℕ). bytes_on (of_key number_of_read_data n (r ++ beat ∷ [])) (schedule.reads n).lanes
+          ≡ filled_bytes (allowed_before config (schedule.reads n) (length (of_key number_of_read_data n (r ++ beat ∷ [])))) (map (λ (a : Access). a.byte.value) (accesses_of false n (all ++ new)))) own answered-own
       | inr ne ↦
-          ap (λ xs. bytes_on xs (plan.reads number).lanes) (of_key-push_other number_of_read_data number r beat ne)
+          ap (λ xs. bytes_on xs (schedule.reads number).lanes) (of_key-push_other number_of_read_data number r beat ne)
           ∙ is.answered number
-          ∙ ap (λ xs. filled_bytes (allowed_before config (plan.reads number) (length xs)) (map (λ (a : Access). a.byte.value) (accesses_of false number all))) (sym (of_key-push_other number_of_read_data number r beat ne))
-          ∙ ap (λ xs. filled_bytes (allowed_before config (plan.reads number) (length (of_key number_of_read_data number (r ++ beat ∷ [])))) (map (λ (a : Access). a.byte.value) xs)) (sym (other-accesses number ne))
+          ∙ ap (λ xs. filled_bytes (allowed_before config (schedule.reads number) (length xs)) (map (λ (a : Access). a.byte.value) (accesses_of false number all))) (sym (of_key-push_other number_of_read_data number r beat ne))
+          ∙ ap (λ xs. filled_bytes (allowed_before config (schedule.reads number) (length (of_key number_of_read_data number (r ++ beat ∷ [])))) (map (λ (a : Access). a.byte.value) xs)) (sym (other-accesses number ne))
     ]
 
     reads-stored : AllByRecursion (IsReadOf (IsStored config store) t) new
@@ -186,7 +186,7 @@ module _ (plan : Schedule) (config : MemoryConfig) (store : Store) (e : ReadEntr
           ∙ ap (left_at a.byte.address config.fill) (sym mine.2)
     ]
 
-    pub accessed-read : Accessed plan config store w (r ++ beat ∷ []) (all ++ new)
+    pub accessed-read : Accessed schedule config store w (r ++ beat ∷ []) (all ++ new)
     accessed-read = record {
       written = λ number. ap (map (λ (a : Access). a.byte)) (writes-same number) ∙ is.written number;
       read = read-more;
@@ -196,8 +196,8 @@ module _ (plan : Schedule) (config : MemoryConfig) (store : Store) (e : ReadEntr
           ∙ left_at-reads (IsStored config store) t address (left_at address config.fill all) new reads-stored
           ∙ is.bytes address inside;
       latest = latest-more;
-      writes_in_order = order-other plan.writes false all t bytes_read is.writes_in_order;
-      reads_in_order = order-more plan.reads false all t bytes_read
-          (λ after chain. nil-of_map (λ (a : Access). a.byte.address) (accesses_of false after all) (is.read after ∙ ap (due_reads config (plan.reads after)) (next.none_later after chain)))
+      writes_in_order = order-other schedule.writes false all t bytes_read is.writes_in_order;
+      reads_in_order = order-more schedule.reads false all t bytes_read
+          (λ after chain. nil-of_map (λ (a : Access). a.byte.address) (accesses_of false after all) (is.read after ∙ ap (due_reads config (schedule.reads after)) (next.none_later after chain)))
           is.reads_in_order;
     }

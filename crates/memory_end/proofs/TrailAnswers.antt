@@ -85,7 +85,7 @@ length-due (p ∷ parts) (d ∷ written) e =
     let later : map (λ (xs : List WBeat). length xs) written ≡ map beats_of parts = cc in
     omega (arith, length-append d (flat_map (λ (xs : List WBeat). xs) written), length-due parts written later)
 
-module _ (plan : Schedule) (now : Progress) (config : MemoryConfig) (entries : List WriteEntry) (trail : Beats) (asks : Asks plan now trail) (is : TracksWrites config entries trail.aw trail.w trail.b) where
+module _ (schedule : Schedule) (now : Progress) (config : MemoryConfig) (entries : List WriteEntry) (trail : Beats) (asks : Asks schedule now trail) (is : TracksWrites config entries trail.aw trail.w trail.b) where
   -- the writes that are answered
   abbrev answered : List Addr
   answered = take (length trail.b) trail.aw
@@ -119,11 +119,11 @@ module _ (plan : Schedule) (now : Progress) (config : MemoryConfig) (entries : L
       prefix_of_same (prefix_take (length trail.b) (length (filter (λ (m : Mark). m.last) (map mark_of_data trail.w))) trail.aw [] few)
       (ap (take (length (filter (λ (m : Mark). m.last) (map mark_of_data trail.w)))) (append-nil trail.aw))
 
-  module _ (t : ℕ) (suits : map (λ (xs : List WBeat). length xs) (plan.writes t).write_data ≡ map beats_of (plan.writes t).parts) where
+  module _ (t : ℕ) (suits : map (λ (xs : List WBeat). length xs) (schedule.writes t).write_data ≡ map beats_of (schedule.writes t).parts) where
     abbrev own : List Addr
     own = of_key number_of_address t answered
 
-    own-parts : IsPrefix (map without_id own) (plan.writes t).parts
+    own-parts : IsPrefix (map without_id own) (schedule.writes t).parts
     own-parts = prefix_trans (prefix_map without_id (prefix_of_key number_of_address t (prefix_first (length trail.b) trail.aw))) (asks.writes.asks_only_its_parts t)
 
     own-data : beats_of_all own ≤ length (of_key number_of_data t trail.w)
@@ -139,10 +139,10 @@ module _ (plan : Schedule) (now : Progress) (config : MemoryConfig) (entries : L
           count-data_marks t trail.w,
         )
 
-    own-responses : IsPrefix (map (λ (b : BBeat). b.resp) (of_key number_of_response t trail.b)) (due_responses config (plan.writes t).parts (plan.writes t).write_data)
+    own-responses : IsPrefix (map (λ (b : BBeat). b.resp) (of_key number_of_response t trail.b)) (due_responses config (schedule.writes t).parts (schedule.writes t).write_data)
     own-responses =
-        let due : IsPrefix (map (λ (e : WriteEntry). e.worst) (tracked config own (of_key number_of_data t trail.w))) (due_responses config (plan.writes t).parts (plan.writes t).write_data) =
-        responses-due config own (plan.writes t).parts (plan.writes t).write_data (of_key number_of_data t trail.w) own-parts suits (asks.data_is_the_schedules t) own-data in
+        let due : IsPrefix (map (λ (e : WriteEntry). e.worst) (tracked config own (of_key number_of_data t trail.w))) (due_responses config (schedule.writes t).parts (schedule.writes t).write_data) =
+        responses-due config own (schedule.writes t).parts (schedule.writes t).write_data (of_key number_of_data t trail.w) own-parts suits (asks.data_is_the_schedules t) own-data in
         let same : map (λ (b : BBeat). b.resp) (of_key number_of_response t trail.b) ≡ map (λ (e : WriteEntry). e.worst) (tracked config own (of_key number_of_data t trail.w)) =
         ap (λ bs. map (λ (b : BBeat). b.resp) (of_key number_of_response t bs)) is.answered_writes
         ∙ ap (map (λ (b : BBeat). b.resp)) (of_key-map number_of_response answer_to t (take (length trail.b) (tracked config trail.aw trail.w)))
@@ -164,17 +164,17 @@ module _ (plan : Schedule) (now : Progress) (config : MemoryConfig) (entries : L
         ∙ length-map own reply_to
 
     -- where all parts are answered, all data has come
-    all-data : length (plan.writes t).parts ≤ length (of_key number_of_response t trail.b) → length (of_key number_of_data t trail.w) ≡ length (beats_of_parts (plan.writes t).parts)
+    all-data : length (schedule.writes t).parts ≤ length (of_key number_of_response t trail.b) → length (of_key number_of_data t trail.w) ≡ length (beats_of_parts (schedule.writes t).parts)
     all-data enough =
-        let whole : (plan.writes t).parts ≡ map without_id own = prefix_whole (map without_id own) (plan.writes t).parts own-parts (omega (arith, own-answers, length-map own without_id)) in
+        let whole : (schedule.writes t).parts ≡ map without_id own = prefix_whole (map without_id own) (schedule.writes t).parts own-parts (omega (arith, own-answers, length-map own without_id)) in
         omega (
           arith,
           own-data,
           ap beats_of_all whole,
           beats-without_id own,
           prefix_length (asks.data_is_the_schedules t),
-          length-due (plan.writes t).parts (plan.writes t).write_data suits,
-          length-parts (plan.writes t).parts,
+          length-due (schedule.writes t).parts (schedule.writes t).write_data suits,
+          length-parts (schedule.writes t).parts,
         )
 
 -- the bytes that were read are the first of all that is read
@@ -186,19 +186,19 @@ bytes-first config beats n values =
     (sym (flat_map-append (allowed_bytes config) (take n beats) (drop n beats)) ∙ ap (flat_map (allowed_bytes config)) (take-append-drop n beats ∙ sym (take_all (length beats) beats (omega arith)))))
 
 pub memory-answers : MemoryAnswers
-memory-answers plan now s trail all keep asks knows =
+memory-answers schedule now s trail all keep asks knows =
     let is : TracksWrites s.config s.write_entries trail.aw trail.w trail.b = keep.accessed.tracks_writes in
     record {
-      answers_in_order_of_id = in-order-of plan now s.config s.write_entries trail asks is trail.aw (prefix_first (length trail.b) trail.aw);
+      answers_in_order_of_id = in-order-of schedule now s.config s.write_entries trail asks is trail.aw (prefix_first (length trail.b) trail.aw);
       reads_in_order_of_id = keep.accessed.tracks_reads.in_order_of_id;
       responses_are_the_schedules = λ t.
-          prefix_of_same (own-responses plan now s.config s.write_entries trail asks is t (keep.suits t).write_data) (sym (keep.suits t).responses);
+          prefix_of_same (own-responses schedule now s.config s.write_entries trail asks is t (keep.suits t).write_data) (sym (keep.suits t).responses);
       read_responses_are_the_schedules = keep.accessed.tracks_reads.statuses;
-      answered_after_its_data = in-order-of plan now s.config s.write_entries trail asks is (completed trail.aw (data_marks trail)) (among-completed plan now s.config s.write_entries trail asks is);
-      done_when_answered = λ t some enough. knows.written t (all-data plan now s.config s.write_entries trail asks is t (keep.suits t).write_data enough);
+      answered_after_its_data = in-order-of schedule now s.config s.write_entries trail asks is (completed trail.aw (data_marks trail)) (among-completed schedule now s.config s.write_entries trail asks is);
+      done_when_answered = λ t some enough. knows.written t (all-data schedule now s.config s.write_entries trail asks is t (keep.suits t).write_data enough);
       bytes_are_filled = λ t.
           prefix_trans
           (prefix_same (keep.accessed.answered t)
-          (bytes-first s.config (beats_of_parts (plan.reads t).parts) (length (of_key number_of_read_data t trail.r)) (map (λ (a : Access). a.byte.value) (accesses_of false t all))))
+          (bytes-first s.config (beats_of_parts (schedule.reads t).parts) (length (of_key number_of_read_data t trail.r)) (map (λ (a : Access). a.byte.value) (accesses_of false t all))))
           (knows.filled t);
     }

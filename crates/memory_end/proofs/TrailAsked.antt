@@ -69,9 +69,9 @@ module _ (trail : Beats) where
         (subst (λ (n : ℕ). Contains (map number_of_address trail.aw) n) (sym own) (number-pending (length trail.w) trail.aw (data_waiting e) first.0 first.1))
 
 pub accesses-were_asked : AccessesWereAsked
-accesses-were_asked plan now links s trail all keep asks later =
+accesses-were_asked schedule now links s trail all keep asks later =
     let after : Beats = trail_of (trail.aw ++ one_of (memory_aw links s)) (trail.w ++ one_of (memory_w links s)) (trail.b ++ one_of (memory_b links s)) (trail.ar ++ one_of (memory_ar links s)) (trail.r ++ one_of (memory_r links s)) in
-    let later' : Asks plan now after = subst (λ (t : Beats). Asks plan now t) (trail-after links s trail) later in
+    let later' : Asks schedule now after = subst (λ (t : Beats). Asks schedule now t) (trail-after links s trail) later in
     let follows : Agree (map mark_of_data (trail.w ++ one_of (memory_w links s))) (marks (map burst_asked trail.aw)) =
     Agree_fronts (prefix_itself _) (prefix_flat_map marks_of (prefix_map burst_asked (prefix_append trail.aw (one_of (memory_aw links s))))) later'.data_follows_addresses in
     let writes : (o : Option WriteEntry) (head : Option WBeat) → oldest_lacking s.write_entries ≡ o → Agree (map mark_of_data (trail.w ++ one_of (passing (is_some o) head))) (marks (map burst_asked trail.aw)) → All (WasAsked trail) (beat_writes s (passing (is_some o) head) o) =
@@ -80,9 +80,9 @@ accesses-were_asked plan now links s trail all keep asks later =
       | Some e ↦ elim [
         | None ↦ λ found agree. All-nil (WasAsked trail)
         | Some x ↦ λ found agree. asked-write trail s e x keep.accessed.tracks_writes found
-            (next-data plan s trail.aw trail.w trail.b trail.r all keep.is_memory keep.accessed.tracks_writes e x found agree)
+            (next-data schedule s trail.aw trail.w trail.b trail.r all keep.is_memory keep.accessed.tracks_writes e x found agree)
       ]
     ] in
     All-append (WasAsked trail) (beat_reads s (memory_r links s) (head_of s.read_entries)) (beat_writes s (memory_w links s) (oldest_lacking s.write_entries))
-    (asked-reads trail s plan.reads s.read_entries (has_room (memory_link links s).depth (memory_link links s).r) keep.accessed.tracks_reads)
+    (asked-reads trail s schedule.reads s.read_entries (has_room (memory_link links s).depth (memory_link links s).r) keep.accessed.tracks_reads)
     (writes (oldest_lacking s.write_entries) (head_of (memory_link links s).w) refl follows)

@@ -30,9 +30,9 @@ use Rattle.memory_end.proofs.WriteSteps.{IsAfterW, WritesAsked, step-w}
 use Rattle.memory_end.proofs.WriteTracks.{one_of, tracks-aw, tracks-b, tracks-w, writes-are_held}
 
 -- what was accessed, of its parts
-gathered : (plan : Schedule) (s : MemoryState) (trail : Beats) (all : List Access) → TracksWrites s.config s.write_entries trail.aw trail.w trail.b → ReadsStand plan s.read_entries trail.ar trail.r →
-    Accessed plan s.config s.store trail.w trail.r all → HasAccessed plan s trail all
-gathered plan s trail all writes reads is = record {
+gathered : (schedule : Schedule) (s : MemoryState) (trail : Beats) (all : List Access) → TracksWrites s.config s.write_entries trail.aw trail.w trail.b → ReadsStand schedule s.read_entries trail.ar trail.r →
+    Accessed schedule s.config s.store trail.w trail.r all → HasAccessed schedule s trail all
+gathered schedule s trail all writes reads is = record {
   writes_held = writes-are_held s.config s.write_entries trail.aw trail.w trail.b writes;
   reads_held = reads.held;
   tracks_writes = writes;
@@ -47,8 +47,8 @@ gathered plan s trail all writes reads is = record {
 }
 
 -- and its parts
-pub accessed-of : (plan : Schedule) (s : MemoryState) (trail : Beats) (all : List Access) → HasAccessed plan s trail all → Accessed plan s.config s.store trail.w trail.r all
-accessed-of plan s trail all is = record {
+pub accessed-of : (schedule : Schedule) (s : MemoryState) (trail : Beats) (all : List Access) → HasAccessed schedule s trail all → Accessed schedule s.config s.store trail.w trail.r all
+accessed-of schedule s trail all is = record {
   written = is.written;
   read = is.read;
   answered = is.answered;
@@ -72,36 +72,36 @@ writes-after links s aw w b is =
     tracks-aw s.config (memory_aw links s) (after_w s.config (memory_w links s) answered) aw (w ++ one_of (memory_w links s)) (b ++ one_of (memory_b links s)) after_w'
 
 pub memory-steps : MemorySteps
-memory-steps plan now round links s trail all keep can asks later =
+memory-steps schedule now round links s trail all keep can asks later =
     let aw : List Addr = trail.aw ++ one_of (memory_aw links s) in
     let w : List WBeat = trail.w ++ one_of (memory_w links s) in
     let after : Beats = trail_of aw w (trail.b ++ one_of (memory_b links s)) (trail.ar ++ one_of (memory_ar links s)) (trail.r ++ one_of (memory_r links s)) in
-    let later' : Asks plan now after = subst (λ (t : Beats). Asks plan now t) (trail-after links s trail) later in
-    let writes : WritesAsked plan trail.aw w = record {
+    let later' : Asks schedule now after = subst (λ (t : Beats). Asks schedule now t) (trail-after links s trail) later in
+    let writes : WritesAsked schedule trail.aw w = record {
       parts = asks.writes.asks_only_its_parts;
       whole = asks.writes.whole_before_the_next;
       due_data = later'.data_is_the_schedules;
       follows = Agree_fronts (prefix_itself _) (prefix_flat_map marks_of (prefix_map burst_asked (prefix_append trail.aw (one_of (memory_aw links s))))) later'.data_follows_addresses;
     } in
-    let reads : ReadsAsked plan trail.ar = record { parts = asks.reads.asks_only_its_parts; whole = asks.reads.whole_before_the_next } in
-    let stand : ReadsStand plan s.read_entries trail.ar trail.r = record { held = keep.accessed.reads_held; tracks = keep.accessed.tracks_reads } in
-    let read : IsAfterR plan s trail.w trail.ar trail.r all s.read_entries (memory_r links s) =
-    step-r plan s trail.w trail.ar trail.r all keep.is_memory.config keep.suits reads (memory_link links s) s.read_entries stand (accessed-of plan s trail all keep.accessed) in
+    let reads : ReadsAsked schedule trail.ar = record { parts = asks.reads.asks_only_its_parts; whole = asks.reads.whole_before_the_next } in
+    let stand : ReadsStand schedule s.read_entries trail.ar trail.r = record { held = keep.accessed.reads_held; tracks = keep.accessed.tracks_reads } in
+    let read : IsAfterR schedule s trail.w trail.ar trail.r all s.read_entries (memory_r links s) =
+    step-r schedule s trail.w trail.ar trail.r all keep.is_memory.config keep.suits reads (memory_link links s) s.read_entries stand (accessed-of schedule s trail all keep.accessed) in
     let read_events : List Access = beat_reads s (memory_r links s) (head_of s.read_entries) in
     let write_events : List Access = beat_writes s (memory_w links s) (oldest_lacking s.write_entries) in
-    let written : IsAfterW plan s trail.aw trail.w trail.b (trail.r ++ one_of (memory_r links s)) (all ++ read_events) (memory_w links s) =
-    step-w plan s trail.aw trail.w trail.b (trail.r ++ one_of (memory_r links s)) (all ++ read_events) keep.is_memory keep.accessed.tracks_writes (head_of (memory_link links s).w) writes read.accessed in
-    let accessed : Accessed plan s.config (memory_next links s).store w (trail.r ++ one_of (memory_r links s)) (all ++ memory_events links s) =
-    subst (λ (t : List Access). Accessed plan s.config (memory_next links s).store w (trail.r ++ one_of (memory_r links s)) t) (append_assoc all read_events write_events) written.accessed in
-    let has : HasAccessed plan (memory_next links s) after (all ++ memory_events links s) =
-    gathered plan (memory_next links s) after (all ++ memory_events links s)
+    let written : IsAfterW schedule s trail.aw trail.w trail.b (trail.r ++ one_of (memory_r links s)) (all ++ read_events) (memory_w links s) =
+    step-w schedule s trail.aw trail.w trail.b (trail.r ++ one_of (memory_r links s)) (all ++ read_events) keep.is_memory keep.accessed.tracks_writes (head_of (memory_link links s).w) writes read.accessed in
+    let accessed : Accessed schedule s.config (memory_next links s).store w (trail.r ++ one_of (memory_r links s)) (all ++ memory_events links s) =
+    subst (λ (t : List Access). Accessed schedule s.config (memory_next links s).store w (trail.r ++ one_of (memory_r links s)) t) (append_assoc all read_events write_events) written.accessed in
+    let has : HasAccessed schedule (memory_next links s) after (all ++ memory_events links s) =
+    gathered schedule (memory_next links s) after (all ++ memory_events links s)
     (writes-after links s trail.aw trail.w trail.b keep.accessed.tracks_writes)
-    (step-ar plan (memory_ar links s) (after_r (memory_r links s) s.read_entries) trail.ar (trail.r ++ one_of (memory_r links s)) read.stand)
+    (step-ar schedule (memory_ar links s) (after_r (memory_r links s) s.read_entries) trail.ar (trail.r ++ one_of (memory_r links s)) read.stand)
     accessed in
     record {
       is_memory = memory-stays round links s keep.is_memory can;
       suits = keep.suits;
-      accessed = subst (λ (t : Beats). HasAccessed plan (memory_next links s) t (all ++ memory_events links s)) (sym (trail-after links s trail)) has;
+      accessed = subst (λ (t : Beats). HasAccessed schedule (memory_next links s) t (all ++ memory_events links s)) (sym (trail-after links s trail)) has;
     }
 
 fill-everywhere : (n place fill : ℕ) → get_or (replicate n fill) place fill ≡ fill
@@ -124,7 +124,7 @@ nowhere [] x after e = cc
 nowhere (b ∷ before) x after e = cc
 
 pub memory-opens : MemoryOpens
-memory-opens plan config upper touched is ascending suits = record {
+memory-opens schedule config upper touched is ascending suits = record {
   is_memory = new-is_memory config upper touched is ascending;
   suits = suits;
   accessed = record {

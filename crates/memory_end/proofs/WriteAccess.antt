@@ -67,7 +67,7 @@ lines-written config lines a n x is among le = on (strobed_lanes config.bus x) (
         ]
         in go (is_inside config (lane_address a n config.bus k)) refl
 
-module _ (plan : Schedule) (config : MemoryConfig) (store : Store) (a : Addr) (n : ℕ) (x : WBeat) (w : List WBeat) (r : List RBeat) (all : List Access) where
+module _ (schedule : Schedule) (config : MemoryConfig) (store : Store) (a : Addr) (n : ℕ) (x : WBeat) (w : List WBeat) (r : List RBeat) (all : List Access) where
   abbrev t : ℕ
   t = a.tag.txn
 
@@ -86,8 +86,8 @@ module _ (plan : Schedule) (config : MemoryConfig) (store : Store) (a : Addr) (n
     pub lines : AllByRecursion (λ (b : Byte). Contains store.lines (line_of b.address)) (written_bytes config a n x)
     pub own : x.tag.txn ≡ a.tag.txn
     pub rest : List (BeatOf × WBeat)
-    pub place : drop (length (of_key number_of_data a.tag.txn w)) (data_beats (plan.writes a.tag.txn)) ≡ (record { request = without_id a; beat = n }, x) ∷ rest
-    pub none_later : (after : ℕ) → ComesBefore plan.writes a.tag.txn after → length (of_key number_of_data after w) ≡ 0
+    pub place : drop (length (of_key number_of_data a.tag.txn w)) (data_beats (schedule.writes a.tag.txn)) ≡ (record { request = without_id a; beat = n }, x) ∷ rest
+    pub none_later : (after : ℕ) → ComesBefore schedule.writes a.tag.txn after → length (of_key number_of_data after w) ≡ 0
 
   own-accesses : accesses_of true t (all ++ new) ≡ accesses_of true t all ++ new
   own-accesses = accesses_of-append true t all new ∙ ap (λ xs. accesses_of true t all ++ xs) (accesses_of-own true t bytes_written)
@@ -98,31 +98,31 @@ module _ (plan : Schedule) (config : MemoryConfig) (store : Store) (a : Addr) (n
   reads-same : (number : ℕ) → accesses_of false number (all ++ new) ≡ accesses_of false number all
   reads-same number = accesses_of-append false number all new ∙ ap (λ xs. accesses_of false number all ++ xs) (accesses_of-opposite true number t bytes_written) ∙ append-nil (accesses_of false number all)
 
-  module _ (is : Accessed plan config store w r all) (next : IsNextWrite) where
+  module _ (is : Accessed schedule config store w r all) (next : IsNextWrite) where
     own-count : length (of_key number_of_data t (w ++ x ∷ [])) ≡ suc so_far
     own-count = omega (arith, ap length (of_key-push number_of_data t w x next.own), length-append (of_key number_of_data t w) (x ∷ []))
 
-    due-more : due_writes config (plan.writes t) (suc so_far) ≡ due_writes config (plan.writes t) so_far ++ bytes_written
+    due-more : due_writes config (schedule.writes t) (suc so_far) ≡ due_writes config (schedule.writes t) so_far ++ bytes_written
     due-more =
-        flat_map_next (λ (b : BeatOf × WBeat). written_bytes config b.0.request b.0.beat b.1) so_far (data_beats (plan.writes t)) (record { request = without_id a; beat = n }, x) next.rest next.place
-        ∙ ap (λ xs. due_writes config (plan.writes t) so_far ++ xs) (written-without_id config a n x)
+        flat_map_next (λ (b : BeatOf × WBeat). written_bytes config b.0.request b.0.beat b.1) so_far (data_beats (schedule.writes t)) (record { request = without_id a; beat = n }, x) next.rest next.place
+        ∙ ap (λ xs. due_writes config (schedule.writes t) so_far ++ xs) (written-without_id config a n x)
 
-    written-own : map (λ (a : Access). a.byte) (accesses_of true t (all ++ new)) ≡ due_writes config (plan.writes t) (length (of_key number_of_data t (w ++ x ∷ [])))
+    written-own : map (λ (a : Access). a.byte) (accesses_of true t (all ++ new)) ≡ due_writes config (schedule.writes t) (length (of_key number_of_data t (w ++ x ∷ [])))
     written-own =
         ap (map (λ (a : Access). a.byte)) own-accesses
         ∙ map-append (λ (a : Access). a.byte) (accesses_of true t all) new
         ∙ ap (λ xs. xs ++ map (λ (a : Access). a.byte) new) (is.written t)
-        ∙ ap (λ xs. due_writes config (plan.writes t) so_far ++ xs) (bytes-of_accesses t true bytes_written)
+        ∙ ap (λ xs. due_writes config (schedule.writes t) so_far ++ xs) (bytes-of_accesses t true bytes_written)
         ∙ sym due-more
-        ∙ ap (due_writes config (plan.writes t)) (sym own-count)
+        ∙ ap (due_writes config (schedule.writes t)) (sym own-count)
 
-    written-more : (number : ℕ) → map (λ (a : Access). a.byte) (accesses_of true number (all ++ new)) ≡ due_writes config (plan.writes number) (length (of_key number_of_data number (w ++ x ∷ [])))
+    written-more : (number : ℕ) → map (λ (a : Access). a.byte) (accesses_of true number (all ++ new)) ≡ due_writes config (schedule.writes number) (length (of_key number_of_data number (w ++ x ∷ [])))
     written-more number = elim (cases_eq t number) [
-      | inl own ↦ subst (λ (m : ℕ). map (λ (a : Access). a.byte) (accesses_of true m (all ++ new)) ≡ due_writes config (plan.writes m) (length (of_key number_of_data m (w ++ x ∷ [])))) own written-own
+      | inl own ↦ subst (λ (m : ℕ). map (λ (a : Access). a.byte) (accesses_of true m (all ++ new)) ≡ due_writes config (schedule.writes m) (length (of_key number_of_data m (w ++ x ∷ [])))) own written-own
       | inr ne ↦
           ap (map (λ (a : Access). a.byte)) (other-accesses number ne)
           ∙ is.written number
-          ∙ ap (λ xs. due_writes config (plan.writes number) (length xs)) (sym (of_key-push_other number_of_data number w x (λ h. ne (sym next.own ∙ h))))
+          ∙ ap (λ xs. due_writes config (schedule.writes number) (length xs)) (sym (of_key-push_other number_of_data number w x (λ h. ne (sym next.own ∙ h))))
     ]
 
     latest-more : (earlier later : List Access) (b : Access) → all ++ new ≡ earlier ++ b ∷ later → b.write ≡ false → b.byte.value ≡ left_at b.byte.address config.fill earlier
@@ -131,20 +131,20 @@ module _ (plan : Schedule) (config : MemoryConfig) (store : Store) (a : Addr) (n
       | inr mine ↦ absurd (stands_among false b.number new mine.0 b later mine.1 way refl (accesses_of-opposite true b.number t bytes_written))
     ]
 
-    pub accessed-written : Accessed plan config (all_written store bytes_written) (w ++ x ∷ []) r (all ++ new)
+    pub accessed-written : Accessed schedule config (all_written store bytes_written) (w ++ x ∷ []) r (all ++ new)
     accessed-written = record {
       written = written-more;
       read = λ number. ap (map (λ (a : Access). a.byte.address)) (reads-same number) ∙ is.read number;
       answered = λ number.
           is.answered number
-          ∙ ap (λ (xs : List Access). filled_bytes (allowed_before config (plan.reads number) (length (of_key number_of_read_data number r))) (map (λ (a : Access). a.byte.value) xs)) (sym (reads-same number));
+          ∙ ap (λ (xs : List Access). filled_bytes (allowed_before config (schedule.reads number) (length (of_key number_of_read_data number r))) (map (λ (a : Access). a.byte.value) xs)) (sym (reads-same number));
       bytes = λ address inside.
           left_at-append address config.fill all new
           ∙ ap (λ v. left_at address v new) (is.bytes address inside)
           ∙ left-written t address store.lines bytes_written store next.is_store refl next.lines;
       latest = latest-more;
-      writes_in_order = order-more plan.writes true all t bytes_written
-          (λ after chain. nil-of_map (λ (a : Access). a.byte) (accesses_of true after all) (is.written after ∙ ap (due_writes config (plan.writes after)) (next.none_later after chain)))
+      writes_in_order = order-more schedule.writes true all t bytes_written
+          (λ after chain. nil-of_map (λ (a : Access). a.byte) (accesses_of true after all) (is.written after ∙ ap (due_writes config (schedule.writes after)) (next.none_later after chain)))
           is.writes_in_order;
-      reads_in_order = order-other plan.reads true all t bytes_written is.reads_in_order;
+      reads_in_order = order-other schedule.reads true all t bytes_written is.reads_in_order;
     }

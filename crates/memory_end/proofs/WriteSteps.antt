@@ -36,10 +36,10 @@ use Rattle.memory_end.proofs.WriteAccess.{IsNextWrite, accessed-written, lines-w
 use Rattle.memory_end.proofs.WriteTracks.{lacking-pending, one_of}
 
 -- what is asked of a link's writes, as far as a memory uses it, with the data that it takes
-pub record WritesAsked (plan : Schedule) (aw : List Addr) (w : List WBeat) : Type 0 where
-  pub parts : (t : ℕ) → IsPrefix (map without_id (of_key number_of_address t aw)) (plan.writes t).parts
-  pub whole : WholeBeforeTheNext plan.writes (map write_asked aw)
-  pub due_data : (t : ℕ) → IsPrefix (of_key number_of_data t w) (flat_map (λ (beats : List WBeat). beats) (plan.writes t).write_data)
+pub record WritesAsked (schedule : Schedule) (aw : List Addr) (w : List WBeat) : Type 0 where
+  pub parts : (t : ℕ) → IsPrefix (map without_id (of_key number_of_address t aw)) (schedule.writes t).parts
+  pub whole : WholeBeforeTheNext schedule.writes (map write_asked aw)
+  pub due_data : (t : ℕ) → IsPrefix (of_key number_of_data t w) (flat_map (λ (beats : List WBeat). beats) (schedule.writes t).write_data)
   pub follows : Agree (map mark_of_data w) (marks (map burst_asked aw))
 
 counts-writes : (n : ℕ) (xs : List Addr) → length (of_key number_of_asked n (map write_asked xs)) ≡ length (of_key number_of_address n xs)
@@ -74,14 +74,14 @@ found-lacks (f ∷ entries) e found =
     ]
     in go (lacks_data f) refl found
 
-module _ (plan : Schedule) (s : MemoryState) (aw : List Addr) (w : List WBeat) (b : List BBeat) (r : List RBeat) (all : List Access) where
+module _ (schedule : Schedule) (s : MemoryState) (aw : List Addr) (w : List WBeat) (b : List BBeat) (r : List RBeat) (all : List Access) where
   -- after a round's W
   pub record IsAfterW (o : Option WBeat) : Type 0 where
-    pub accessed : Accessed plan s.config (store_after s.config o s.write_entries s.store) (w ++ one_of o) r (all ++ beat_writes s o (oldest_lacking s.write_entries))
+    pub accessed : Accessed schedule s.config (store_after s.config o s.write_entries s.store) (w ++ one_of o) r (all ++ beat_writes s o (oldest_lacking s.write_entries))
 
-  quiet : Accessed plan s.config s.store w r all → IsAfterW None
+  quiet : Accessed schedule s.config s.store w r all → IsAfterW None
   quiet accessed = record {
-    accessed = subst (λ (t : List WBeat). Accessed plan s.config s.store t r (all ++ [])) (sym (append-nil w)) (subst (λ (t : List Access). Accessed plan s.config s.store w r t) (sym (append-nil all)) accessed);
+    accessed = subst (λ (t : List WBeat). Accessed schedule s.config s.store t r (all ++ [])) (sym (append-nil w)) (subst (λ (t : List Access). Accessed schedule s.config s.store w r t) (sym (append-nil all)) accessed);
   }
 
   module _ (is : IsMemory s) (tracks : TracksWrites s.config s.write_entries aw w b) where
@@ -96,7 +96,7 @@ module _ (plan : Schedule) (s : MemoryState) (aw : List Addr) (w : List WBeat) (
         (subst (λ (ms : List Mark). Agree ms (marks (map burst_asked aw))) (map-append mark_of_data w (x ∷ [])) agree) waits in
         ap (λ m. m.number) same
 
-    next-is : (e : WriteEntry) (x : WBeat) → oldest_lacking s.write_entries ≡ Some e → WritesAsked plan aw (w ++ x ∷ []) → IsNextWrite plan s.config s.store e.request e.taken x w r all
+    next-is : (e : WriteEntry) (x : WBeat) → oldest_lacking s.write_entries ≡ Some e → WritesAsked schedule aw (w ++ x ∷ []) → IsNextWrite schedule s.config s.store e.request e.taken x w r all
     next-is e x found asked =
         let first : (others : List (Waiting Addr)) × (pending len_of_address (length w) aw ≡ data_waiting e ∷ others) = lacking-pending s.config s.write_entries aw w b e tracks found in
         let entry : IsWriteEntry s.config s.store.lines e = found-in (IsWriteEntry s.config s.store.lines) s.write_entries e is.writes found in
@@ -105,40 +105,40 @@ module _ (plan : Schedule) (s : MemoryState) (aw : List Addr) (w : List WBeat) (
         let agree : Agree (map mark_of_data w) (marks (map burst_asked aw)) =
         Agree_fronts (prefix_map mark_of_data (prefix_append w (x ∷ []))) (prefix_itself (marks (map burst_asked aw))) asked.follows in
         let order : IsPrefix (map mark_of_data w) (marks (map burst_asked aw)) = data-in_order aw w agree tracks.addresses_first in
-        let part : (rest : List BeatOf) × (drop (count_marks e.request.tag.txn (map mark_of_data w)) (beats_of_parts (plan.writes e.request.tag.txn).parts) ≡ record { request = without_id e.request; beat = e.taken } ∷ rest) =
-        next_part e.request.tag.txn (plan.writes e.request.tag.txn).parts aw (map mark_of_data w) (length w) (data_waiting e) first.0 (asked.parts e.request.tag.txn) order (length-map w mark_of_data) first.1 refl in
-        let part_here : drop (length (of_key number_of_data e.request.tag.txn w)) (beats_of_parts (plan.writes e.request.tag.txn).parts) ≡ record { request = without_id e.request; beat = e.taken } ∷ part.0 =
-        ap (λ n. drop n (beats_of_parts (plan.writes e.request.tag.txn).parts)) (sym (count-data_marks e.request.tag.txn w)) ∙ part.1 in
-        let due : (rest : List WBeat) × (drop (length (of_key number_of_data e.request.tag.txn w)) (flat_map (λ (beats : List WBeat). beats) (plan.writes e.request.tag.txn).write_data) ≡ x ∷ rest) =
-        drop_prefix (length (of_key number_of_data e.request.tag.txn w)) (of_key number_of_data e.request.tag.txn w) x (flat_map (λ (beats : List WBeat). beats) (plan.writes e.request.tag.txn).write_data)
-        (subst (λ (t : List WBeat). IsPrefix t (flat_map (λ (beats : List WBeat). beats) (plan.writes e.request.tag.txn).write_data)) (of_key-push number_of_data e.request.tag.txn w x own) (asked.due_data e.request.tag.txn)) refl in
+        let part : (rest : List BeatOf) × (drop (count_marks e.request.tag.txn (map mark_of_data w)) (beats_of_parts (schedule.writes e.request.tag.txn).parts) ≡ record { request = without_id e.request; beat = e.taken } ∷ rest) =
+        next_part e.request.tag.txn (schedule.writes e.request.tag.txn).parts aw (map mark_of_data w) (length w) (data_waiting e) first.0 (asked.parts e.request.tag.txn) order (length-map w mark_of_data) first.1 refl in
+        let part_here : drop (length (of_key number_of_data e.request.tag.txn w)) (beats_of_parts (schedule.writes e.request.tag.txn).parts) ≡ record { request = without_id e.request; beat = e.taken } ∷ part.0 =
+        ap (λ n. drop n (beats_of_parts (schedule.writes e.request.tag.txn).parts)) (sym (count-data_marks e.request.tag.txn w)) ∙ part.1 in
+        let due : (rest : List WBeat) × (drop (length (of_key number_of_data e.request.tag.txn w)) (flat_map (λ (beats : List WBeat). beats) (schedule.writes e.request.tag.txn).write_data) ≡ x ∷ rest) =
+        drop_prefix (length (of_key number_of_data e.request.tag.txn w)) (of_key number_of_data e.request.tag.txn w) x (flat_map (λ (beats : List WBeat). beats) (schedule.writes e.request.tag.txn).write_data)
+        (subst (λ (t : List WBeat). IsPrefix t (flat_map (λ (beats : List WBeat). beats) (schedule.writes e.request.tag.txn).write_data)) (of_key-push number_of_data e.request.tag.txn w x own) (asked.due_data e.request.tag.txn)) refl in
         record {
           is_store = is.store;
           lines = lines-written s.config s.store.lines e.request e.taken x is.config entry.lines_kept (omega arith);
           own = own;
           rest = zip part.0 due.0;
-          place = drop_zip (length (of_key number_of_data e.request.tag.txn w)) (beats_of_parts (plan.writes e.request.tag.txn).parts) (flat_map (λ (beats : List WBeat). beats) (plan.writes e.request.tag.txn).write_data)
+          place = drop_zip (length (of_key number_of_data e.request.tag.txn w)) (beats_of_parts (schedule.writes e.request.tag.txn).parts) (flat_map (λ (beats : List WBeat). beats) (schedule.writes e.request.tag.txn).write_data)
               (record { request = without_id e.request; beat = e.taken }) x part.0 due.0 part_here due.1;
           none_later = λ after chain.
               sym (count-data_marks after w)
-              ∙ none_later plan.writes write_asked counts-writes (λ a. refl) aw asked.whole (map mark_of_data w) (length w) (data_waiting e) first.0 after (asked.parts e.request.tag.txn) order (length-map w mark_of_data) first.1 chain;
+              ∙ none_later schedule.writes write_asked counts-writes (λ a. refl) aw asked.whole (map mark_of_data w) (length w) (data_waiting e) first.0 after (asked.parts e.request.tag.txn) order (length-map w mark_of_data) first.1 chain;
         }
 
-    take-next : (e : WriteEntry) (x : WBeat) → oldest_lacking s.write_entries ≡ Some e → WritesAsked plan aw (w ++ x ∷ []) → Accessed plan s.config s.store w r all → IsAfterW (Some x)
+    take-next : (e : WriteEntry) (x : WBeat) → oldest_lacking s.write_entries ≡ Some e → WritesAsked schedule aw (w ++ x ∷ []) → Accessed schedule s.config s.store w r all → IsAfterW (Some x)
     take-next e x found asked accessed =
-        let next : IsNextWrite plan s.config s.store e.request e.taken x w r all = next-is e x found asked in
-        let done : Accessed plan s.config (all_written s.store (written_bytes s.config e.request e.taken x)) (w ++ x ∷ []) r (all ++ accesses e.request.tag.txn true (written_bytes s.config e.request e.taken x)) =
-        accessed-written plan s.config s.store e.request e.taken x w r all accessed next in
-        let numbered : Accessed plan s.config (all_written s.store (written_bytes s.config e.request e.taken x)) (w ++ x ∷ []) r (all ++ accesses x.tag.txn true (written_bytes s.config e.request e.taken x)) =
-        subst (λ (n : ℕ). Accessed plan s.config (all_written s.store (written_bytes s.config e.request e.taken x)) (w ++ x ∷ []) r (all ++ accesses n true (written_bytes s.config e.request e.taken x))) (sym next.own) done in
+        let next : IsNextWrite schedule s.config s.store e.request e.taken x w r all = next-is e x found asked in
+        let done : Accessed schedule s.config (all_written s.store (written_bytes s.config e.request e.taken x)) (w ++ x ∷ []) r (all ++ accesses e.request.tag.txn true (written_bytes s.config e.request e.taken x)) =
+        accessed-written schedule s.config s.store e.request e.taken x w r all accessed next in
+        let numbered : Accessed schedule s.config (all_written s.store (written_bytes s.config e.request e.taken x)) (w ++ x ∷ []) r (all ++ accesses x.tag.txn true (written_bytes s.config e.request e.taken x)) =
+        subst (λ (n : ℕ). Accessed schedule s.config (all_written s.store (written_bytes s.config e.request e.taken x)) (w ++ x ∷ []) r (all ++ accesses n true (written_bytes s.config e.request e.taken x))) (sym next.own) done in
         record {
-          accessed = subst (λ (o : Option WriteEntry). Accessed plan s.config (store_with s.config o x s.store) (w ++ x ∷ []) r (all ++ beat_writes s (Some x) o)) (sym found) numbered;
+          accessed = subst (λ (o : Option WriteEntry). Accessed schedule s.config (store_with s.config o x s.store) (w ++ x ∷ []) r (all ++ beat_writes s (Some x) o)) (sym found) numbered;
         }
 
-    pub step-w : (head : Option WBeat) → WritesAsked plan aw (w ++ one_of (passing (is_some (oldest_lacking s.write_entries)) head)) → Accessed plan s.config s.store w r all →
+    pub step-w : (head : Option WBeat) → WritesAsked schedule aw (w ++ one_of (passing (is_some (oldest_lacking s.write_entries)) head)) → Accessed schedule s.config s.store w r all →
         IsAfterW (passing (is_some (oldest_lacking s.write_entries)) head)
     step-w head asked accessed =
-        let go : (o : Option WriteEntry) (head : Option WBeat) → oldest_lacking s.write_entries ≡ o → WritesAsked plan aw (w ++ one_of (passing (is_some o) head)) → IsAfterW (passing (is_some o) head) =
+        let go : (o : Option WriteEntry) (head : Option WBeat) → oldest_lacking s.write_entries ≡ o → WritesAsked schedule aw (w ++ one_of (passing (is_some o) head)) → IsAfterW (passing (is_some o) head) =
         elim [
           | None ↦ λ head found asked. quiet accessed
           | Some e ↦ elim [

@@ -32,7 +32,7 @@ pub record SuitsShare (config : MemoryConfig) (writes reads : Share) : Type 0 wh
 
 -- the schedule of the link above a memory is one of its own
 abbrev pub Suits : MemoryConfig → Schedule → Type 0
-Suits config plan = (number : ℕ) → SuitsShare config (plan.writes number) (plan.reads number)
+Suits config schedule = (number : ℕ) → SuitsShare config (schedule.writes number) (schedule.reads number)
 
 -- of a transaction that comes before another one in its chain, nothing is accessed after the first access of the other
 abbrev pub AccessesInOrder : (ℕ → Share) → Bool → List Access → Type 0
@@ -41,50 +41,50 @@ AccessesInOrder shares write all =
     a.number ≡ after → accesses_of write before later ≡ []
 
 -- What a memory's state has to do with its trail and its accesses.
-pub record HasAccessed (plan : Schedule) (s : MemoryState) (trail : Beats) (all : List Access) : Type 0 where
+pub record HasAccessed (schedule : Schedule) (s : MemoryState) (trail : Beats) (all : List Access) : Type 0 where
   -- the open writes and reads are those that are held
   pub writes_held : map write_waiting s.write_entries ≡ held (λ (a : Addr). 0) (λ (a : Addr). a.id) trail.aw (map (λ b. b.id) trail.b)
   pub reads_held : map read_waiting s.read_entries ≡ held (λ (a : Addr). a.len) (λ (a : Addr). a.id) trail.ar (map (λ r. r.id) trail.r)
   -- the memory answers in order of the addresses, and its entries are what the trail makes of them
   pub tracks_writes : TracksWrites s.config s.write_entries trail.aw trail.w trail.b
-  pub tracks_reads : TracksReads plan.reads s.read_entries trail.ar trail.r
+  pub tracks_reads : TracksReads schedule.reads s.read_entries trail.ar trail.r
   -- the accesses of a transaction are those of its beats that have come, and those of its answer's beats
-  pub written : (number : ℕ) → map (λ (a : Access). a.byte) (accesses_of true number all) ≡ due_writes s.config (plan.writes number) (length (of_key number_of_data number trail.w))
-  pub read : (number : ℕ) → map (λ (a : Access). a.byte.address) (accesses_of false number all) ≡ due_reads s.config (plan.reads number) (length (of_key number_of_read_data number trail.r))
+  pub written : (number : ℕ) → map (λ (a : Access). a.byte) (accesses_of true number all) ≡ due_writes s.config (schedule.writes number) (length (of_key number_of_data number trail.w))
+  pub read : (number : ℕ) → map (λ (a : Access). a.byte.address) (accesses_of false number all) ≡ due_reads s.config (schedule.reads number) (length (of_key number_of_read_data number trail.r))
   -- the bytes that were answered are those that were read
   pub answered :
       (number : ℕ) →
-      bytes_on (of_key number_of_read_data number trail.r) (plan.reads number).lanes
-      ≡ filled_bytes (allowed_before s.config (plan.reads number) (length (of_key number_of_read_data number trail.r))) (map (λ (a : Access). a.byte.value) (accesses_of false number all))
+      bytes_on (of_key number_of_read_data number trail.r) (schedule.reads number).lanes
+      ≡ filled_bytes (allowed_before s.config (schedule.reads number) (length (of_key number_of_read_data number trail.r))) (map (λ (a : Access). a.byte.value) (accesses_of false number all))
   -- each byte is what the writes left there
   pub bytes : (address : ℕ) → IsTrue (is_inside s.config address) → left_at address s.config.fill all ≡ byte_at s.store address
   -- and so was each that was read
   pub latest : (earlier later : List Access) (a : Access) → all ≡ earlier ++ a ∷ later → a.write ≡ false → a.byte.value ≡ left_at a.byte.address s.config.fill earlier
   -- the accesses of a chain's transactions are in order
-  pub writes_in_order : AccessesInOrder plan.writes true all
-  pub reads_in_order : AccessesInOrder plan.reads false all
+  pub writes_in_order : AccessesInOrder schedule.writes true all
+  pub reads_in_order : AccessesInOrder schedule.reads false all
 
 -- What holds of a memory over its trail and its accesses.
-pub record MemoryKeeps (plan : Schedule) (s : MemoryState) (trail : Beats) (all : List Access) : Type 0 where
+pub record MemoryKeeps (schedule : Schedule) (s : MemoryState) (trail : Beats) (all : List Access) : Type 0 where
   pub is_memory : IsMemory s
-  pub suits : Suits s.config plan
-  pub accessed : HasAccessed plan s trail all
+  pub suits : Suits s.config schedule
+  pub accessed : HasAccessed schedule s trail all
 
 -- what is known of the transactions by a memory's trail and its accesses
-pub record Knows (config : MemoryConfig) (plan : Schedule) (now : Progress) (trail : Beats) (all : List Access) : Type 0 where
+pub record Knows (config : MemoryConfig) (schedule : Schedule) (now : Progress) (trail : Beats) (all : List Access) : Type 0 where
   -- a write whose data has all come is written
-  pub written : (number : ℕ) → length (of_key number_of_data number trail.w) ≡ length (beats_of_parts (plan.writes number).parts) → IsTrue (now.written number)
+  pub written : (number : ℕ) → length (of_key number_of_data number trail.w) ≡ length (beats_of_parts (schedule.writes number).parts) → IsTrue (now.written number)
   -- a read has the bytes that were read for it
   pub filled :
       (number : ℕ) →
-      IsPrefix (filled_bytes (allowed_before config (plan.reads number) (length (beats_of_parts (plan.reads number).parts))) (map (λ (a : Access). a.byte.value) (accesses_of false number all)))
+      IsPrefix (filled_bytes (allowed_before config (schedule.reads number) (length (beats_of_parts (schedule.reads number).parts))) (map (λ (a : Access). a.byte.value) (accesses_of false number all)))
       (now.filled number)
 
 -- it holds of a new memory
 abbrev pub MemoryOpens : Type 0
 MemoryOpens =
-    (plan : Schedule) (config : MemoryConfig) (upper : ℕ) (touched : List ℕ) → IsMemoryConfig config → AllPairs (λ (a b : ℕ). a < b) touched → Suits config plan →
-    MemoryKeeps plan (new_memory config upper touched) no_beats []
+    (schedule : Schedule) (config : MemoryConfig) (upper : ℕ) (touched : List ℕ) → IsMemoryConfig config → AllPairs (λ (a b : ℕ). a < b) touched → Suits config schedule →
+    MemoryKeeps schedule (new_memory config upper touched) no_beats []
 
 -- the trail after a round
 abbrev pub memory_trail : List LinkView → MemoryState → Beats → Beats
@@ -93,19 +93,19 @@ memory_trail links s trail = joined trail (moved_below (memory_out links s) link
 -- it holds after one more round, where the link asks as it should
 abbrev pub MemorySteps : Type 0
 MemorySteps =
-    (plan : Schedule) (now : Progress) (round : ℕ) (links : List LinkView) (s : MemoryState) (trail : Beats) (all : List Access) → MemoryKeeps plan s trail all →
-    CanMemory round links s → Asks plan now trail → Asks plan now (memory_trail links s trail) →
-    MemoryKeeps plan (memory_next links s) (memory_trail links s trail) (all ++ memory_events links s)
+    (schedule : Schedule) (now : Progress) (round : ℕ) (links : List LinkView) (s : MemoryState) (trail : Beats) (all : List Access) → MemoryKeeps schedule s trail all →
+    CanMemory round links s → Asks schedule now trail → Asks schedule now (memory_trail links s trail) →
+    MemoryKeeps schedule (memory_next links s) (memory_trail links s trail) (all ++ memory_events links s)
 
 -- a memory that keeps it answers as it should
 abbrev pub MemoryAnswers : Type 0
 MemoryAnswers =
-    (plan : Schedule) (now : Progress) (s : MemoryState) (trail : Beats) (all : List Access) → MemoryKeeps plan s trail all → Asks plan now trail → Knows s.config plan now trail all →
-    Answers plan now trail
+    (schedule : Schedule) (now : Progress) (s : MemoryState) (trail : Beats) (all : List Access) → MemoryKeeps schedule s trail all → Asks schedule now trail → Knows s.config schedule now trail all →
+    Answers schedule now trail
 
 -- what is accessed in a round is of a transaction whose address has come in an earlier one
 abbrev pub AccessesWereAsked : Type 0
 AccessesWereAsked =
-    (plan : Schedule) (now : Progress) (links : List LinkView) (s : MemoryState) (trail : Beats) (all : List Access) → MemoryKeeps plan s trail all → Asks plan now trail →
-    Asks plan now (memory_trail links s trail) →
+    (schedule : Schedule) (now : Progress) (links : List LinkView) (s : MemoryState) (trail : Beats) (all : List Access) → MemoryKeeps schedule s trail all → Asks schedule now trail →
+    Asks schedule now (memory_trail links s trail) →
     All (λ (a : Access). Contains (map number_of_address (if a.write then trail.aw else trail.ar)) a.number) (memory_events links s)

@@ -11,7 +11,7 @@ use Rattle.memory_end.specs.Accesses.{accesses_of, beats_of_parts, data_beats, d
 use Rattle.memory_end.specs.Events.{Access}
 use Rattle.memory_end.proofs.AccessFacts.{tail-none}
 use Rattle.net_rounds.specs.BuiltIn.{ram}
-use Rattle.net_rounds.proofs.PlanFacts.{beq-same}
+use Rattle.net_rounds.proofs.ScheduleLemmas.{beq-same}
 
 -- where all beats have come, more beats write and read no more
 pub due-writes_end : (share : Share) (c d : ℕ) → length (data_beats share) ≤ c → c ≤ d → due_writes ram share c ≡ due_writes ram share d

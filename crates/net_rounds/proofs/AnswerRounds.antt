@@ -21,9 +21,9 @@ use Rattle.memory_end.specs.Accesses.{accesses_of, beats_of_parts, data_beats, d
 use Rattle.memory_end.specs.Events.{Access}
 use Rattle.memory_end.specs.declared.config.MemoryConfig.{MemoryConfig}
 use Rattle.net_rounds.proofs.AccessLists.{due-reads_end, due-writes_end, none-is, none-new}
-use Rattle.net_rounds.proofs.BuiltInPlan.{accesses_at, links_at, lower_out, lower_trail, plan_of, upper_out, upper_trail}
+use Rattle.net_rounds.proofs.BuiltInSchedule.{accesses_at, links_at, lower_out, lower_trail, schedule_of, upper_out, upper_trail}
 use Rattle.net_rounds.proofs.DueLemmas.{beats-asked}
-use Rattle.net_rounds.proofs.PlanFacts.{share-own}
+use Rattle.net_rounds.proofs.ScheduleLemmas.{share-own}
 use Rattle.net_rounds.proofs.RunFacts.{RunFacts, note}
 use Rattle.net_rounds.proofs.RunHistory.{round_accesses, run_events}
 use Rattle.net_rounds.proofs.RunRounds.{at-run}
@@ -61,31 +61,31 @@ module _ (script : List ScriptItem) (run : RunFacts script) where
   unfolding read_count
   read-grows number n k le = prefix_length (prefix_of_key number_of_read_data number (over-grows (λ m. (moved_below (lower_out script m) (links_at script m) 0).r) n k le))
 
-  writes-counted : (number n : ℕ) → length (accesses_of true number (accesses_at script n)) ≡ length (due_writes ram ((plan_of script).writes number) (data_count number n))
+  writes-counted : (number n : ℕ) → length (accesses_of true number (accesses_at script n)) ≡ length (due_writes ram ((schedule_of script).writes number) (data_count number n))
   unfolding data_count
   writes-counted number n =
       sym (length-map (accesses_of true number (accesses_at script n)) (λ (a : Access). a.byte)) ∙ ap length ((run.keeps n).memory.accessed.written number)
-      ∙ ap (λ (config : MemoryConfig). length (due_writes config ((plan_of script).writes number) (length (of_key number_of_data number (lower_trail script n).w)))) (run.config n)
+      ∙ ap (λ (config : MemoryConfig). length (due_writes config ((schedule_of script).writes number) (length (of_key number_of_data number (lower_trail script n).w)))) (run.config n)
 
-  reads-counted : (number n : ℕ) → length (accesses_of false number (accesses_at script n)) ≡ length (due_reads ram ((plan_of script).reads number) (read_count number n))
+  reads-counted : (number n : ℕ) → length (accesses_of false number (accesses_at script n)) ≡ length (due_reads ram ((schedule_of script).reads number) (read_count number n))
   unfolding read_count
   reads-counted number n =
       sym (length-map (accesses_of false number (accesses_at script n)) (λ (a : Access). a.byte.address)) ∙ ap length ((run.keeps n).memory.accessed.read number)
-      ∙ ap (λ (config : MemoryConfig). length (due_reads config ((plan_of script).reads number) (length (of_key number_of_read_data number (lower_trail script n).r)))) (run.config n)
+      ∙ ap (λ (config : MemoryConfig). length (due_reads config ((schedule_of script).reads number) (length (of_key number_of_read_data number (lower_trail script n).r)))) (run.config n)
 
   -- where all beats have come by a round, no later round accesses anything
-  writes-over : (number n k : ℕ) → length (data_beats ((plan_of script).writes number)) ≤ data_count number n → n ≤ k → accesses_of true number (round_accesses script k) ≡ []
+  writes-over : (number n k : ℕ) → length (data_beats ((schedule_of script).writes number)) ≤ data_count number n → n ≤ k → accesses_of true number (round_accesses script k) ≡ []
   writes-over number n k all le =
       let before = data-grows number n k le in
       let next = data-grows number k (suc k) (omega arith) in
-      let same = due-writes_end ((plan_of script).writes number) (data_count number k) (data_count number (suc k)) (omega arith) next in
+      let same = due-writes_end ((schedule_of script).writes number) (data_count number k) (data_count number (suc k)) (omega arith) next in
       none-new true number (accesses_at script k) (round_accesses script k) (writes-counted number (suc k) ∙ ap length (sym same) ∙ sym (writes-counted number k))
 
-  reads-over : (number n k : ℕ) → length (beats_of_parts ((plan_of script).reads number).parts) ≤ read_count number n → n ≤ k → accesses_of false number (round_accesses script k) ≡ []
+  reads-over : (number n k : ℕ) → length (beats_of_parts ((schedule_of script).reads number).parts) ≤ read_count number n → n ≤ k → accesses_of false number (round_accesses script k) ≡ []
   reads-over number n k all le =
       let before = read-grows number n k le in
       let next = read-grows number k (suc k) (omega arith) in
-      let same = due-reads_end ((plan_of script).reads number) (read_count number k) (read_count number (suc k)) (omega arith) next in
+      let same = due-reads_end ((schedule_of script).reads number) (read_count number k) (read_count number (suc k)) (omega arith) next in
       none-new false number (accesses_at script k) (round_accesses script k) (reads-counted number (suc k) ∙ ap length (sym same) ∙ sym (reads-counted number k))
 
   -- ---- a transaction that is answered
@@ -95,18 +95,18 @@ module _ (script : List ScriptItem) (run : RunFacts script) where
     taken-before : IsBehind (lower_trail script m) (upper_trail script (suc m))
     taken-before = (taken_was_put_before 0 (links_at script) (upper_out script) (lower_out script) run.link_runs m).1
 
-    writes-there : item.txn.write ≡ true → length (data_beats ((plan_of script).writes item.txn.number)) ≤ data_count item.txn.number m
+    writes-there : item.txn.write ≡ true → length (data_beats ((schedule_of script).writes item.txn.number)) ≤ data_count item.txn.number m
     unfolding data_count
     writes-there writes =
         let came = ((run.keeps (suc m)).manager.passed.write_notes place item (at-run script run (suc m) place item at) writes).answered.0 (omega arith) in
         let put = prefix_length (prefix_of_key number_of_response item.txn.number taken-before.b) in
-        let one : length ((plan_of script).writes item.txn.number).parts ≡ 1 =
+        let one : length ((schedule_of script).writes item.txn.number).parts ≡ 1 =
         ap (λ (share : Share). length share.parts) (share-own script run.traffic item (contains-at script place item at) true writes) in
-        let whole = eqb-true (length (of_key number_of_data item.txn.number (lower_trail script m).w)) (length (beats_of_parts ((plan_of script).writes item.txn.number).parts))
+        let whole = eqb-true (length (of_key number_of_data item.txn.number (lower_trail script m).w)) (length (beats_of_parts ((schedule_of script).writes item.txn.number).parts))
         ((run.keeps m).answered_below.done_when_answered item.txn.number (omega arith) (omega arith)) in
-        omega (arith, length-zip (beats_of_parts ((plan_of script).writes item.txn.number).parts) (flat_map (λ beats. beats) ((plan_of script).writes item.txn.number).write_data))
+        omega (arith, length-zip (beats_of_parts ((schedule_of script).writes item.txn.number).parts) (flat_map (λ beats. beats) ((schedule_of script).writes item.txn.number).write_data))
 
-    reads-there : item.txn.write ≡ false → length (beats_of_parts ((plan_of script).reads item.txn.number).parts) ≤ read_count item.txn.number m
+    reads-there : item.txn.write ≡ false → length (beats_of_parts ((schedule_of script).reads item.txn.number).parts) ≤ read_count item.txn.number m
     unfolding read_count
     reads-there reads =
         let came = ((run.keeps (suc m)).manager.passed.read_notes place item (at-run script run (suc m) place item at) reads).answered.0 (omega arith) in

@@ -21,11 +21,11 @@ use Rattle.manager_end.proofs.NumberLemmas.{all-at, contains-at}
 use Rattle.memory_end.specs.Accesses.{accesses_of, allowed_before, beats_of_parts, filled_bytes}
 use Rattle.memory_end.specs.Events.{Access}
 use Rattle.memory_end.specs.declared.config.MemoryConfig.{MemoryConfig}
-use Rattle.net_rounds.proofs.BuiltInPlan.{lower_trail, pair_at, plan_of, upper_trail}
+use Rattle.net_rounds.proofs.BuiltInSchedule.{lower_trail, pair_at, schedule_of, upper_trail}
 use Rattle.net_rounds.proofs.DueLemmas.{beats-asked, due-response}
 use Rattle.net_rounds.proofs.ItemEvents.{accessed, item-filled, run_accesses}
 use Rattle.net_rounds.proofs.NotedLists.{all-answers, answers-rise}
-use Rattle.net_rounds.proofs.PlanFacts.{share-own}
+use Rattle.net_rounds.proofs.ScheduleLemmas.{share-own}
 use Rattle.net_rounds.proofs.RunFacts.{RunFacts, note}
 use Rattle.net_rounds.proofs.RunHistory.{run_answers, run_events}
 use Rattle.net_rounds.proofs.RunRounds.{at-run}
@@ -69,21 +69,21 @@ module _ (script : List ScriptItem) (run : RunFacts script) (n : ℕ) where
     write-note : item.txn.write ≡ true → IsWriteNote (pair_at script n).manager.state (upper_trail script n) place item
     write-note writes = (run.keeps n).manager.passed.write_notes place item (at-run script run n place item at) writes
 
-    read-note : item.txn.write ≡ false → IsReadNote (plan_of script) (pair_at script n).manager.state (upper_trail script n) place item
+    read-note : item.txn.write ≡ false → IsReadNote (schedule_of script) (pair_at script n).manager.state (upper_trail script n) place item
     read-note reads = (run.keeps n).manager.passed.read_notes place item (at-run script run n place item at) reads
 
     -- ---- the response
 
     -- a write has one response, and a read one for each beat
-    one-response : item.txn.write ≡ true → length ((plan_of script).writes item.txn.number).responses ≡ 1
+    one-response : item.txn.write ≡ true → length ((schedule_of script).writes item.txn.number).responses ≡ 1
     one-response writes = ap (λ (share : Share). length share.responses) (share-own script run.traffic item (contains-at script place item at) true writes)
 
-    beat-responses : item.txn.write ≡ false → length ((plan_of script).reads item.txn.number).responses ≡ suc item.txn.request.len
+    beat-responses : item.txn.write ≡ false → length ((schedule_of script).reads item.txn.number).responses ≡ suc item.txn.request.len
     beat-responses reads =
-        ap length ((run.keeps n).memory.suits item.txn.number).read_responses ∙ length-map (beats_of_parts ((plan_of script).reads item.txn.number).parts) _
+        ap length ((run.keeps n).memory.suits item.txn.number).read_responses ∙ length-map (beats_of_parts ((schedule_of script).reads item.txn.number).parts) _
         ∙ beats-asked script run.traffic item (contains-at script place item at) reads
 
-    written-responses : item.txn.write ≡ true → (note script n place).resps ≡ ((plan_of script).writes item.txn.number).responses
+    written-responses : item.txn.write ≡ true → (note script n place).resps ≡ ((schedule_of script).writes item.txn.number).responses
     written-responses writes =
         let came = (write-note writes).answered.0 answered in
         let due = one-response writes in
@@ -91,7 +91,7 @@ module _ (script : List ScriptItem) (run : RunFacts script) (n : ℕ) where
         let long = length-map beats (λ b. b.resp) in
         (write-note writes).responses ∙ sym (prefix_whole _ _ ((run.keeps n).answered_above.responses_are_the_schedules item.txn.number) (omega arith))
 
-    read-responses : item.txn.write ≡ false → (note script n place).resps ≡ ((plan_of script).reads item.txn.number).responses
+    read-responses : item.txn.write ≡ false → (note script n place).resps ≡ ((schedule_of script).reads item.txn.number).responses
     read-responses reads =
         let came = (read-note reads).answered.0 answered in
         let due = beat-responses reads in
@@ -104,8 +104,8 @@ module _ (script : List ScriptItem) (run : RunFacts script) (n : ℕ) where
         let among = contains-at script place item at in
         let own = due-response script run.traffic item among run.laws in
         elim (cases_Bool item.txn.write) [
-          | inl writes ↦ written-responses writes ∙ ap (λ (b : Bool). (shares_of (plan_of script) b item.txn.number).responses) (sym writes) ∙ own
-          | inr reads ↦ read-responses reads ∙ ap (λ (b : Bool). (shares_of (plan_of script) b item.txn.number).responses) (sym reads) ∙ own
+          | inl writes ↦ written-responses writes ∙ ap (λ (b : Bool). (shares_of (schedule_of script) b item.txn.number).responses) (sym writes) ∙ own
+          | inr reads ↦ read-responses reads ∙ ap (λ (b : Bool). (shares_of (schedule_of script) b item.txn.number).responses) (sym reads) ∙ own
         ]
 
     -- ---- the bytes
@@ -125,7 +125,7 @@ module _ (script : List ScriptItem) (run : RunFacts script) (n : ℕ) where
     own-bytes reads =
         let among = contains-at script place item at in
         let number = item.txn.number in
-        let share = (plan_of script).reads number in
+        let share = (schedule_of script).reads number in
         let lower = of_key number_of_read_data number (lower_trail script n).r in
         let values = map (λ (a : Access). a.byte.value) (accesses_of false number (run_accesses script run n)) in
         let came = (read-note reads).answered.0 answered in

@@ -16,9 +16,9 @@ use Rattle.memory_end.specs.Events.{Access}
 use Rattle.net_rounds.proofs.AccessLists.{none-is}
 use Rattle.net_rounds.proofs.AnswerRounds.{events-before}
 use Rattle.net_rounds.proofs.AnsweredContent.{all-transactions}
-use Rattle.net_rounds.proofs.BuiltInPlan.{accesses_at, pair_at, plan_of}
+use Rattle.net_rounds.proofs.BuiltInSchedule.{accesses_at, pair_at, schedule_of}
 use Rattle.net_rounds.proofs.NotedLists.{all-answers, all-issues, any-answer, any-issue}
-use Rattle.net_rounds.proofs.PlanFacts.{share-own}
+use Rattle.net_rounds.proofs.ScheduleLemmas.{share-own}
 use Rattle.net_rounds.proofs.RunFacts.{RunFacts, note}
 use Rattle.net_rounds.proofs.RunHistory.{access_of_event, accesses-are, run_answers, run_events, run_issues}
 use Rattle.net_rounds.proofs.RunRounds.{IsEventOf, answered-in, at-run, events-of, issued-before, note-within}
@@ -139,14 +139,14 @@ module _ (script : List ScriptItem) (run : RunFacts script) (n : ℕ) where
     accesses-split : accesses_at script n ≡ map access_of_event earlier ++ access_of_event e ∷ map access_of_event later
     accesses-split = sym (accesses-are script n) ∙ ap (map access_of_event) are ∙ map-append access_of_event earlier (e ∷ later)
 
-    written-chain : t.txn.write ≡ true → ComesBefore (plan_of script).writes t.txn.number u.txn.number
+    written-chain : t.txn.write ≡ true → ComesBefore (schedule_of script).writes t.txn.number u.txn.number
     written-chain writes = (
       order.number,
       ap (λ (s : Share). s.chain) (share-own script run.traffic t (contains-at script p t at_t) true writes) ∙ ap (λ (id : ℕ). id ∷ 0 ∷ []) order.id
           ∙ sym (ap (λ (s : Share). s.chain) (share-own script run.traffic u (contains-at script q u at_u) true (sym order.direction ∙ writes))),
     )
 
-    read-chain : t.txn.write ≡ false → ComesBefore (plan_of script).reads t.txn.number u.txn.number
+    read-chain : t.txn.write ≡ false → ComesBefore (schedule_of script).reads t.txn.number u.txn.number
     read-chain reads = (
       order.number,
       ap (λ (s : Share). s.chain) (share-own script run.traffic t (contains-at script p t at_t) false reads) ∙ ap (λ (id : ℕ). id ∷ 1 ∷ []) order.id

@@ -24,7 +24,7 @@ use Rattle.memory_end.specs.MemoryState.{IsMemoryConfig}
 use Rattle.memory_end.specs.Status.{worst_among, write_status}
 use Rattle.memory_end.proofs.TrackFacts.{worst-assoc, worst-okay}
 use Rattle.net_rounds.proofs.NodeLaws.{NodeLaws}
-use Rattle.net_rounds.proofs.PlanFacts.{IsTrafficItem, data-count, part_of}
+use Rattle.net_rounds.proofs.ScheduleLemmas.{IsTrafficItem, data-count, part_of}
 use Rattle.net_rounds.specs.BuiltIn.{ram}
 use Rattle.net_rounds.specs.Due.{strobed_bytes}
 

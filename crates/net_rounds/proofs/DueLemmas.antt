@@ -1,4 +1,4 @@
--- What is due of the plan's shares is what is due of the script's transactions: bytes and responses.
+-- What is due of the schedule's shares is what is due of the script's transactions: bytes and responses.
 use Rattle.std.proofs.Common.{◌≡◌, ◌<◌, ◌≤◌, ◌+◌, ◌++◌, ◌∷◌, [], ℕ, zero, suc, List, Option, Some, None, Bool, true, false, cond, length, take, drop, refl, sym, ap, ap₂, ◌∙◌, inl, inr, arith, add-one}
 use Rattle.std.specs.Prelude.{All, Contains, filter, flat_map, map}
 use Rattle.std.specs.List.{range_with_len}
@@ -29,10 +29,10 @@ use Rattle.memory_end.specs.Accesses.{BeatOf, allowed_before, allowed_bytes, bea
 use Rattle.memory_end.specs.Beats.{Byte as MemoryByte, lane_address, valid_lanes, valid_status, written_bytes}
 use Rattle.memory_end.specs.BurstBytes.{all_written_bytes, inside_of}
 use Rattle.memory_end.specs.Status.{is_inside, is_okay, read_status, worst_among, write_status}
-use Rattle.net_rounds.proofs.BuiltInPlan.{plan_of, read_share, write_share}
+use Rattle.net_rounds.proofs.BuiltInSchedule.{schedule_of, read_share, write_share}
 use Rattle.net_rounds.proofs.DataLemmas.{data-inside, data-status, part-bytes, ram-memory}
 use Rattle.net_rounds.proofs.NodeLaws.{NodeLaws}
-use Rattle.net_rounds.proofs.PlanFacts.{IsTrafficItem, beat-count, beat_of, data-count, part-beats, part_of, share-own, traffic-item}
+use Rattle.net_rounds.proofs.ScheduleLemmas.{IsTrafficItem, beat-count, beat_of, data-count, part-beats, part_of, share-own, traffic-item}
 use Rattle.net_rounds.specs.BuiltIn.{ram}
 use Rattle.net_rounds.specs.Due.{IsNumberedTraffic, bytes_of, response_of, strobed_bytes, transaction_of}
 
@@ -215,27 +215,27 @@ filled-answered (byte ∷ bytes) (value ∷ values) enough =
     in go byte.allowed enough
 
 module _ (script : List ScriptItem) (t : IsNumberedTraffic script) (item : ScriptItem) (among : Contains script item) where
-  -- a transaction's responses in the plan are its own
-  pub due-response : NodeLaws → (shares_of (plan_of script) item.txn.write item.txn.number).responses ≡ response_of ram item
+  -- a transaction's responses in the schedule are its own
+  pub due-response : NodeLaws → (shares_of (schedule_of script) item.txn.write item.txn.number).responses ≡ response_of ram item
   due-response laws =
       let known = traffic-item script t item among in
       elim (cases_Bool item.txn.write) [
         | inl direction ↦
-            ap (λ b. (cond b (plan_of script).writes (plan_of script).reads item.txn.number).responses) direction
+            ap (λ b. (cond b (schedule_of script).writes (schedule_of script).reads item.txn.number).responses) direction
             ∙ ap (λ (s : Share). s.responses) (share-own script t item among true direction) ∙ write-responses laws item known direction
         | inr direction ↦
-            ap (λ b. (cond b (plan_of script).writes (plan_of script).reads item.txn.number).responses) direction
+            ap (λ b. (cond b (schedule_of script).writes (schedule_of script).reads item.txn.number).responses) direction
             ∙ ap (λ (s : Share). s.responses) (share-own script t item among false direction) ∙ read-responses item known direction
       ]
 
-  -- a read has as many beats in the plan as its request asks for
-  pub beats-asked : item.txn.write ≡ false → length (beats_of_parts ((plan_of script).reads item.txn.number).parts) ≡ suc item.txn.request.len
+  -- a read has as many beats in the schedule as its request asks for
+  pub beats-asked : item.txn.write ≡ false → length (beats_of_parts ((schedule_of script).reads item.txn.number).parts) ≡ suc item.txn.request.len
   beats-asked direction = ap (λ (s : Share). length (beats_of_parts s.parts)) (share-own script t item among false direction) ∙ beat-count item
 
   -- what is answered for a read of which all values are there
   pub due-bytes-read :
-      item.txn.write ≡ false → (count : ℕ) → item.txn.request.len < count → (values : List ℕ) → length values ≡ length (due_reads ram ((plan_of script).reads item.txn.number) count) →
-      filled_bytes (allowed_before ram ((plan_of script).reads item.txn.number) count) values ≡ answered_bytes (bytes_of ram item) values
+      item.txn.write ≡ false → (count : ℕ) → item.txn.request.len < count → (values : List ℕ) → length values ≡ length (due_reads ram ((schedule_of script).reads item.txn.number) count) →
+      filled_bytes (allowed_before ram ((schedule_of script).reads item.txn.number) count) values ≡ answered_bytes (bytes_of ram item) values
   due-bytes-read direction count enough values all =
       let known = traffic-item script t item among in
       let own = share-own script t item among false direction in

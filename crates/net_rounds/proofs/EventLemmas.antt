@@ -12,7 +12,7 @@ use Rattle.axi_trail.proofs.FilterFacts.{filter_map}
 use Rattle.memory_end.specs.Accesses.{accesses_of, left_at}
 use Rattle.memory_end.specs.Events.{Access}
 use Rattle.net_rounds.proofs.DueLemmas.{shown_read, shown_write}
-use Rattle.net_rounds.proofs.PlanFacts.{beq-true}
+use Rattle.net_rounds.proofs.ScheduleLemmas.{beq-true}
 use Rattle.net_rounds.proofs.RunHistory.{access_of_event}
 
 -- an access, as the byte that it does

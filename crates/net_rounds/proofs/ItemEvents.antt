@@ -20,11 +20,11 @@ use Rattle.memory_end.specs.Events.{Access}
 use Rattle.memory_end.specs.MemoryTrail.{HasAccessed}
 use Rattle.memory_end.specs.declared.config.MemoryConfig.{MemoryConfig}
 use Rattle.memory_end.proofs.Accessed.{nil-of_map}
-use Rattle.net_rounds.proofs.BuiltInPlan.{lower_trail, no_share, pair_at, plan_of, progress_at, read_share, upper_trail, write_share}
+use Rattle.net_rounds.proofs.BuiltInSchedule.{lower_trail, no_share, pair_at, schedule_of, progress_at, read_share, upper_trail, write_share}
 use Rattle.net_rounds.proofs.DueLemmas.{beats-asked, due-bytes-read, reads-begin, reads-whole, shown_read, shown_write, writes-begin, writes-whole}
 use Rattle.net_rounds.proofs.EventLemmas.{events-read, events-values, events-written}
 use Rattle.net_rounds.proofs.NotedLists.{all-answers}
-use Rattle.net_rounds.proofs.PlanFacts.{IsTrafficItem, one-number, share-other, share-own, traffic-item}
+use Rattle.net_rounds.proofs.ScheduleLemmas.{IsTrafficItem, one-number, share-other, share-own, traffic-item}
 use Rattle.net_rounds.proofs.RunFacts.{RunFacts, note}
 use Rattle.net_rounds.proofs.RunHistory.{access_of_event, accesses-are, run_answers, run_events}
 use Rattle.net_rounds.specs.BuiltIn.{ram}
@@ -44,8 +44,8 @@ module _ (script : List ScriptItem) (facts : RunFacts script) (n : ℕ) where
   abbrev pub run_accesses : List Access
   run_accesses = map access_of_event (run_events script n)
 
-  pub accessed : HasAccessed (plan_of script) (pair_at script n).memory.state (lower_trail script n) run_accesses
-  accessed = subst (HasAccessed (plan_of script) (pair_at script n).memory.state (lower_trail script n)) (sym (accesses-are script n)) (facts.keeps n).memory.accessed
+  pub accessed : HasAccessed (schedule_of script) (pair_at script n).memory.state (lower_trail script n) run_accesses
+  accessed = subst (HasAccessed (schedule_of script) (pair_at script n).memory.state (lower_trail script n)) (sym (accesses-are script n)) (facts.keeps n).memory.accessed
 
   -- the beats of a transaction that have come to the memory, or were answered by it
   abbrev pub written_beats : ℕ → ℕ
@@ -54,19 +54,19 @@ module _ (script : List ScriptItem) (facts : RunFacts script) (n : ℕ) where
   abbrev pub read_beats : ℕ → ℕ
   read_beats number = length (of_key number_of_read_data number (lower_trail script n).r)
 
-  written : (number : ℕ) → map (λ (a : Access). a.byte) (accesses_of true number run_accesses) ≡ due_writes ram ((plan_of script).writes number) (written_beats number)
-  written number = accessed.written number ∙ ap (λ (config : MemoryConfig). due_writes config ((plan_of script).writes number) (written_beats number)) (facts.config n)
+  written : (number : ℕ) → map (λ (a : Access). a.byte) (accesses_of true number run_accesses) ≡ due_writes ram ((schedule_of script).writes number) (written_beats number)
+  written number = accessed.written number ∙ ap (λ (config : MemoryConfig). due_writes config ((schedule_of script).writes number) (written_beats number)) (facts.config n)
 
-  read : (number : ℕ) → map (λ (a : Access). a.byte.address) (accesses_of false number run_accesses) ≡ due_reads ram ((plan_of script).reads number) (read_beats number)
-  read number = accessed.read number ∙ ap (λ (config : MemoryConfig). due_reads config ((plan_of script).reads number) (read_beats number)) (facts.config n)
+  read : (number : ℕ) → map (λ (a : Access). a.byte.address) (accesses_of false number run_accesses) ≡ due_reads ram ((schedule_of script).reads number) (read_beats number)
+  read number = accessed.read number ∙ ap (λ (config : MemoryConfig). due_reads config ((schedule_of script).reads number) (read_beats number)) (facts.config n)
 
   -- where a number has no share in a direction, there is no access of it
-  none-written : (number : ℕ) → (plan_of script).writes number ≡ no_share → accesses_of true number run_accesses ≡ []
+  none-written : (number : ℕ) → (schedule_of script).writes number ≡ no_share → accesses_of true number run_accesses ≡ []
   none-written number none =
       nil-of_map (λ (a : Access). a.byte) (accesses_of true number run_accesses)
       (written number ∙ ap (λ (share : Share). due_writes ram share (written_beats number)) none ∙ nothing-written (written_beats number))
 
-  none-read : (number : ℕ) → (plan_of script).reads number ≡ no_share → accesses_of false number run_accesses ≡ []
+  none-read : (number : ℕ) → (schedule_of script).reads number ≡ no_share → accesses_of false number run_accesses ≡ []
   none-read number none =
       nil-of_map (λ (a : Access). a.byte.address) (accesses_of false number run_accesses)
       (read number ∙ ap (λ (share : Share). due_reads ram share (read_beats number)) none ∙ nothing-read (read_beats number))
@@ -102,12 +102,12 @@ module _ (script : List ScriptItem) (facts : RunFacts script) (n : ℕ) where
     -- what the memory has filled in of a read that it has wholly answered is what is due
     pub item-filled :
         item.txn.write ≡ false → item.txn.request.len < read_beats item.txn.number →
-        filled_bytes (allowed_before ram ((plan_of script).reads item.txn.number) (read_beats item.txn.number)) (map (λ (a : Access). a.byte.value) (accesses_of false item.txn.number run_accesses))
+        filled_bytes (allowed_before ram ((schedule_of script).reads item.txn.number) (read_beats item.txn.number)) (map (λ (a : Access). a.byte.value) (accesses_of false item.txn.number run_accesses))
         ≡ answered_bytes (bytes_of ram item) (values_of item.txn.number (run_events script n))
     item-filled direction enough =
         let mine = accesses_of false item.txn.number run_accesses in
         let values = map (λ (a : Access). a.byte.value) mine in
-        let due_now = due_reads ram ((plan_of script).reads item.txn.number) (read_beats item.txn.number) in
+        let due_now = due_reads ram ((schedule_of script).reads item.txn.number) (read_beats item.txn.number) in
         let all : length values ≡ length due_now =
         length-map mine (λ (a : Access). a.byte.value) ∙ sym (length-map mine (λ (a : Access). a.byte.address)) ∙ ap (λ (addresses : List ℕ). length addresses) (read item.txn.number) in
         due-bytes-read script facts.traffic item among direction (read_beats item.txn.number) enough values all ∙ ap (answered_bytes (bytes_of ram item)) (sym (item-values direction))
@@ -117,11 +117,11 @@ module _ (script : List ScriptItem) (facts : RunFacts script) (n : ℕ) where
     write-all place at direction answered =
         let own = share-own script facts.traffic item among true direction in
         let came : length (of_key number_of_response item.txn.number (upper_trail script n).b) ≡ 1 = ((facts.keeps n).manager.passed.write_notes place item at direction).answered.0 answered in
-        let part : length ((plan_of script).writes item.txn.number).parts ≡ 1 = ap (λ (share : Share). length share.parts) own in
+        let part : length ((schedule_of script).writes item.txn.number).parts ≡ 1 = ap (λ (share : Share). length share.parts) own in
         let done : IsTrue ((progress_at script n).written item.txn.number) =
         (facts.keeps n).answered_above.done_when_answered item.txn.number (omega (arith, part)) (omega (arith, part, came)) in
-        let all : written_beats item.txn.number ≡ length (beats_of_parts ((plan_of script).writes item.txn.number).parts) = eqb-true _ _ done in
-        let beats : length (beats_of_parts ((plan_of script).writes item.txn.number).parts) ≡ length (beats_of_parts (write_share item).parts) = ap (λ (share : Share). length (beats_of_parts share.parts)) own in
+        let all : written_beats item.txn.number ≡ length (beats_of_parts ((schedule_of script).writes item.txn.number).parts) = eqb-true _ _ done in
+        let beats : length (beats_of_parts ((schedule_of script).writes item.txn.number).parts) ≡ length (beats_of_parts (write_share item).parts) = ap (λ (share : Share). length (beats_of_parts share.parts)) own in
         omega (arith, all, beats)
 
     -- a read whose beats have all come to the manager has them all answered by the memory
@@ -133,8 +133,8 @@ module _ (script : List ScriptItem) (facts : RunFacts script) (n : ℕ) where
         ap (λ (rs : List RBeat). length (of_key number_of_read_data item.txn.number rs)) (facts.keeps n).queue.r
         ∙ ap (λ (rs : List RBeat). length rs) (of_key-append number_of_read_data item.txn.number (upper_trail script n).r (pair_at script n).link.r)
         ∙ length-append (of_key number_of_read_data item.txn.number (upper_trail script n).r) (of_key number_of_read_data item.txn.number (pair_at script n).link.r) in
-        let asked : length (beats_of_parts ((plan_of script).reads item.txn.number).parts) ≡ suc item.txn.request.len = beats-asked script facts.traffic item among direction in
-        let beats : length (beats_of_parts ((plan_of script).reads item.txn.number).parts) ≡ length (beats_of_parts (read_share item).parts) = ap (λ (share : Share). length (beats_of_parts share.parts)) own in
+        let asked : length (beats_of_parts ((schedule_of script).reads item.txn.number).parts) ≡ suc item.txn.request.len = beats-asked script facts.traffic item among direction in
+        let beats : length (beats_of_parts ((schedule_of script).reads item.txn.number).parts) ≡ length (beats_of_parts (read_share item).parts) = ap (λ (share : Share). length (beats_of_parts share.parts)) own in
         omega (arith, came, sent, asked, beats)
 
     -- where it is answered, its events are all that are due

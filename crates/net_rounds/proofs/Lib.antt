@@ -3,7 +3,7 @@ pub mod AnswerRounds
 pub mod AnsweredContent
 pub mod AnsweredOrder
 pub mod BoundLemmas
-pub mod BuiltInPlan
+pub mod BuiltInSchedule
 pub mod Choosing
 pub mod DataLemmas
 pub mod DeliveredLemmas
@@ -11,7 +11,7 @@ pub mod DueLemmas
 pub mod EventLemmas
 pub mod ItemEvents
 pub mod KnownFacts
-pub mod LegalPlan
+pub mod LegalSchedule
 pub mod NetLemmas
 pub mod NetworkLemmas
 pub mod NodeLaws
@@ -21,7 +21,7 @@ pub mod NotesLemmas
 pub mod Numbers
 pub mod Pair
 pub mod PairLemmas
-pub mod PlanFacts
+pub mod ScheduleLemmas
 pub mod PortsLegal
 pub mod PushedItems
 pub mod RunAnswered

@@ -3,15 +3,15 @@ use Rattle.std.proofs.Common.{◌≡◌, ◌∷◌, [], ◌++◌, ℕ, zero, suc
 use Rattle.axi_history.specs.PortRules.{axi4_history_fault}
 use Rattle.axi_history.specs.declared.port.PortRound.{PortRound}
 use Rattle.link_ports.proofs.PortFacts.{links_are_legal}
-use Rattle.link_ports.specs.LegalPlan.{IsLegalPlan}
+use Rattle.link_ports.specs.LegalSchedule.{IsLegalSchedule}
 use Rattle.link_ports.specs.PortView.{port_history, port_of, port_round}
 use Rattle.manager_end.specs.Script.{ScriptItem}
-use Rattle.net_rounds.proofs.BuiltInPlan.{links_at, lower_out, pair_at, plan_of, progress_at, share_at, upper_out}
-use Rattle.net_rounds.proofs.LegalPlan.{HasItsData, HasLegalParts, legal-parts, none-data, none-legal, write-data}
+use Rattle.net_rounds.proofs.BuiltInSchedule.{links_at, lower_out, pair_at, schedule_of, progress_at, share_at, upper_out}
+use Rattle.net_rounds.proofs.LegalSchedule.{HasItsData, HasLegalParts, legal-parts, none-data, none-legal, write-data}
 use Rattle.net_rounds.proofs.NetworkLemmas.{after_rounds-built_in, decide-network_of, network_of}
 use Rattle.net_rounds.proofs.NodeLaws.{NodeLaws}
 use Rattle.net_rounds.proofs.Pair.{Pair, decided}
-use Rattle.net_rounds.proofs.PlanFacts.{share-cases, traffic-item}
+use Rattle.net_rounds.proofs.ScheduleLemmas.{share-cases, traffic-item}
 use Rattle.net_rounds.proofs.RunFacts.{run-facts}
 use Rattle.net_rounds.specs.BuiltIn.{built_in}
 use Rattle.net_rounds.specs.Due.{IsNumberedTraffic}
@@ -35,8 +35,8 @@ history-is script (suc n) =
     ∙ ap (λ (now : PortRound). port_history 0 link_kind (links_at script) (upper_out script) (lower_out script) n ++ now ∷ []) (round-is script n)
 
 -- what the link has to carry is legal
-plan-legal : NodeLaws → (script : List ScriptItem) → IsNumberedTraffic script → IsLegalPlan 4 (plan_of script)
-plan-legal laws script traffic =
+schedule-legal : NodeLaws → (script : List ScriptItem) → IsNumberedTraffic script → IsLegalSchedule 4 (schedule_of script)
+schedule-legal laws script traffic =
     let parts : (write : Bool) (number : ℕ) → HasLegalParts (share_at write script number) = λ write number. elim (share-cases write script number) [
       | inl none ↦ subst HasLegalParts (sym none) none-legal
       | inr has ↦ subst HasLegalParts (sym has.share) (legal-parts write has.item (traffic-item script traffic has.item has.among).legal)
@@ -63,5 +63,5 @@ ports-are-legal laws script traffic rounds number known =
     let facts = run-facts laws script traffic in
     let first : number ≡ 0 = omega (arith, known, one-link script) in
     ap (λ (n : ℕ). axi4_history_fault link_kind.bus (history_of rounds (built_in script) n)) first ∙ ap (axi4_history_fault link_kind.bus) (history-is script rounds)
-    ∙ links_are_legal (plan_of script) (progress_at script) 0 link_kind (links_at script) (upper_out script) (lower_out script) facts.link_runs (plan-legal laws script traffic)
+    ∙ links_are_legal (schedule_of script) (progress_at script) 0 link_kind (links_at script) (upper_out script) (lower_out script) facts.link_runs (schedule-legal laws script traffic)
     (λ n. (facts.keeps n).asked_above) (λ n. (facts.keeps n).answered_below) rounds

@@ -13,7 +13,7 @@ use Rattle.manager_end.specs.ManagerOrder.{Notes, note_at}
 use Rattle.manager_end.specs.ManagerState.{of_direction, reads_of, writes_of}
 use Rattle.manager_end.specs.Script.{ScriptItem}
 use Rattle.memory_end.specs.Events.{Access}
-use Rattle.net_rounds.proofs.BuiltInPlan.{accesses_at, links_at, lower_out, lower_trail, pair_at, plan_of, progress_at, upper_out, upper_trail}
+use Rattle.net_rounds.proofs.BuiltInSchedule.{accesses_at, links_at, lower_out, lower_trail, pair_at, schedule_of, progress_at, upper_out, upper_trail}
 use Rattle.net_rounds.proofs.NodeLaws.{NodeLaws}
 use Rattle.net_rounds.proofs.RunHistory.{round_accesses}
 use Rattle.net_rounds.proofs.RunKeeps.{RunKeeps}
@@ -79,9 +79,9 @@ module _ (laws : NodeLaws) (script : List ScriptItem) (traffic : IsNumberedTraff
 
   were-asked : (n : ℕ) → All (λ (a : Access). Contains (map number_of_address (if a.write then (lower_trail script n).aw else (lower_trail script n).ar)) a.number) (round_accesses script n)
   were-asked n =
-      laws.accesses_were_asked (plan_of script) (progress_at script n) (links_at script n) (pair_at script n).memory.state (lower_trail script n) (accesses_at script n)
+      laws.accesses_were_asked (schedule_of script) (progress_at script n) (links_at script n) (pair_at script n).memory.state (lower_trail script n) (accesses_at script n)
       (keeps-of n).memory (keeps-of n).asked_below
-      (subst (λ (trail : Beats). Asks (plan_of script) (progress_at script n) trail) (sym (lower-next laws script traffic n)) (asked-next laws script traffic n))
+      (subst (λ (trail : Beats). Asks (schedule_of script) (progress_at script n) trail) (sym (lower-next laws script traffic n)) (asked-next laws script traffic n))
 
   script-at : (n : ℕ) → (pair_at script n).manager.state.script ≡ script
   script-at n = script-stays laws script traffic n

@@ -6,7 +6,7 @@ use Rattle.std.proofs.lemmas.List.{map-append}
 use Rattle.axi_history.specs.Records.{Answer, Event, Issue}
 use Rattle.manager_end.specs.Script.{ScriptItem}
 use Rattle.memory_end.specs.Events.{Access, memory_events}
-use Rattle.net_rounds.proofs.BuiltInPlan.{accesses_at, links_at, pair_at}
+use Rattle.net_rounds.proofs.BuiltInSchedule.{accesses_at, links_at, pair_at}
 use Rattle.net_rounds.proofs.NetworkLemmas.{after_rounds-built_in, network_of, pair_after-script}
 use Rattle.net_rounds.proofs.Pair.{Pair}
 use Rattle.net_rounds.specs.BuiltIn.{built_in}

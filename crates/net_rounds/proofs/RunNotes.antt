@@ -10,7 +10,7 @@ use Rattle.manager_end.specs.Answer.{unanswered}
 use Rattle.manager_end.specs.ManagerState.{is_done}
 use Rattle.manager_end.specs.Script.{ScriptItem}
 use Rattle.net_rounds.proofs.AnsweredContent.{all-transactions}
-use Rattle.net_rounds.proofs.BuiltInPlan.{pair_at}
+use Rattle.net_rounds.proofs.BuiltInSchedule.{pair_at}
 use Rattle.net_rounds.proofs.NetworkLemmas.{after_rounds-built_in}
 use Rattle.net_rounds.proofs.NotedLists.{all-answers, all-issues, any-answer, any-issue}
 use Rattle.net_rounds.proofs.NotesLemmas.{done-answered}

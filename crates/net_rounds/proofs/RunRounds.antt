@@ -8,7 +8,7 @@ use Rattle.std.proofs.lemmas.Option.{slice_get_within}
 use Rattle.axi_history.specs.Records.{Event, Issue}
 use Rattle.manager_end.specs.Script.{ScriptItem}
 use Rattle.memory_end.specs.Events.{Access}
-use Rattle.net_rounds.proofs.BuiltInPlan.{pair_at}
+use Rattle.net_rounds.proofs.BuiltInSchedule.{pair_at}
 use Rattle.net_rounds.proofs.NotedLists.{any-issue}
 use Rattle.net_rounds.proofs.RunFacts.{IsAskedFor, RunFacts, note}
 use Rattle.net_rounds.proofs.RunHistory.{round_accesses, run_events, run_issues}

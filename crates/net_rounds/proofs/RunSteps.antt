@@ -20,13 +20,13 @@ use Rattle.memory_end.specs.MemoryState.{IsMemoryConfig}
 use Rattle.memory_end.specs.MemoryTable.{memory_out}
 use Rattle.memory_end.specs.MemoryTrail.{Knows, MemoryKeeps, memory_trail}
 use Rattle.memory_end.specs.declared.config.MemoryConfig.{MemoryConfig}
-use Rattle.net_rounds.proofs.BuiltInPlan.{accesses_at, is_noted_issued, links_at, lower_out, lower_trail, pair_at, plan_of, progress_at, upper_out, upper_trail}
+use Rattle.net_rounds.proofs.BuiltInSchedule.{accesses_at, is_noted_issued, links_at, lower_out, lower_trail, pair_at, schedule_of, progress_at, upper_out, upper_trail}
 use Rattle.net_rounds.proofs.NetLemmas.{rounds-hold}
 use Rattle.net_rounds.proofs.NetworkLemmas.{built_in_pair, pair_after-script}
 use Rattle.net_rounds.proofs.NodeLaws.{NodeLaws}
 use Rattle.net_rounds.proofs.Pair.{Pair, decided, moved, pair_after}
 use Rattle.net_rounds.proofs.PairLemmas.{PairHolds, can-memory}
-use Rattle.net_rounds.proofs.PlanFacts.{plan-of-script, plan-suits}
+use Rattle.net_rounds.proofs.ScheduleLemmas.{schedule-of-script, schedule-suits}
 use Rattle.net_rounds.proofs.RunKeeps.{RunKeeps}
 use Rattle.net_rounds.proofs.TouchedLemmas.{touched-ascending}
 use Rattle.net_rounds.specs.BuiltIn.{ram, touched_lines}
@@ -64,8 +64,8 @@ ram-config = record { bus = refl; base = refl; size = refl; end = omega arith }
 
 -- the two nodes of the run
 record NodesKeep (script : List ScriptItem) (n : ℕ) : Type 0 where
-  manager : ManagerKeeps (plan_of script) n (pair_at script n).manager.state (upper_trail script n)
-  memory : MemoryKeeps (plan_of script) (pair_at script n).memory.state (lower_trail script n) (accesses_at script n)
+  manager : ManagerKeeps (schedule_of script) n (pair_at script n).manager.state (upper_trail script n)
+  memory : MemoryKeeps (schedule_of script) (pair_at script n).memory.state (lower_trail script n) (accesses_at script n)
 
 module _ (laws : NodeLaws) (script : List ScriptItem) (traffic : IsNumberedTraffic script) where
   pub link-runs : IsLinkRun 0 (links_at script) (upper_out script) (lower_out script)
@@ -91,51 +91,51 @@ module _ (laws : NodeLaws) (script : List ScriptItem) (traffic : IsNumberedTraff
   known-issued n place item at issued =
       noted-any script script (pair_at script n).manager.state.answers place item (ap (λ items. slice_get items place) (sym (script-stays n)) ∙ at) issued
 
-  known-data : (n : ℕ) → Knows ram (plan_of script) (progress_at script n) (lower_trail script n) (accesses_at script n)
+  known-data : (n : ℕ) → Knows ram (schedule_of script) (progress_at script n) (lower_trail script n) (accesses_at script n)
   known-data n = record { written = λ number all. eq-eqb _ _ all; filled = λ number. prefix_itself _ }
 
   module _ (n : ℕ) (keeps : NodesKeep script n) where
-    asks-above : Asks (plan_of script) (progress_at script n) (upper_trail script n)
-    asks-above = laws.manager_asks (plan_of script) (progress_at script n) n (pair_at script n).manager.state (upper_trail script n) keeps.manager (known-issued n)
+    asks-above : Asks (schedule_of script) (progress_at script n) (upper_trail script n)
+    asks-above = laws.manager_asks (schedule_of script) (progress_at script n) n (pair_at script n).manager.state (upper_trail script n) keeps.manager (known-issued n)
 
     asks-through :
-        Asks (plan_of script) (progress_at script n) (lower_trail script n)
-        × Asks (plan_of script) (progress_at script n) (lower_trail script (suc n))
+        Asks (schedule_of script) (progress_at script n) (lower_trail script n)
+        × Asks (schedule_of script) (progress_at script n) (lower_trail script (suc n))
     asks-through =
-        let all = asked_through_link (plan_of script) (progress_at script n) (progress_at script n) 0 (links_at script) (upper_out script) (lower_out script) (grows-itself (progress_at script n)) link-runs n asks-above
+        let all = asked_through_link (schedule_of script) (progress_at script n) (progress_at script n) 0 (links_at script) (upper_out script) (lower_out script) (grows-itself (progress_at script n)) link-runs n asks-above
         in (all.0, all.2)
 
-    answers-below : Answers (plan_of script) (progress_at script n) (lower_trail script n)
+    answers-below : Answers (schedule_of script) (progress_at script n) (lower_trail script n)
     answers-below =
-        laws.memory_answers (plan_of script) (progress_at script n) (pair_at script n).memory.state (lower_trail script n) (accesses_at script n) keeps.memory asks-through.0
-        (subst (λ (config : MemoryConfig). Knows config (plan_of script) (progress_at script n) (lower_trail script n) (accesses_at script n)) (sym (config-stays n)) (known-data n))
+        laws.memory_answers (schedule_of script) (progress_at script n) (pair_at script n).memory.state (lower_trail script n) (accesses_at script n) keeps.memory asks-through.0
+        (subst (λ (config : MemoryConfig). Knows config (schedule_of script) (progress_at script n) (lower_trail script n) (accesses_at script n)) (sym (config-stays n)) (known-data n))
 
     answers-through :
-        Answers (plan_of script) (progress_at script n) (upper_trail script n)
-        × Answers (plan_of script) (progress_at script n) (upper_trail script (suc n))
+        Answers (schedule_of script) (progress_at script n) (upper_trail script n)
+        × Answers (schedule_of script) (progress_at script n) (upper_trail script (suc n))
     answers-through =
-        let all = answered_through_link (plan_of script) (progress_at script n) (progress_at script n) 0 (links_at script) (upper_out script) (lower_out script) (grows-itself (progress_at script n)) link-runs n answers-below
+        let all = answered_through_link (schedule_of script) (progress_at script n) (progress_at script n) 0 (links_at script) (upper_out script) (lower_out script) (grows-itself (progress_at script n)) link-runs n answers-below
         in (all.0, all.2)
 
     manager-next :
-        ManagerKeeps (plan_of script) (suc n) (pair_at script (suc n)).manager.state (upper_trail script (suc n))
+        ManagerKeeps (schedule_of script) (suc n) (pair_at script (suc n)).manager.state (upper_trail script (suc n))
     manager-next =
-        subst (λ (trail : Beats). ManagerKeeps (plan_of script) (suc n) (pair_at script (suc n)).manager.state trail) (upper-next n)
-        (laws.manager_steps (plan_of script) (progress_at script n) n (links_at script n) (pair_at script n).manager.state (upper_trail script n) keeps.manager
-        (subst (λ (trail : Beats). Answers (plan_of script) (progress_at script n) trail) (sym (upper-next n)) answers-through.1))
+        subst (λ (trail : Beats). ManagerKeeps (schedule_of script) (suc n) (pair_at script (suc n)).manager.state trail) (upper-next n)
+        (laws.manager_steps (schedule_of script) (progress_at script n) n (links_at script n) (pair_at script n).manager.state (upper_trail script n) keeps.manager
+        (subst (λ (trail : Beats). Answers (schedule_of script) (progress_at script n) trail) (sym (upper-next n)) answers-through.1))
 
     memory-next :
-        MemoryKeeps (plan_of script) (pair_at script (suc n)).memory.state (lower_trail script (suc n)) (accesses_at script (suc n))
+        MemoryKeeps (schedule_of script) (pair_at script (suc n)).memory.state (lower_trail script (suc n)) (accesses_at script (suc n))
     memory-next =
-        subst (λ (trail : Beats). MemoryKeeps (plan_of script) (pair_at script (suc n)).memory.state trail (accesses_at script (suc n))) (lower-next n)
-        (laws.memory_steps (plan_of script) (progress_at script n) (suc n) (links_at script n) (pair_at script n).memory.state (lower_trail script n) (accesses_at script n) keeps.memory
+        subst (λ (trail : Beats). MemoryKeeps (schedule_of script) (pair_at script (suc n)).memory.state trail (accesses_at script (suc n))) (lower-next n)
+        (laws.memory_steps (schedule_of script) (progress_at script n) (suc n) (links_at script n) (pair_at script n).memory.state (lower_trail script n) (accesses_at script n) keeps.memory
         (can-memory (pair_at script n) n (run-holds n)) asks-through.0
-        (subst (λ (trail : Beats). Asks (plan_of script) (progress_at script n) trail) (sym (lower-next n)) asks-through.1))
+        (subst (λ (trail : Beats). Asks (schedule_of script) (progress_at script n) trail) (sym (lower-next n)) asks-through.1))
 
   nodes-keep : (n : ℕ) → NodesKeep script n
   nodes-keep zero = record {
-    manager = laws.manager_opens (plan_of script) script 0 4 traffic.traffic.is_script refl traffic.traffic.legal (plan-of-script script traffic);
-    memory = laws.memory_opens (plan_of script) ram 0 (touched_lines script) ram-config (touched-ascending script) (plan-suits script traffic);
+    manager = laws.manager_opens (schedule_of script) script 0 4 traffic.traffic.is_script refl traffic.traffic.legal (schedule-of-script script traffic);
+    memory = laws.memory_opens (schedule_of script) ram 0 (touched_lines script) ram-config (touched-ascending script) (schedule-suits script traffic);
   }
   nodes-keep (suc n) = let keeps = nodes-keep n in record { manager = manager-next n keeps; memory = memory-next n keeps }
 
@@ -153,5 +153,5 @@ module _ (laws : NodeLaws) (script : List ScriptItem) (traffic : IsNumberedTraff
       }
 
   -- what is asked at the lower end after one more round
-  pub asked-next : (n : ℕ) → Asks (plan_of script) (progress_at script n) (lower_trail script (suc n))
+  pub asked-next : (n : ℕ) → Asks (schedule_of script) (progress_at script n) (lower_trail script (suc n))
   asked-next n = (asks-through n (nodes-keep n)).1

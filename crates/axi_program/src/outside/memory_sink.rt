@@ -3,9 +3,9 @@
 ghost use Rattle.std.specs.Prelude.{◌≡◌, ◌<◌, ◌≤◌, [], length, is_err, IfOk};
 ghost use Rattle.std.specs.Io.KnownBytes.{WriteAppends};
 ghost use Rattle.axi_program.specs.Faults.{HasCause};
-ghost use Rattle.axi_program.specs.Memory.{new_plan, write_fails, write_count, after_write};
+ghost use Rattle.axi_program.specs.Memory.{new_call_faults, write_fails, write_count, after_write};
 
-use super::planned_faults::PlannedFaults;
+use super::call_faults::CallFaults;
 use super::sink::Sink;
 use super::source::Failed;
 use axi_beats::NoMemory;
@@ -14,14 +14,14 @@ use std::marker::Model;
 
 /// Room for so many bytes in memory, written a few at a time, with failures at the calls that it was told.
 ///
-/// A clause sees it as the bytes that were written, its capacity, the most that one write takes, and the plan of its
+/// A clause sees it as the bytes that were written, its capacity, the most that one write takes, and the faults of its
 /// calls.
 #[derive(Drop)]
 pub struct MemorySink {
     bytes: Vec<u8>,
     capacity: usize,
     most: usize,
-    plan: PlannedFaults,
+    call_faults: CallFaults,
 }
 
 impl Model for MemorySink {
@@ -30,7 +30,7 @@ impl Model for MemorySink {
 
     ghost Value = { Output };
 
-    ghost view = { λ s. record { written = s.bytes.items; capacity = s.capacity; most = s.most; plan = s.plan } };
+    ghost view = { λ s. record { written = s.bytes.items; capacity = s.capacity; most = s.most; call_faults = s.call_faults } };
 
     ghost invariant = { λ s. IsReserved s.most (vec_len s.bytes) s.capacity (vec_capacity s.bytes) };
 }
@@ -46,13 +46,13 @@ impl MemorySink {
     ) -> Result<MemorySink, NoMemory>
         requires { 0 < most }
         ensures { IfOk result (λ sink.
-            sink ≡ record { written = []; capacity = capacity; most = most; plan = new_plan fail.items }) }
+            sink ≡ record { written = []; capacity = capacity; most = most; call_faults = new_call_faults fail.items }) }
     {
         Ok(MemorySink {
             bytes: Vec::with_capacity(alloc, capacity)?,
             capacity,
             most,
-            plan: PlannedFaults::new(fail),
+            call_faults: CallFaults::new(fail),
         })
     }
 
@@ -69,14 +69,14 @@ impl Sink for MemorySink {
 
     ghost written = { λ s. Some s.written };
 
-    ghost faults = { λ s. s.plan.faults };
+    ghost faults = { λ s. s.call_faults.faults };
 
     fn write(&mut self, piece: &[u8]) -> Result<usize, Failed>
         requires { 0 < length piece.now }
         ensures some { IfOk result (λ n. 0 < n) }
         ensures bound { IfOk result (λ n. n ≤ length piece.now) }
         ensures bytes { WriteAppends (Some self.old.written) (Some self.new.written) result piece.now }
-        ensures cause { HasCause self.old.plan.faults self.new.plan.faults result }
+        ensures cause { HasCause self.old.call_faults.faults self.new.call_faults.faults result }
 
         // Which calls fail, and how many bytes the others take.
         ensures fails { is_err result ≡ write_fails self.old }
@@ -84,8 +84,8 @@ impl Sink for MemorySink {
         ensures after { self.new ≡ after_write self.old piece.now }
     {
         let free = self.capacity - self.bytes.len();
-        let fails = self.plan.is_due() || free == 0;
-        self.plan.count(fails);
+        let fails = self.call_faults.is_due() || free == 0;
+        self.call_faults.count(fails);
         if fails {
             return Err(Failed);
         }

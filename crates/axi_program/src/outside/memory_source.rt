@@ -4,21 +4,21 @@ ghost use Rattle.std.specs.Prelude.{◌≡◌, ◌<◌, ◌≤◌, ◌++◌, len
 ghost use Rattle.std.specs.Io.{ReadsAtMost};
 ghost use Rattle.std.specs.Io.KnownBytes.{ReadConsumes};
 ghost use Rattle.axi_program.specs.Faults.{HasCause};
-ghost use Rattle.axi_program.specs.Memory.{new_plan, is_due, read_count, after_read};
+ghost use Rattle.axi_program.specs.Memory.{new_call_faults, is_due, read_count, after_read};
 
-use super::planned_faults::PlannedFaults;
+use super::call_faults::CallFaults;
 use super::source::{Failed, Source};
 use std::marker::Model;
 
 /// Bytes in memory, read a few at a time, with failures at the calls that it was told.
 ///
-/// A clause sees it as the bytes that are left, the most that one read moves, and the plan of its calls.
+/// A clause sees it as the bytes that are left, the most that one read moves, and the faults of its calls.
 #[derive(Drop)]
 pub struct MemorySource {
     bytes: Vec<u8>,
     next: usize,
     most: usize,
-    plan: PlannedFaults,
+    call_faults: CallFaults,
 }
 
 impl Model for MemorySource {
@@ -27,7 +27,7 @@ impl Model for MemorySource {
 
     ghost Value = { Input };
 
-    ghost view = { λ s. record { left = drop s.next s.bytes.items; most = s.most; plan = s.plan } };
+    ghost view = { λ s. record { left = drop s.next s.bytes.items; most = s.most; call_faults = s.call_faults } };
 
     ghost invariant = { λ s. IsWithin s.most s.next (vec_len s.bytes) };
 }
@@ -37,13 +37,13 @@ impl MemorySource {
     /// bytes, at least 1, in each read.
     pub fn new(bytes: Vec<u8>, fail: Vec<u64>, most: usize) -> MemorySource
         requires { 0 < most }
-        ensures { result ≡ record { left = bytes.items; most = most; plan = new_plan fail.items } }
+        ensures { result ≡ record { left = bytes.items; most = most; call_faults = new_call_faults fail.items } }
     {
         MemorySource {
             bytes,
             next: 0,
             most,
-            plan: PlannedFaults::new(fail),
+            call_faults: CallFaults::new(fail),
         }
     }
 }
@@ -53,22 +53,22 @@ impl Source for MemorySource {
 
     ghost left = { λ s. Some s.left };
 
-    ghost faults = { λ s. s.plan.faults };
+    ghost faults = { λ s. s.call_faults.faults };
 
     fn read(&mut self, buf: &mut [u8]) -> Result<usize, Failed>
         ensures bound { ReadsAtMost result buf.new }
         ensures bytes { ReadConsumes (Some self.old.left) (Some self.new.left) result buf.new }
-        ensures cause { HasCause self.old.plan.faults self.new.plan.faults result }
+        ensures cause { HasCause self.old.call_faults.faults self.new.call_faults.faults result }
 
         // Which calls fail, and how many bytes the others move.
-        ensures fails { is_err result ≡ is_due self.old.plan }
+        ensures fails { is_err result ≡ is_due self.old.call_faults }
         ensures count { IfOk result (λ n. n ≡ read_count self.old (length buf.old)) }
         ensures after { self.new ≡ after_read self.old (length buf.old) }
         ensures front { IfOk result (λ n. buf.new ≡ take n self.old.left ++ drop n buf.old) }
         ensures kept { OnErr result (buf.new ≡ buf.old) }
     {
-        let fails = self.plan.is_due();
-        self.plan.count(fails);
+        let fails = self.call_faults.is_due();
+        self.call_faults.count(fails);
         if fails {
             return Err(Failed);
         }

@@ -13,11 +13,11 @@ use Rattle.axi_trail.specs.Schedule.{Share}
 use Rattle.burst_address.specs.Bytes.{burst_bytes}
 use Rattle.burst_address.specs.Formulas.{beats_of}
 use Rattle.burst_address.specs.Legal.{IsLegal}
-use Rattle.link_ports.specs.LegalPlan.{IsDataOf}
+use Rattle.link_ports.specs.LegalSchedule.{IsDataOf}
 use Rattle.manager_end.specs.Beats.{data_beat, data_beats, high_lane, low_lane, request_of}
 use Rattle.manager_end.specs.BurstLaws.{DataStrobesAreWithin, SendsItsBytes}
 use Rattle.manager_end.specs.Script.{ScriptItem, sent_bytes}
-use Rattle.net_rounds.proofs.BuiltInPlan.{no_share, share_of, write_share}
+use Rattle.net_rounds.proofs.BuiltInSchedule.{no_share, share_of, write_share}
 
 -- a share whose requests are legal bursts
 abbrev pub HasLegalParts : Share → Type 0

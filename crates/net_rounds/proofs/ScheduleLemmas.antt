@@ -1,4 +1,4 @@
--- The plan of the built-in network's link is that of its script, for the manager above it and for the memory below it.
+-- The schedule of the built-in network's link is that of its script, for the manager above it and for the memory below it.
 use Rattle.std.proofs.Common.{◌≡◌, ◌≢◌, ◌<◌, ◌≤◌, ◌+◌, ◌-◌, ◌==◌, ◌&&◌, ◌^◌, ◌∷◌, [], ℕ, zero, suc, List, Bool, true, false, cond, length, get_or, refl, sym, ap, ap₂, ◌∙◌, subst, inl, inr, eq-eqb, arith, add-one, append-nil}
 use Rattle.std.specs.Prelude.{◌⊎◌, All, AllPairs, Contains, map, not, zip, if◌then◌else◌}
 use Rattle.std.specs.Bool.{beq}
@@ -14,13 +14,13 @@ use Rattle.axi_trail.specs.Schedule.{SameChain, Share, Span}
 use Rattle.burst_address.specs.Formulas.{beats_of}
 use Rattle.burst_address.specs.Legal.{IsLegal}
 use Rattle.manager_end.specs.Beats.{data_beat, data_beats, high_lane, low_lane, request_of}
-use Rattle.manager_end.specs.ManagerTrail.{HasItem, IsItsOwn, IsPlanOf, shares_of}
+use Rattle.manager_end.specs.ManagerTrail.{HasItem, IsItsOwn, IsScheduleOf, shares_of}
 use Rattle.manager_end.specs.Script.{ScriptItem, sent_bytes}
 use Rattle.memory_end.proofs.BeatLemmas.{lanes-ordered}
 use Rattle.memory_end.specs.Accesses.{BeatOf, beats_of_parts, burst_status, span_of}
 use Rattle.memory_end.specs.Beats.{valid_status}
 use Rattle.memory_end.specs.MemoryTrail.{Suits}
-use Rattle.net_rounds.proofs.BuiltInPlan.{no_share, plan_of, read_share, share_at, share_of, write_share}
+use Rattle.net_rounds.proofs.BuiltInSchedule.{no_share, schedule_of, read_share, share_at, share_of, write_share}
 use Rattle.net_rounds.proofs.PushedItems.{script-sent, script-starts}
 use Rattle.net_rounds.specs.BuiltIn.{ram}
 use Rattle.net_rounds.specs.Due.{IsNumberedTraffic}
@@ -209,18 +209,18 @@ beat-spans :
 beat-spans item known [] = refl
 beat-spans item known (n ∷ numbers) = ap₂ (λ (one : Span) (more : List Span). one ∷ more) (beat-span item known n) (beat-spans item known numbers)
 
--- the plan has each transaction as it is
-has-write : (script : List ScriptItem) (item : ScriptItem) → IsTrafficItem item → item.txn.write ≡ true → (plan_of script).writes item.txn.number ≡ write_share item → HasItem (plan_of script) 4 item
+-- the schedule has each transaction as it is
+has-write : (script : List ScriptItem) (item : ScriptItem) → IsTrafficItem item → item.txn.write ≡ true → (schedule_of script).writes item.txn.number ≡ write_share item → HasItem (schedule_of script) 4 item
 has-write script item known direction own = record {
-  parts = ap (λ b. ((if b then (plan_of script).writes else (plan_of script).reads) item.txn.number).parts) direction ∙ ap (λ (s : Share). s.parts) own;
+  parts = ap (λ b. ((if b then (schedule_of script).writes else (schedule_of script).reads) item.txn.number).parts) direction ∙ ap (λ (s : Share). s.parts) own;
   write_data = λ is. ap (λ (s : Share). s.write_data) own;
   lanes = λ is. absurd (true≢false (sym direction ∙ is));
   id_fits = known.id_fits;
 }
 
-has-read : (script : List ScriptItem) (item : ScriptItem) → IsTrafficItem item → item.txn.write ≡ false → (plan_of script).reads item.txn.number ≡ read_share item → HasItem (plan_of script) 4 item
+has-read : (script : List ScriptItem) (item : ScriptItem) → IsTrafficItem item → item.txn.write ≡ false → (schedule_of script).reads item.txn.number ≡ read_share item → HasItem (schedule_of script) 4 item
 has-read script item known direction own = record {
-  parts = ap (λ b. ((if b then (plan_of script).writes else (plan_of script).reads) item.txn.number).parts) direction ∙ ap (λ (s : Share). s.parts) own;
+  parts = ap (λ b. ((if b then (schedule_of script).writes else (schedule_of script).reads) item.txn.number).parts) direction ∙ ap (λ (s : Share). s.parts) own;
   write_data = λ is. absurd (true≢false (sym is ∙ direction));
   lanes = λ is.
       ap (λ (s : Share). s.lanes) own ∙ ap (map (span_of ram)) (part-beats item)
@@ -255,13 +255,13 @@ chain-own script item write own number same = elim (share-cases write script num
 
 chain-of :
     (script : List ScriptItem) → IsNumberedTraffic script → (item : ScriptItem) → Contains script item → (write : Bool) → item.txn.write ≡ write → (number : ℕ) →
-    SameChain (shares_of (plan_of script) write) number item.txn.number → IsItsOwn script write item.txn.request.id number
+    SameChain (shares_of (schedule_of script) write) number item.txn.number → IsItsOwn script write item.txn.request.id number
 chain-of script t item among true direction number same = chain-own script item true (share-own script t item among true direction) number same
 chain-of script t item among false direction number same = chain-own script item false (share-own script t item among false direction) number same
 
--- the plan is that of the script, for its manager
-pub plan-of-script : (script : List ScriptItem) → IsNumberedTraffic script → IsPlanOf (plan_of script) 4 script
-plan-of-script script t = record {
+-- the schedule is that of the script, for its manager
+pub schedule-of-script : (script : List ScriptItem) → IsNumberedTraffic script → IsScheduleOf (schedule_of script) 4 script
+schedule-of-script script t = record {
   numbered = t.numbered;
   items = λ k d within.
       let item = get_or script k d in
@@ -301,8 +301,8 @@ reads-suit script number = elim (share-cases false script number) [
 ]
 
 -- and for the memory
-pub plan-suits : (script : List ScriptItem) → IsNumberedTraffic script → Suits ram (plan_of script)
-plan-suits script t number =
+pub schedule-suits : (script : List ScriptItem) → IsNumberedTraffic script → Suits ram (schedule_of script)
+schedule-suits script t number =
     let writes = writes-suit script number in
     let reads = reads-suit script number in
     record { write_data = writes.write_data; responses = writes.responses; read_responses = reads.responses; lanes = reads.lanes }

@@ -1,34 +1,34 @@
 //! Which calls of an object in memory fail, and the counts of its calls and of its faults.
 
 ghost use Rattle.std.specs.Prelude.{◌≡◌, ◌≤◌};
-ghost use Rattle.axi_program.specs.Memory.{new_plan, is_due, after_call};
+ghost use Rattle.axi_program.specs.Memory.{new_call_faults, is_due, after_call};
 
 use std::marker::Model;
 
-/// The plan of an object's calls: which of them fail, by their numbers from 1.
+/// What fails of an object's calls: which of them fail, by their numbers from 1.
 ///
 /// A clause sees it as the numbers of the calls that are to fail, the calls that were made and those that failed.
 #[derive(Drop)]
-pub struct PlannedFaults {
+pub struct CallFaults {
     failing: Vec<u64>,
     calls: u64,
     faults: u64,
 }
 
-impl Model for PlannedFaults {
-    ghost use Rattle.axi_program.specs.Memory.{Plan};
+impl Model for CallFaults {
+    ghost use Rattle.axi_program.specs.Memory.{CallFaultsView};
 
-    ghost Value = { Plan };
+    ghost Value = { CallFaultsView };
 
     ghost view = { λ p. record { failing = p.failing.items; calls = p.calls; faults = p.faults } };
 }
 
-impl PlannedFaults {
-    /// A plan by which these calls fail, before the first call.
-    pub fn new(failing: Vec<u64>) -> PlannedFaults
-        ensures { result ≡ new_plan failing.items }
+impl CallFaults {
+    /// By which these calls fail, before the first call.
+    pub fn new(failing: Vec<u64>) -> CallFaults
+        ensures { result ≡ new_call_faults failing.items }
     {
-        PlannedFaults {
+        CallFaults {
             failing,
             calls: 0,
             faults: 0,

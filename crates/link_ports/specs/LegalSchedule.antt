@@ -16,7 +16,7 @@ pub record IsDataOf (bus : ℕ) (burst : Addr) (beats : List WBeat) : Type 0 whe
       IsTrue (strobes_within (lower_lane bus (beat_at burst n)) (upper_lane (size_of burst) bus (beat_at burst n)) (slice_index_or beats n past).strobe)
 
 -- each part of each transaction is a legal burst, and each part of a write has its data
-pub record IsLegalPlan (bus : ℕ) (plan : Schedule) : Type 0 where
-  pub writes : (t : ℕ) → All (λ part. IsLegal part bus) (plan.writes t).parts
-  pub reads : (t : ℕ) → All (λ part. IsLegal part bus) (plan.reads t).parts
-  pub write_data : (t : ℕ) → AllZip (IsDataOf bus) (plan.writes t).parts (plan.writes t).write_data
+pub record IsLegalSchedule (bus : ℕ) (schedule : Schedule) : Type 0 where
+  pub writes : (t : ℕ) → All (λ part. IsLegal part bus) (schedule.writes t).parts
+  pub reads : (t : ℕ) → All (λ part. IsLegal part bus) (schedule.reads t).parts
+  pub write_data : (t : ℕ) → AllZip (IsDataOf bus) (schedule.writes t).parts (schedule.writes t).write_data

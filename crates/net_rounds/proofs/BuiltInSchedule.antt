@@ -57,8 +57,8 @@ abbrev pub share_at : Bool → List ScriptItem → ℕ → Share
 share_at write [] number = no_share
 share_at write (item ∷ more) number = if beq item.txn.write write && item.txn.number == number then share_of write item else share_at write more number
 
-abbrev pub plan_of : List ScriptItem → Schedule
-plan_of script = record { id_width = 4; writes = share_at true script; reads = share_at false script }
+abbrev pub schedule_of : List ScriptItem → Schedule
+schedule_of script = record { id_width = 4; writes = share_at true script; reads = share_at false script }
 
 -- the run of a script, as a pair of nodes over one link
 module _ (script : List ScriptItem) where
@@ -94,8 +94,8 @@ module _ (script : List ScriptItem) where
   abbrev pub progress_at : ℕ → Progress
   progress_at n = record {
     issued = λ number. list_any (is_noted_issued number) (zip script (pair_at n).manager.state.answers);
-    written = λ number. length (of_key number_of_data number (lower_trail n).w) == length (beats_of_parts ((plan_of script).writes number).parts);
+    written = λ number. length (of_key number_of_data number (lower_trail n).w) == length (beats_of_parts ((schedule_of script).writes number).parts);
     filled = λ number.
-        filled_bytes (allowed_before ram ((plan_of script).reads number) (length (beats_of_parts ((plan_of script).reads number).parts)))
+        filled_bytes (allowed_before ram ((schedule_of script).reads number) (length (beats_of_parts ((schedule_of script).reads number).parts)))
         (map (λ (a : Access). a.byte.value) (accesses_of false number (accesses_at n)));
   }
