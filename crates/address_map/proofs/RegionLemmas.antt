@@ -6,7 +6,7 @@ use Rattle.std.proofs.Math.Seq.{drop-cons}
 use Rattle.std.proofs.lemmas.Bool.{and_from, and_parts, cases_lt, eqb-true, eqb-false, ltb-false, or_from, leb-true, le-leb, le-ltb, lt-ltb, ltb-true, not-false, or_parts}
 use Rattle.std.proofs.lemmas.List.Sums.{position_or_len_is}
 use Rattle.address_map.specs.Order.{follows}
-use Rattle.address_map.specs.Regions.{end_of, has_address, is_bad_region, port_at, region_at, share_address}
+use Rattle.address_map.specs.Regions.{end_of, has_address, is_bad_region, serving_port, region_at, share_address}
 use Rattle.address_map.specs.declared.region.Region.{Region}
 
 abbrev pub no_region : Region
@@ -45,7 +45,7 @@ no-place p xs none =
     sym (rw at (ap (λ b. cond b (Some (length xs)) None) (le-ltb (length xs) (length xs) (omega arith))))
 
 -- the port of an address, from a place on
-pub found_from : (xs : List Region) (i address : ℕ) → i < length xs → port_at (drop i xs) address ≡ cond (has_address (region_at xs i) address) (Some (region_at xs i).port) (port_at (drop (i + 1) xs) address)
+pub found_from : (xs : List Region) (i address : ℕ) → i < length xs → serving_port (drop i xs) address ≡ cond (has_address (region_at xs i) address) (Some (region_at xs i).port) (serving_port (drop (i + 1) xs) address)
 found_from xs i address within =
     rw (drop-cons xs i no_region within, add-one) (go (has_address (region_at xs i) address) (find (λ region. has_address region address) (drop (suc i) xs)))
   where

@@ -1,7 +1,7 @@
 -- What holds of regions and their addresses.
 use Rattle.std.specs.Prelude.{◌≡◌, ◌↔◌, ◌/◌, ◌≤◌, ℕ, List, Some, true, false, count_by, slice_get}
 use Rattle.std.specs.List.{list_any}
-use Rattle.address_map.specs.Regions.{has_address, has_overlap, is_bad_region, port_at, IsOverlap}
+use Rattle.address_map.specs.Regions.{has_address, has_overlap, is_bad_region, serving_port, IsOverlap}
 use Rattle.address_map.specs.declared.region.Region.{Region}
 
 -- no two regions share an address exactly where each address is in at most one of them
@@ -20,10 +20,10 @@ abbrev pub PortIsOfHolder : Type 0
 PortIsOfHolder =
     (regions : List Region) (number : ℕ) (region : Region) (address : ℕ) → has_overlap regions ≡ false →
     slice_get regions number ≡ Some region → has_address region address ≡ true →
-    port_at regions address ≡ Some region.port
+    serving_port regions address ≡ Some region.port
 
 -- all addresses of a page have one port, or none has one, where no region is bad
 abbrev pub PageHasOnePort : Type 0
 PageHasOnePort =
     (regions : List Region) (one other : ℕ) → list_any is_bad_region regions ≡ false → one / 4096 ≡ other / 4096 →
-    port_at regions one ≡ port_at regions other
+    serving_port regions one ≡ serving_port regions other

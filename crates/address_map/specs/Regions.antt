@@ -28,8 +28,8 @@ has_overlap [] = false
 has_overlap (region ∷ more) = list_any (share_address region) more || has_overlap more
 
 -- the port of the region that has the address
-abbrev pub port_at : List Region → ℕ → Option ℕ
-port_at regions address = option_map (λ (region : Region). region.port) (find (λ region. has_address region address) regions)
+abbrev pub serving_port : List Region → ℕ → Option ℕ
+serving_port regions address = option_map (λ (region : Region). region.port) (find (λ region. has_address region address) regions)
 
 -- the region of this number, counted from 0; past the end one that has no address
 abbrev pub region_at : List Region → ℕ → Region

@@ -3,7 +3,7 @@
 ghost use Rattle.std.specs.Prelude.{◌≡◌, ◌<◌, ◌^◌, List, false, length, position, IfNone, IfOk, IfErr, IsOk};
 ghost use Rattle.std.specs.List.{list_any};
 ghost use Rattle.address_map.specs.Maps.{IsFaultOf, IsMappable};
-ghost use Rattle.address_map.specs.Regions.{is_bad_region, port_at};
+ghost use Rattle.address_map.specs.Regions.{is_bad_region, serving_port};
 ghost use Rattle.address_map.specs.declared.region.Region.{Region};
 
 use crate::overlap::overlap;
@@ -64,7 +64,7 @@ impl AddressMap {
     /// The port of the region that has the address, or `None` where none has it.
     #[tactic(auto, using(crate::proofs::RegionLemmas::found_from))]
     pub fn find(&self, addr: u64) -> Option<u32>
-        ensures { result ≡ port_at self.now addr }
+        ensures { result ≡ serving_port self.now addr }
     {
         for region in &self.regions {
             if region.holds(addr) {
