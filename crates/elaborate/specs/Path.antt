@@ -3,8 +3,9 @@ use Rattle.std.specs.Prelude.{◌-◌, ℕ, zero, suc, List, [], ◌∷◌, Opti
 use Rattle.std.specs.Option.{option_and_then, option_map_or}
 use Rattle.address_map.specs.Regions.{serving_port}
 use Rattle.address_map.specs.declared.region.Region.{Region}
+use Rattle.node_graph.specs.Order.{place_in}
 use Rattle.topology.specs.Document.{DocumentNode, NamedRegion, named, node_at, targets_of}
-use Rattle.elaborate.specs.Plan.{PlanNode, first_part, place_in, plan_nodes}
+use Rattle.elaborate.specs.Plan.{PlanNode, first_part, plan_nodes}
 use Rattle.elaborate.specs.declared.part.Part.{Part}
 use Rattle.elaborate.specs.declared.part.Part.TheVariants as part
 

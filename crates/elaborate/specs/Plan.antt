@@ -1,7 +1,7 @@
 -- The plan of a document: the plan nodes that each of its nodes becomes, and the links between them.
-use Rattle.std.specs.Prelude.{◌==◌, ◌+◌, ◌*◌, ◌++◌, ℕ, suc, List, [], ◌∷◌, Bool, true, false, codes, decimal, flat_map, length, map, slice_index_or, sum, if◌then◌else◌}
-use Rattle.std.specs.List.{position_or_len}
+use Rattle.std.specs.Prelude.{◌+◌, ◌*◌, ◌++◌, ℕ, suc, List, [], ◌∷◌, Bool, true, false, codes, decimal, flat_map, length, map, slice_index_or, sum, if◌then◌else◌}
 use Rattle.node_graph.specs.Graph.{Graph, numbers}
+use Rattle.node_graph.specs.Order.{place_in}
 use Rattle.topology.specs.Document.{DocumentNode, LinkKind, first_link, inputs_of, link_of, no_link, node_at, plan_nodes_at, targets_of, uppers_of}
 use Rattle.topology.specs.declared.kind.Kind.{Kind}
 use Rattle.topology.specs.declared.kind.Kind.TheVariants as kind
@@ -16,10 +16,6 @@ pub record PlanNode : Type 0 where
   pub name : List ℕ
   pub lower : List ℕ
   pub link : LinkKind
-
--- the place of a number in a list; past its end where it isn't there
-abbrev pub place_in : List ℕ → ℕ → ℕ
-place_in list number = position_or_len (λ other. other == number) list
 
 abbrev pub is_crossbar : Kind → Bool
 is_crossbar kind.Crossbar = true
