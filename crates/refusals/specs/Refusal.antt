@@ -1,5 +1,5 @@
 -- A refusal: the code of its cause, and the place and the rule that it names.
-use Rattle.std.specs.Prelude.{◌≡◌, ℕ, Option, Some}
+use Rattle.std.specs.Prelude.{◌≡◌, ℕ, Some}
 use Rattle.refusals.specs.Cause.{cause_code, cause_of_code}
 use Rattle.refusals.specs.declared.cause.Cause.{Cause}
 use Rattle.refusals.specs.declared.cause.Cause.TheVariants.{IllegalBurst}

@@ -82,15 +82,17 @@ pub fn codes_tell_causes()
 mod tests {
     use super::Refusal;
     use crate::cause::Cause;
+    use std::test::Fail;
 
     #[test]
-    fn a_cycle_at_the_third_node() {
+    fn a_cycle_at_the_third_node(rt: HostRuntime) {
         let refusal = Refusal::at(Cause::Cycle, 3);
-        assert_eq!(refusal.code, 10);
-        assert_eq!(refusal.place, 3);
-        assert_eq!(refusal.rule, 0);
-        let cause = refusal.cause().unwrap();
-        assert_eq!(cause.name(), "Cycle");
-        assert!(cause.names_place());
+        assert_eq!(rt; refusal.code, 10);
+        assert_eq!(rt; refusal.place, 3);
+        assert_eq!(rt; refusal.rule, 0);
+        assert!(rt; refusal.cause() == Some(Cause::Cycle));
+        assert_eq!(rt; Cause::Cycle.name(), "Cycle");
+        assert!(rt; Cause::Cycle.names_place());
+        assert!(rt; !Cause::NoTrace.names_place());
     }
 }
