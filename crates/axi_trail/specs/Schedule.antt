@@ -4,7 +4,7 @@ use Rattle.axi_beats.specs.declared.beat.Addr.{Addr}
 use Rattle.axi_beats.specs.declared.beat.WBeat.{WBeat}
 use Rattle.axi_beats.specs.declared.beat.RBeat.{RBeat}
 use Rattle.axi_beats.specs.declared.response.Resp.{Resp}
-use Rattle.axi_trail.specs.Streams.{IsPrefix}
+use Rattle.plain_lists.specs.Prefixes.{IsPrefix}
 
 -- the data lanes of a beat from the lowest to the highest one, both included
 pub record Span : Type 0 where

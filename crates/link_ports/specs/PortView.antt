@@ -17,7 +17,7 @@ use Rattle.axi_link.specs.LinkView.{LinkView}
 use Rattle.axi_link.specs.Moves.{takes_from}
 use Rattle.axi_link.specs.Table.{link_of}
 use Rattle.axi_link.specs.declared.out.Out.{Out}
-use Rattle.axi_trail.specs.Streams.{over}
+use Rattle.plain_lists.specs.Rounds.{over}
 
 -- AxBURST of a burst
 abbrev pub burst_code : Burst → ℕ

@@ -1,9 +1,8 @@
 -- What the rows of the manager's table say where they move something.
-use Rattle.std.proofs.Common.{◌≡◌, ℕ, ◌<◌, ◌≤◌, ◌==◌, Bool, true, false, List, [], ◌∷◌, ◌++◌, Option, Some, None, length, refl, sym, subst}
-use Rattle.std.specs.Prelude.{All, find, nat_lt, slice_get}
+use Rattle.std.proofs.Common.{◌≡◌, ℕ, ◌<◌, ◌≤◌, ◌==◌, Bool, true, false, List, Option, Some, None, length, refl, sym, subst}
+use Rattle.std.specs.Prelude.{find, nat_lt, slice_get}
 use Rattle.std.specs.Option.{option_map}
 use Rattle.std.proofs.lemmas.Bool.{ltb-true, leb-true, and_parts}
-use Rattle.std.proofs.lemmas.List.Elements.{All-head, All-tail}
 use Rattle.axi_beats.specs.declared.beat.BBeat.{BBeat}
 use Rattle.axi_beats.specs.declared.beat.RBeat.{RBeat}
 use Rattle.axi_link.specs.LinkView.{LinkView}
@@ -46,11 +45,6 @@ ready-after answered (Some x) next is =
     let both = passing-some _ (Some x) next is
     in let same : x ≡ next = cc
     in subst (λ (p : ℕ × ScriptItem). p.1.txn.after ≤ answered) same (leb-true x.1.txn.after answered both.0)
-
--- what holds of all holds of one in the middle
-pub All-middle : (P : ℕ → Type 0) (xs ys : List ℕ) (y : ℕ) → All P (xs ++ y ∷ ys) → P y
-All-middle P [] ys y all = All-head P y ys all
-All-middle P (x ∷ xs) ys y all = All-middle P xs ys y (All-tail P x (xs ++ y ∷ ys) all)
 
 module _ (links : List LinkView) (s : ManagerState) where
   pub aw-next : (next : ℕ × ScriptItem) → manager_aw links s ≡ Some next → slice_get (writes_of s.script) s.issued_writes ≡ Some next

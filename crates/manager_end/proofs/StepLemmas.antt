@@ -17,7 +17,6 @@ use Rattle.axi_link.specs.Acted.{Acted}
 use Rattle.axi_link.specs.declared.out.Out.{Out}
 use Rattle.axi_link.specs.LinkView.{LinkView}
 use Rattle.axi_link.specs.Table.{has_room, passing}
-use Rattle.axi_trail.proofs.OrderFacts.{length-filter_le}
 use Rattle.burst_address.specs.Bytes.{beat_bytes, bytes_before}
 use Rattle.manager_end.specs.Answer.{AnswerView, is_last, unanswered}
 use Rattle.manager_end.specs.ManagerInside.{IsWithin, sent_after}
@@ -34,6 +33,7 @@ use Rattle.manager_end.proofs.PlaceLemmas.{direction-at}
 use Rattle.manager_end.proofs.RowLemmas.{w-next}
 use Rattle.manager_end.proofs.ScriptLemmas.{script-short}
 use Rattle.manager_end.proofs.WaitingLemmas.{All-entries}
+use Rattle.plain_lists.proofs.PrefixLemmas.{length-filter_le}
 
 module _ (write : Bool) (script : List ScriptItem) (places : List ℕ) (same : places ≡ map (λ (p : ℕ × ScriptItem). p.0) (of_direction write script)) where
   numbered : All (λ (p : ℕ × ScriptItem). (p.0 < length script) × ((d : ScriptItem) → get_or script p.0 d ≡ p.1)) (of_direction write script)

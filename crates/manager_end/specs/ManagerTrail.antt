@@ -12,12 +12,12 @@ use Rattle.axi_trail.specs.Waiting.{held, request_of}
 use Rattle.axi_trail.specs.Words.{InOrderOfId, number_of_address, number_of_response, number_of_read_data, reads_asked, read_replies, writes_asked, write_replies}
 use Rattle.burst_address.specs.Formulas.{beats_of}
 use Rattle.burst_address.specs.Legal.{IsLegal}
-use Rattle.flight.specs.Entries.{of_key}
 use Rattle.manager_end.specs.Beats.{data_beats, high_lane, low_lane, request_of as request_of_item}
 use Rattle.manager_end.specs.ManagerOrder.{AreInOrder, IsAt, note_at}
 use Rattle.manager_end.specs.ManagerState.{ManagerState, IsManager, entry_of, new_manager, writes_of, reads_of}
 use Rattle.manager_end.specs.ManagerTable.{manager_next, manager_out}
 use Rattle.manager_end.specs.Script.{ScriptItem, IsScript}
+use Rattle.plain_lists.specs.Keys.{of_key}
 
 -- the shares of a direction
 abbrev pub shares_of : Schedule → Bool → ℕ → Share

@@ -5,7 +5,6 @@ ghost use Rattle.std.specs.Prelude.{length, map, nat_lt, slice_get, vec_len, ifâ
 ghost use Rattle.std.specs.Prelude.{IfSome, IsSome, OnOk};
 ghost use Rattle.std.specs.Option.{option_map};
 ghost use Rattle.axi_link.specs.Table.{passing};
-ghost use Rattle.flight.specs.Entries.{without_oldest};
 ghost use Rattle.manager_end.specs.ManagerState.{is_directed, of_direction};
 ghost use Rattle.manager_end.specs.ManagerTable.{fits, ready, with_issued};
 ghost use Rattle.manager_end.specs.Placed.{placed};
@@ -15,6 +14,7 @@ use crate::script::{Script, Txn};
 use axi_beats::NoMemory;
 use flight::Flight;
 use std::alloc::Global;
+ghost use Rattle.plain_lists.specs.Keys.{without_oldest};
 
 /// The places of a direction's transactions in the script, how many of them are issued, and those
 /// that wait for their answers.

@@ -8,8 +8,7 @@ use Rattle.axi_beats.specs.declared.beat.WBeat.{WBeat}
 use Rattle.axi_link.specs.LinkView.{LinkView}
 use Rattle.axi_link.specs.Moves.{appended, takes_from}
 use Rattle.axi_link.specs.Table.{head_of, passing, put_of, take_of}
-use Rattle.axi_trail.specs.Streams.{beat_taken}
-use Rattle.axi_trail.specs.Trail.{Beats}
+use Rattle.axi_trail.specs.Trail.{Beats, beat_taken}
 use Rattle.memory_end.specs.MemoryState.{MemoryState}
 use Rattle.memory_end.specs.MemoryTable.{fits, memory_ar, memory_aw, memory_b, memory_link, memory_r, memory_w, oldest_lacking}
 use Rattle.memory_end.specs.MemoryTrail.{memory_trail}

@@ -1,7 +1,6 @@
 -- In every round of the built-in network both nodes may decide, and the link can make their moves.
-use Rattle.std.proofs.Common.{◌≡◌, ◌<◌, ◌+◌, ◌∷◌, [], ℕ, suc, List, length, take, drop, ◌++◌, Bool, true, false, refl, sym, ap, ap₂, ◌∙◌, subst, arith, lit<, lit≤, map, ◌^◌, ◌-◌}
+use Rattle.std.proofs.Common.{◌≡◌, ◌<◌, ◌+◌, ◌∷◌, [], ℕ, suc, List, length, Bool, true, false, refl, sym, ap, ap₂, ◌∙◌, subst, arith, lit<, lit≤, map, ◌^◌, ◌-◌}
 use Rattle.std.specs.Prelude.{All}
-use Rattle.std.proofs.lemmas.List.{take_at}
 use Rattle.std.proofs.lemmas.List.Elements.{All-from_recursion, All-nil}
 use Rattle.axi_beats.specs.declared.beat.WBeat.{WBeat}
 use Rattle.axi_link.proofs.MovesLemmas.{fitting_moves}
@@ -29,7 +28,7 @@ use Rattle.net_rounds.specs.NetView.{IsNet, NetView, standing}
 use Rattle.net_rounds.specs.Network.{CanLink, Network, after_commit, after_decide, after_rounds, link_moved}
 use Rattle.net_rounds.specs.declared.ends.Ends.{Ends}
 use Rattle.net_rounds.specs.Notes.{AreNotes}
-use Rattle.net_rounds.specs.Numbered.{AllNumbered, numbered}
+use Rattle.plain_lists.specs.Numbered.{AllNumbered, numbered}
 
 ram-config : IsMemoryConfig ram
 ram-config = record { bus = refl; base = refl; size = refl; end = lit≤ tt }
@@ -198,9 +197,6 @@ pub network-committed :
 unfolding after_commit
 network-committed net links moved = ap (λ (ls : List LinkView). record { nodes = net.nodes; links = ls; ends = net.ends }) moved
 
--- a list that was lent whole and is given back
-pub taken-back : {X : Type 0} (now before : List X) (count : ℕ) → length now ≡ count → take count (now ++ drop (length now) before) ≡ now
-taken-back now before count long = take_at now (drop (length now) before) count long
 
 -- what phase one leaves, in terms of what was lent to it
 pub decided-by :

@@ -9,8 +9,8 @@ use Rattle.axi_link.specs.Moves.{CanMove, link_after}
 use Rattle.axi_link.specs.declared.out.Out.{Out}
 use Rattle.net_nodes.specs.NodeTable.{node_done, node_out, node_table}
 use Rattle.net_nodes.specs.declared.node.Node.{Node}
-use Rattle.net_rounds.specs.Numbered.{numbered}
 use Rattle.net_rounds.specs.declared.ends.Ends.{Ends}
+use Rattle.plain_lists.specs.Numbered.{numbered}
 
 -- its nodes, its links, and the two nodes of each link
 pub record Network : Type 0 where

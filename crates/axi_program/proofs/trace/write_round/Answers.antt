@@ -1,7 +1,6 @@
 use Rattle.std.proofs.Common.{◌≡◌, ◌≤◌, ◌+◌, ◌++◌, ℕ, List, length, refl, sym, ap, subst, ◌∙◌, arith}
 use Rattle.std.specs.Io.KnownBytes.{Appends}
 use Rattle.std.proofs.KnownBytes.{Appends-trans}
-use Rattle.axi_trail.specs.Streams.{over}
 use Rattle.net_rounds.specs.Network.{Network}
 use Rattle.net_rounds.specs.Ports.{port_at}
 use Rattle.axi_program.proofs.RunLaws.{on-err, prefix-later}
@@ -9,6 +8,7 @@ use Rattle.axi_program.proofs.TraceLaws.{over-front, over-more}
 use Rattle.axi_program.specs.Trace.{port_line, round_lines}
 use Rattle.axi_program.specs.Transfers.{AppendsPrefix}
 use Rattle.axi_program.proofs.trace.write_round.Goals as goal
+use Rattle.plain_lists.specs.Rounds.{over}
 
 -- the line of each link of a round
 abbrev lines : ℕ → Network → ℕ → List ℕ

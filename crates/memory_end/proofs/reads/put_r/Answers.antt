@@ -6,8 +6,8 @@ use Rattle.axi_link.specs.Table.{has_room, head_of, passing, put_of}
 use Rattle.memory_end.specs.declared.entry.ReadEntry.{ReadEntry}
 use Rattle.memory_end.specs.MemoryState.{IsReadEntry}
 use Rattle.memory_end.specs.MemoryTable.{next_beat}
-use Rattle.memory_end.proofs.ListLemmas.{at-has}
 use Rattle.memory_end.proofs.reads.put_r.Goals as goal
+use Rattle.plain_lists.proofs.PlaceLemmas.{at-has}
 
 pub with_beat-requires : goal.with_beat-requires
 with_beat-requires c =

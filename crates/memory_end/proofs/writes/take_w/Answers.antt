@@ -10,8 +10,8 @@ use Rattle.memory_end.specs.declared.entry.WriteEntry.{WriteEntry}
 use Rattle.memory_end.specs.MemoryState.{IsWriteEntry}
 use Rattle.memory_end.specs.MemoryTable.{after_w, store_after, store_with}
 use Rattle.memory_end.proofs.EntryLemmas.{IsOldestLacking, oldest_lacking-at, taken_data-none, taken_data-some}
-use Rattle.memory_end.proofs.ListLemmas.{at-has}
 use Rattle.memory_end.proofs.writes.take_w.Goals as goal
+use Rattle.plain_lists.proofs.PlaceLemmas.{at-has}
 
 pub returns-in_default-clause-take : goal.returns-in_default-clause-take
 returns-in_default-clause-take c =

@@ -10,7 +10,6 @@ use Rattle.link_ports.specs.PortView.{port_of}
 use Rattle.net_nodes.specs.NodeTable.{node_out}
 use Rattle.net_nodes.specs.declared.node.Node.{Node}
 use Rattle.net_rounds.proofs.NetLemmas.{net-can-commit}
-use Rattle.net_rounds.proofs.Numbers.{all_numbered-at}
 use Rattle.net_rounds.specs.NetInside.{net_view}
 use Rattle.net_rounds.specs.NetView.{IsNet, NetView}
 use Rattle.net_rounds.specs.Network.{CanLink, ends_of, out_of}
@@ -18,6 +17,7 @@ use Rattle.net_rounds.specs.Ports.{link_kind, port_at}
 use Rattle.net_rounds.specs.declared.ends.Ends.{Ends}
 use Rattle.net_rounds.specs.declared.net.Net.TheInside.{Inside}
 use Rattle.net_rounds.proofs.net.Net.port.Goals as goal
+use Rattle.plain_lists.proofs.NumberedLemmas.{all_numbered-at}
 
 -- a link of a network whose nodes have decided has its two nodes
 record Ask (inside : Inside) (seen : NetView) (number : ℕ) : Type 0 where
