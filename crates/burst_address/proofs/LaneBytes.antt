@@ -1,6 +1,5 @@
 -- The lanes of a beat, and the bytes on them.
-use Rattle.std.proofs.Common.{◌≡◌, ◌≤◌, ℕ, ◌+◌, ◌-◌, ◌*◌, ◌/◌, ◌%◌, ◌^◌, ◌<◌, suc, zero, List, ◌∷◌, length, map, refl, sym, ◌∙◌, ap, subst, arith}
-use Rattle.std.specs.Prelude.{All}
+use Rattle.std.proofs.Common.{◌≡◌, ◌≤◌, ℕ, ◌+◌, ◌-◌, ◌*◌, ◌/◌, ◌%◌, ◌^◌, ◌<◌, suc, zero, ◌∷◌, length, map, refl, sym, ◌∙◌, ap, arith}
 use Rattle.std.specs.List.{range_with_len}
 use Rattle.std.proofs.Math.Nat.{mod-mod_of_dvd, mul-mod_right}
 use Rattle.std.proofs.lemmas.List.FromFn.{length-range_with_len}
@@ -11,9 +10,9 @@ use Rattle.axi_beats.specs.declared.beat.Addr.{Addr}
 use Rattle.burst_address.specs.Bytes.{beat_bytes}
 use Rattle.burst_address.specs.Formulas.{aligned, beat_at, lower_lane, size_of, upper_lane}
 use Rattle.burst_address.specs.LaneLaws.{AddressesOnWider, BeatsAreInLines, LanesAreBytes, LanesAreOnBus, LanesOnWider, WordsAreInLines}
-use Rattle.burst_address.specs.Lanes.{first_lane, lane_address, lane_count, lane_shift, last_lane, valid_lanes, word_address}
+use Rattle.burst_address.specs.Lanes.{first_lane, lane_count, lane_shift, last_lane, word_address}
 use Rattle.burst_address.specs.Legal.{IsLegal}
-use Rattle.burst_address.proofs.Beats.{beat-count, beat-line, bus-most, upper-below}
+use Rattle.burst_address.proofs.Beats.{beat-count, beat-line, upper-below}
 use Rattle.burst_address.proofs.Legality.{legal-wider}
 use Rattle.burst_address.proofs.Numbers.{bus_power, exponents}
 use Rattle.burst_address.proofs.Widths.{width-bounds, word-in_line}

@@ -1,6 +1,6 @@
 -- The worst status over lanes, bytes and beats.
-use Rattle.std.proofs.Common.{◌≡◌, ◌≤◌, ℕ, ◌+◌, suc, zero, List, [], ◌∷◌, ◌++◌, Some, length, map, refl, sym, ◌∙◌, ap, subst, arith, append-nil, append_assoc, length-append}
-use Rattle.std.specs.Prelude.{slice_get, slice_index}
+use Rattle.std.proofs.Common.{◌≡◌, ◌≤◌, ℕ, ◌+◌, suc, List, [], ◌∷◌, ◌++◌, length, map, refl, sym, ◌∙◌, ap, subst, arith, append-nil, append_assoc, length-append}
+use Rattle.std.specs.Prelude.{slice_index}
 use Rattle.std.proofs.lemmas.List.{map-append}
 use Rattle.std.proofs.lemmas.Simd.{map-map}
 use Rattle.axi_beats.specs.Bus.{IsBusWidth}
@@ -9,7 +9,7 @@ use Rattle.axi_beats.specs.declared.beat.Addr.{Addr}
 use Rattle.axi_beats.specs.declared.beat.WBeat.{WBeat}
 use Rattle.axi_beats.specs.declared.response.Resp.{Resp}
 use Rattle.axi_beats.specs.declared.response.Resp.TheVariants.{Okay, SlvErr, DecErr}
-use Rattle.burst_address.specs.Bytes.{beat_bytes, beat_written, burst_bytes, written_bytes}
+use Rattle.burst_address.specs.Bytes.{Byte, beat_written, burst_bytes, written_bytes}
 use Rattle.burst_address.specs.Formulas.{beats_of}
 use Rattle.burst_address.specs.LaneLaws.{AllStrobeValidLanes, DataStatus, StrobedStatus, StrobesValidLanes, ValidStatus}
 use Rattle.burst_address.specs.Lanes.{lane_address, strobed_lanes, valid_lanes}
@@ -48,21 +48,21 @@ valid-status status_at a n bus is legal =
 
 pub strobed-status : StrobedStatus
 strobed-status status_at bus a n w is legal valid =
-    let status : ℕ × ℕ → Resp = λ (byte : ℕ × ℕ). status_at byte.0 in
-    let pair : ℕ → ℕ × ℕ = λ lane. (lane_address a n bus lane, slice_index w.lanes lane) in
-    ap worst_among (sym (map-map status pair (strobed_lanes bus w)))
+    let status : Byte → Resp = λ (byte : Byte). status_at byte.address in
+    let byte_on : ℕ → Byte = λ lane. record { address = lane_address a n bus lane; value = slice_index w.lanes lane } in
+    ap worst_among (sym (map-map status byte_on (strobed_lanes bus w)))
     ∙ ap (λ bytes. worst_among (map status bytes)) (strobed-are_written bus a n w is legal valid)
 
 -- ---- the beats of a burst
 
 module _ (status_at : ℕ → Resp) (bus : ℕ) (a : Addr) (is : IsBusWidth bus) (legal : IsLegal a bus) where
   -- the worst status of bytes that are written
-  abbrev status_of : List (ℕ × ℕ) → Resp
-  status_of bytes = worst_among (map (λ (byte : ℕ × ℕ). status_at byte.0) bytes)
+  abbrev status_of : List Byte → Resp
+  status_of bytes = worst_among (map (λ (byte : Byte). status_at byte.address) bytes)
 
-  status-append : (bytes more : List (ℕ × ℕ)) → worst_of (status_of bytes) (status_of more) ≡ status_of (bytes ++ more)
+  status-append : (bytes more : List Byte) → worst_of (status_of bytes) (status_of more) ≡ status_of (bytes ++ more)
   status-append bytes more =
-      let one : ℕ × ℕ → Resp = λ (byte : ℕ × ℕ). status_at byte.0 in
+      let one : Byte → Resp = λ (byte : Byte). status_at byte.address in
       worst-append (map one bytes) (map one more) ∙ ap worst_among (sym (map-append one bytes more))
 
   valid-rest : (n : ℕ) (w : WBeat) (ws : List WBeat) → AllStrobeValidLanes bus a n (w ∷ ws) → AllStrobeValidLanes bus a (suc n) ws
@@ -93,5 +93,5 @@ module _ (status_at : ℕ → Resp) (bus : ℕ) (a : Addr) (is : IsBusWidth bus)
 
 pub data-status : DataStatus
 data-status status_at bus a ws is legal few valid =
-    ap (λ bytes. worst_of (worst_among (map (λ (byte : ℕ × ℕ). status_at byte.0) bytes)) (worst_of_data status_at a 0 bus ws)) (sym (written-past (burst_bytes a)))
+    ap (λ bytes. worst_of (worst_among (map (λ (byte : Byte). status_at byte.address) bytes)) (worst_of_data status_at a 0 bus ws)) (sym (written-past (burst_bytes a)))
     ∙ status-rest status_at bus a is legal [] ws (omega (arith, few)) valid

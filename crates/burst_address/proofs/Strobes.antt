@@ -1,5 +1,5 @@
 -- The lanes that a W beat strobes, and the bytes that it writes.
-use Rattle.std.proofs.Common.{◌≡◌, ℕ, ◌+◌, ◌-◌, ◌*◌, ◌/◌, ◌%◌, ◌==◌, ◌&&◌, ◌<◌, ◌≤◌, suc, zero, Bool, true, false, cond, List, [], ◌∷◌, ◌++◌, Option, Some, None, map, refl, sym, ◌∙◌, ap, arith, leb, ltb, true≢false, append-nil}
+use Rattle.std.proofs.Common.{◌≡◌, ℕ, ◌+◌, ◌-◌, ◌/◌, ◌==◌, ◌&&◌, ◌<◌, ◌≤◌, suc, zero, Bool, true, false, cond, List, [], ◌∷◌, ◌++◌, Option, Some, None, map, refl, sym, ◌∙◌, ap, arith, leb, ltb, true≢false, append-nil}
 use Rattle.std.specs.Prelude.{filter, slice_index}
 use Rattle.std.specs.Int.{bit_at}
 use Rattle.std.specs.List.{AllByRecursion, range_with_len}
@@ -9,10 +9,10 @@ use Rattle.std.proofs.lemmas.Nat.{mod-mul-add}
 use Rattle.axi_beats.specs.Bus.{IsBusWidth}
 use Rattle.axi_beats.specs.declared.beat.Addr.{Addr}
 use Rattle.axi_beats.specs.declared.beat.WBeat.{WBeat}
-use Rattle.burst_address.specs.Bytes.{beat_bytes, beat_written, strobed_byte, written}
+use Rattle.burst_address.specs.Bytes.{Byte, beat_bytes, beat_written, bytes_with, strobed_byte}
 use Rattle.burst_address.specs.Formulas.{beat_at}
 use Rattle.burst_address.specs.LaneLaws.{StrobedAreWritten, StrobesValidLanes}
-use Rattle.burst_address.specs.Lanes.{first_lane, is_strobed, is_valid, lane_count, strobed_lanes, valid_lanes, word_address}
+use Rattle.burst_address.specs.Lanes.{first_lane, is_strobed, is_valid, lane_bytes, lane_count, strobed_lanes, valid_lanes, word_address}
 use Rattle.burst_address.specs.Legal.{IsLegal}
 use Rattle.burst_address.proofs.LaneBytes.{lanes-are_bytes, lanes-on_bus}
 use Rattle.burst_address.proofs.Runs.{run-append}
@@ -55,22 +55,22 @@ module _ (bus : ℕ) (a : Addr) (n : ℕ) (w : WBeat) (is : IsBusWidth bus) (leg
   abbrev word : ℕ
   word = word_address a n bus
 
-  abbrev pair : ℕ → ℕ × ℕ
-  pair k = (word_address a n bus + k, slice_index w.lanes k)
+  abbrev byte : ℕ → Byte
+  byte k = record { address = word_address a n bus + k; value = slice_index w.lanes k }
 
   -- what the beat says of the byte on a lane
   strobed-lane : (k : ℕ) → k < bus → strobed_byte bus w (word + k) ≡ cond (is_strobed w k) (Some (slice_index w.lanes k)) None
   strobed-lane k lt = ap (λ lane. cond (bit_at w.strobe lane == 1) (Some (slice_index w.lanes lane)) None) (mod-mul-add (beat_at a n / bus) bus k lt)
 
   written-lanes : (lanes : List ℕ) → AllByRecursion (λ k. k < bus) lanes →
-      written (map (λ k. word + k) lanes) (map (strobed_byte bus w) (map (λ k. word + k) lanes)) ≡ map pair (filter (is_strobed w) lanes)
+      bytes_with (map (λ k. word + k) lanes) (map (strobed_byte bus w) (map (λ k. word + k) lanes)) ≡ map byte (filter (is_strobed w) lanes)
   written-lanes [] below = refl
   written-lanes (k ∷ lanes) below =
       let bytes : List ℕ = map (λ k. word + k) lanes in
       let some : List ℕ = filter (is_strobed w) lanes in
-      let go : (b : Bool) → written ((word + k) ∷ bytes) (cond b (Some (slice_index w.lanes k)) None ∷ map (strobed_byte bus w) bytes) ≡ map pair (cond b (k ∷ some) some) =
-      elim [ true ↦ ap (λ t. pair k ∷ t) (written-lanes lanes below.1) | false ↦ written-lanes lanes below.1 ]
-      in ap (λ (o : Option ℕ). written ((word + k) ∷ bytes) (o ∷ map (strobed_byte bus w) bytes)) (strobed-lane k below.0) ∙ go (is_strobed w k)
+      let go : (b : Bool) → bytes_with ((word + k) ∷ bytes) (cond b (Some (slice_index w.lanes k)) None ∷ map (strobed_byte bus w) bytes) ≡ map byte (cond b (k ∷ some) some) =
+      elim [ true ↦ ap (λ t. byte k ∷ t) (written-lanes lanes below.1) | false ↦ written-lanes lanes below.1 ]
+      in ap (λ (o : Option ℕ). bytes_with ((word + k) ∷ bytes) (o ∷ map (strobed_byte bus w) bytes)) (strobed-lane k below.0) ∙ go (is_strobed w k)
 
   abbrev low : ℕ
   low = first_lane a n bus
@@ -100,13 +100,13 @@ module _ (bus : ℕ) (a : Addr) (n : ℕ) (w : WBeat) (is : IsBusWidth bus) (leg
       (λ k from below. not-strobed k below (out-after k from))
 
   -- and what is on them is what is written
-  pub strobed-written : map pair (strobed_lanes bus w) ≡ beat_written bus a n w
+  pub strobed-written : lane_bytes (word_address a n bus) w (strobed_lanes bus w) ≡ beat_written bus a n w
   strobed-written =
       let bounds = lanes-on_bus a n bus is in
       let bytes : map (λ k. word + k) (valid_lanes a n bus) ≡ beat_bytes a n = lanes-are_bytes a n bus is legal in
-      ap (map pair) strobed-valid
+      ap (map byte) strobed-valid
       ∙ sym (written-lanes (valid_lanes a n bus) (range-below low count bus bounds.1))
-      ∙ ap (λ bs. written bs (map (strobed_byte bus w) bs)) bytes
+      ∙ ap (λ bs. bytes_with bs (map (strobed_byte bus w) bs)) bytes
 
 pub strobed-are_written : StrobedAreWritten
 strobed-are_written bus a n w is legal valid = strobed-written bus a n w is legal valid

@@ -1,13 +1,13 @@
 -- What holds of the lanes of a beat and of the bytes on them (Arm IHI 0022, data read and write structure, write strobes,
 -- read and write response structure).
-use Rattle.std.specs.Prelude.{◌≡◌, ◌<◌, ◌≤◌, ◌+◌, ◌/◌, ◌%◌, ℕ, List, Some, All, IsTrue, length, map, slice_get, slice_index}
+use Rattle.std.specs.Prelude.{◌≡◌, ◌<◌, ◌≤◌, ◌+◌, ◌/◌, ℕ, List, Some, All, IsTrue, length, map, slice_get}
 use Rattle.axi_beats.specs.Bus.{IsBusWidth}
 use Rattle.axi_beats.specs.declared.beat.Addr.{Addr}
 use Rattle.axi_beats.specs.declared.beat.WBeat.{WBeat}
 use Rattle.axi_beats.specs.declared.response.Resp.{Resp}
-use Rattle.burst_address.specs.Bytes.{beat_bytes, beat_written, burst_bytes, written_bytes}
+use Rattle.burst_address.specs.Bytes.{Byte, beat_bytes, beat_written, written_bytes}
 use Rattle.burst_address.specs.Formulas.{beat_at, beats_of}
-use Rattle.burst_address.specs.Lanes.{first_lane, is_strobed, is_valid, lane_address, lane_shift, last_lane, strobed_lanes, valid_lanes, word_address}
+use Rattle.burst_address.specs.Lanes.{first_lane, is_strobed, is_valid, lane_address, lane_bytes, lane_shift, last_lane, strobed_lanes, valid_lanes, word_address}
 use Rattle.burst_address.specs.Legal.{IsLegal}
 use Rattle.burst_address.specs.Status.{worst_among, worst_of_data, worst_of_strobed, worst_of_valid}
 
@@ -60,7 +60,7 @@ AllStrobeValidLanes bus a n ws = (k : ℕ) (w : WBeat) → slice_get ws k ≡ So
 abbrev pub StrobedAreWritten : Type 0
 StrobedAreWritten =
     (bus : ℕ) (a : Addr) (n : ℕ) (w : WBeat) → IsBusWidth bus → IsLegal a bus → StrobesValidLanes bus a n w →
-    map (λ lane. (lane_address a n bus lane, slice_index w.lanes lane)) (strobed_lanes bus w) ≡ beat_written bus a n w
+    lane_bytes (word_address a n bus) w (strobed_lanes bus w) ≡ beat_written bus a n w
 
 -- the worst status over the valid lanes of a beat is the worst one over its bytes
 abbrev pub ValidStatus : Type 0
@@ -73,11 +73,11 @@ abbrev pub StrobedStatus : Type 0
 StrobedStatus =
     (status_at : ℕ → Resp) (bus : ℕ) (a : Addr) (n : ℕ) (w : WBeat) → IsBusWidth bus → IsLegal a bus →
     StrobesValidLanes bus a n w →
-    worst_of_strobed status_at a n bus w ≡ worst_among (map (λ (byte : ℕ × ℕ). status_at byte.0) (beat_written bus a n w))
+    worst_of_strobed status_at a n bus w ≡ worst_among (map (λ (byte : Byte). status_at byte.address) (beat_written bus a n w))
 
 -- and that over the W beats of a burst is the worst one over all bytes that they write
 abbrev pub DataStatus : Type 0
 DataStatus =
     (status_at : ℕ → Resp) (bus : ℕ) (a : Addr) (ws : List WBeat) → IsBusWidth bus → IsLegal a bus →
     length ws ≤ beats_of a → AllStrobeValidLanes bus a 0 ws →
-    worst_of_data status_at a 0 bus ws ≡ worst_among (map (λ (byte : ℕ × ℕ). status_at byte.0) (written_bytes bus a ws))
+    worst_of_data status_at a 0 bus ws ≡ worst_among (map (λ (byte : Byte). status_at byte.address) (written_bytes bus a ws))

@@ -1,11 +1,12 @@
 -- The lanes of a beat on a bus, and the bytes on them (Arm IHI 0022, data read and write structure, write strobes). A beat
 -- is told by its request and its number from 0, and the width of the bus in bytes comes last.
-use Rattle.std.specs.Prelude.{ℕ, ◌+◌, ◌-◌, ◌*◌, ◌/◌, ◌%◌, ◌==◌, ◌&&◌, Bool, List, filter, nat_le, nat_lt}
+use Rattle.std.specs.Prelude.{ℕ, ◌+◌, ◌-◌, ◌%◌, ◌==◌, ◌&&◌, Bool, List, filter, map, nat_le, nat_lt, slice_index}
 use Rattle.std.specs.List.{range_with_len}
 use Rattle.std.specs.Int.{bit_at}
 use Rattle.axi_beats.specs.Lanes.{Span}
 use Rattle.axi_beats.specs.declared.beat.Addr.{Addr}
 use Rattle.axi_beats.specs.declared.beat.WBeat.{WBeat}
+use Rattle.burst_address.specs.Bytes.{Byte}
 use Rattle.burst_address.specs.Formulas.{aligned, beat_at, lower_lane, size_of, upper_lane}
 
 -- the first and the last valid lane of a beat
@@ -51,3 +52,7 @@ is_strobed w lane = bit_at w.strobe lane == 1
 -- the lanes of the bus that a W beat strobes, upwards
 abbrev pub strobed_lanes : ℕ → WBeat → List ℕ
 strobed_lanes bus w = filter (is_strobed w) (range_with_len 0 bus)
+
+-- the bytes of a W beat on these lanes, where the byte on lane 0 has this address
+abbrev pub lane_bytes : ℕ → WBeat → List ℕ → List Byte
+lane_bytes word w lanes = map (λ lane. record { address = word + lane; value = slice_index w.lanes lane }) lanes

@@ -5,3 +5,4 @@ pub mod Laws
 pub mod Lanes
 pub mod Status
 pub mod LaneLaws
+pub mod Accesses
