@@ -7,3 +7,4 @@ pub mod Written
 pub mod LaneBytes
 pub mod Strobes
 pub mod Statuses
+pub mod OneStatus

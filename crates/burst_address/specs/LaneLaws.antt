@@ -1,10 +1,11 @@
 -- What holds of the lanes of a beat and of the bytes on them (Arm IHI 0022, data read and write structure, write strobes,
 -- read and write response structure).
-use Rattle.std.specs.Prelude.{◌≡◌, ◌<◌, ◌≤◌, ◌+◌, ◌/◌, ℕ, List, Some, All, IsTrue, length, map, slice_get}
+use Rattle.std.specs.Prelude.{◌≡◌, ◌≢◌, ◌<◌, ◌≤◌, ◌+◌, ◌/◌, ◌^◌, ℕ, List, Some, All, IsTrue, length, map, slice_get}
 use Rattle.axi_beats.specs.Bus.{IsBusWidth}
 use Rattle.axi_beats.specs.declared.beat.Addr.{Addr}
 use Rattle.axi_beats.specs.declared.beat.WBeat.{WBeat}
 use Rattle.axi_beats.specs.declared.response.Resp.{Resp}
+use Rattle.axi_beats.specs.declared.response.Resp.TheVariants.{Okay}
 use Rattle.burst_address.specs.Bytes.{Byte, beat_bytes, beat_written, written_bytes}
 use Rattle.burst_address.specs.Formulas.{beat_at, beats_of}
 use Rattle.burst_address.specs.Lanes.{first_lane, is_strobed, is_valid, lane_address, lane_bytes, lane_shift, last_lane, strobed_lanes, valid_lanes, word_address}
@@ -81,3 +82,24 @@ DataStatus =
     (status_at : ℕ → Resp) (bus : ℕ) (a : Addr) (ws : List WBeat) → IsBusWidth bus → IsLegal a bus →
     length ws ≤ beats_of a → AllStrobeValidLanes bus a 0 ws →
     worst_of_data status_at a 0 bus ws ≡ worst_among (map (λ (byte : Byte). status_at byte.address) (written_bytes bus a ws))
+
+-- where all bytes of a beat's word have one status, it is the worst one of the valid lanes
+abbrev pub OneStatusOfValid : Type 0
+OneStatusOfValid =
+    (status_at : ℕ → Resp) (one : Resp) (a : Addr) (n bus : ℕ) → IsBusWidth bus →
+    ((lane : ℕ) → lane < bus → status_at (lane_address a n bus lane) ≡ one) →
+    worst_of_valid status_at a n bus ≡ one
+
+-- and of the strobed lanes, if there is one
+abbrev pub OneStatusOfStrobed : Type 0
+OneStatusOfStrobed =
+    (status_at : ℕ → Resp) (one : Resp) (a : Addr) (n bus : ℕ) (w : WBeat) →
+    ((lane : ℕ) → lane < bus → status_at (lane_address a n bus lane) ≡ one) →
+    w.strobe ≢ 0 → w.strobe < 2 ^ bus →
+    worst_of_strobed status_at a n bus w ≡ one
+
+-- where none is strobed, the worst status is OKAY
+abbrev pub NoneStrobed : Type 0
+NoneStrobed =
+    (status_at : ℕ → Resp) (a : Addr) (n bus : ℕ) (w : WBeat) → w.strobe ≡ 0 →
+    worst_of_strobed status_at a n bus w ≡ Okay

@@ -1,5 +1,6 @@
 //! What holds of the lanes of a beat, and of the bytes on them.
-ghost use Rattle.burst_address.specs.LaneLaws.{LanesAreOnBus, LanesAreBytes, BeatsAreInLines, WordsAreInLines, LanesOnWider, AddressesOnWider, StrobedAreWritten, ValidStatus, StrobedStatus, DataStatus};
+ghost use Rattle.burst_address.specs.LaneLaws.{LanesAreOnBus, LanesAreBytes, BeatsAreInLines, WordsAreInLines, LanesOnWider, AddressesOnWider};
+ghost use Rattle.burst_address.specs.LaneLaws.{StrobedAreWritten, ValidStatus, StrobedStatus, DataStatus, OneStatusOfValid, OneStatusOfStrobed, NoneStrobed};
 
 /// The laws of lanes. Each is told in plain words in `specs/LaneLaws.antt`.
 pub fn laws_of_lanes()
@@ -20,4 +21,7 @@ pub fn laws_of_lanes()
     ensures valid_status { ValidStatus }
     ensures strobed_status { StrobedStatus }
     ensures data_status { DataStatus }
+    ensures one_valid { OneStatusOfValid }
+    ensures one_strobed { OneStatusOfStrobed }
+    ensures none_strobed { NoneStrobed }
 {}

@@ -6,8 +6,8 @@ use Rattle.std.proofs.lemmas.Bool.{cases_eq, ne_eqb}
 use Rattle.std.proofs.lemmas.List.Elements.{filter-append}
 use Rattle.axi_trail.specs.Schedule.{Share, ComesBefore}
 use Rattle.axi_trail.proofs.FilterFacts.{filter_cons, filter_skip}
+use Rattle.burst_address.specs.Bytes.{Byte}
 use Rattle.memory_end.specs.Accesses.{accesses_of, left_at}
-use Rattle.memory_end.specs.Beats.{Byte}
 use Rattle.memory_end.specs.Events.{Access, accesses}
 use Rattle.memory_end.specs.MemoryTrail.{AccessesInOrder}
 use Rattle.memory_end.proofs.TrailLists.{split_append}

@@ -14,8 +14,11 @@ use Rattle.axi_trail.specs.Schedule.{ComesBefore, Schedule, Share, bytes_on}
 use Rattle.axi_trail.specs.Words.{number_of_read_data}
 use Rattle.axi_trail.proofs.FilterFacts.{of_key-push, of_key-push_other}
 use Rattle.flight.specs.Entries.{of_key}
-use Rattle.memory_end.specs.Accesses.{BeatOf, accesses_of, allowed_before, allowed_bytes, beats_of_parts, due_reads, filled_bytes, left_at, read_addresses, span_of}
-use Rattle.memory_end.specs.Beats.{Byte, lane_address, read_bytes, valid_lanes}
+use Rattle.burst_address.specs.Accesses.{answered_bytes}
+use Rattle.burst_address.specs.Bytes.{Byte}
+use Rattle.burst_address.specs.Lanes.{lane_address, valid_lanes}
+use Rattle.memory_end.specs.Accesses.{BeatOf, accesses_of, allowed_before, allowed_bytes, beats_of_parts, due_reads, left_at, read_addresses, span_of}
+use Rattle.memory_end.specs.Beats.{read_bytes}
 use Rattle.memory_end.specs.Events.{Access, accesses}
 use Rattle.memory_end.specs.MemoryState.{IsMemoryConfig}
 use Rattle.memory_end.specs.MemoryTable.{next_beat}
@@ -136,7 +139,7 @@ module _ (schedule : Schedule) (config : MemoryConfig) (store : Store) (e : Read
         ∙ ap length (is.read t)
         ∙ sym (count-reads config (take so_far (beats_of_parts share.parts)))
 
-    wanted : bytes_on (of_key number_of_read_data t (r ++ beat ∷ [])) share.lanes ≡ bytes_on (of_key number_of_read_data t r) share.lanes ++ filled_bytes (allowed_bytes config now) (map (λ (b : Byte). b.value) bytes_read)
+    wanted : bytes_on (of_key number_of_read_data t (r ++ beat ∷ [])) share.lanes ≡ bytes_on (of_key number_of_read_data t r) share.lanes ++ answered_bytes (allowed_bytes config now) (map (λ (b : Byte). b.value) bytes_read)
     wanted =
         let spans : drop so_far share.lanes ≡ span_of config now ∷ map (span_of config) next.rest =
         ap (drop so_far) next.lanes
@@ -148,27 +151,27 @@ module _ (schedule : Schedule) (config : MemoryConfig) (store : Store) (e : Read
         ∙ ap (λ xs. bytes_on (of_key number_of_read_data t r) share.lanes ++ xs) (filled-beat config store now next.is_config)
 
     answered-own : bytes_on (of_key number_of_read_data t (r ++ beat ∷ [])) share.lanes
-        ≡ filled_bytes (allowed_before config share (length (of_key number_of_read_data t (r ++ beat ∷ [])))) (map (λ (a : Access). a.byte.value) (accesses_of false t (all ++ new)))
+        ≡ answered_bytes (allowed_before config share (length (of_key number_of_read_data t (r ++ beat ∷ [])))) (map (λ (a : Access). a.byte.value) (accesses_of false t (all ++ new)))
     answered-own =
         wanted
-        ∙ ap (λ xs. xs ++ filled_bytes (allowed_bytes config now) (map (λ (b : Byte). b.value) bytes_read)) (is.answered t)
+        ∙ ap (λ xs. xs ++ answered_bytes (allowed_bytes config now) (map (λ (b : Byte). b.value) bytes_read)) (is.answered t)
         ∙ sym (filled-append (allowed_before config share so_far) (allowed_bytes config now) (map (λ (a : Access). a.byte.value) (accesses_of false t all)) (map (λ (b : Byte). b.value) bytes_read) values-counted)
-        ∙ ap (λ xs. filled_bytes xs (map (λ (a : Access). a.byte.value) (accesses_of false t all) ++ map (λ (b : Byte). b.value) bytes_read)) (sym allowed-more ∙ ap (allowed_before config share) (sym own-count))
-        ∙ ap (filled_bytes (allowed_before config share (length (of_key number_of_read_data t (r ++ beat ∷ [])))))
+        ∙ ap (λ xs. answered_bytes xs (map (λ (a : Access). a.byte.value) (accesses_of false t all) ++ map (λ (b : Byte). b.value) bytes_read)) (sym allowed-more ∙ ap (allowed_before config share) (sym own-count))
+        ∙ ap (answered_bytes (allowed_before config share (length (of_key number_of_read_data t (r ++ beat ∷ [])))))
         (sym (ap (map (λ (a : Access). a.byte.value)) own-accesses
         ∙ map-append (λ (a : Access). a.byte.value) (accesses_of false t all) new
         ∙ ap (λ xs. map (λ (a : Access). a.byte.value) (accesses_of false t all) ++ xs) (values-of_accesses t false bytes_read)))
 
     answered-more : (number : ℕ) → bytes_on (of_key number_of_read_data number (r ++ beat ∷ [])) (schedule.reads number).lanes
-        ≡ filled_bytes (allowed_before config (schedule.reads number) (length (of_key number_of_read_data number (r ++ beat ∷ [])))) (map (λ (a : Access). a.byte.value) (accesses_of false number (all ++ new)))
+        ≡ answered_bytes (allowed_before config (schedule.reads number) (length (of_key number_of_read_data number (r ++ beat ∷ [])))) (map (λ (a : Access). a.byte.value) (accesses_of false number (all ++ new)))
     answered-more number = elim (cases_eq t number) [
       | inl own ↦ subst (λ (n : ℕ). bytes_on (of_key number_of_read_data n (r ++ beat ∷ [])) (schedule.reads n).lanes
-          ≡ filled_bytes (allowed_before config (schedule.reads n) (length (of_key number_of_read_data n (r ++ beat ∷ [])))) (map (λ (a : Access). a.byte.value) (accesses_of false n (all ++ new)))) own answered-own
+          ≡ answered_bytes (allowed_before config (schedule.reads n) (length (of_key number_of_read_data n (r ++ beat ∷ [])))) (map (λ (a : Access). a.byte.value) (accesses_of false n (all ++ new)))) own answered-own
       | inr ne ↦
           ap (λ xs. bytes_on xs (schedule.reads number).lanes) (of_key-push_other number_of_read_data number r beat ne)
           ∙ is.answered number
-          ∙ ap (λ xs. filled_bytes (allowed_before config (schedule.reads number) (length xs)) (map (λ (a : Access). a.byte.value) (accesses_of false number all))) (sym (of_key-push_other number_of_read_data number r beat ne))
-          ∙ ap (λ xs. filled_bytes (allowed_before config (schedule.reads number) (length (of_key number_of_read_data number (r ++ beat ∷ [])))) (map (λ (a : Access). a.byte.value) xs)) (sym (other-accesses number ne))
+          ∙ ap (λ xs. answered_bytes (allowed_before config (schedule.reads number) (length xs)) (map (λ (a : Access). a.byte.value) (accesses_of false number all))) (sym (of_key-push_other number_of_read_data number r beat ne))
+          ∙ ap (λ xs. answered_bytes (allowed_before config (schedule.reads number) (length (of_key number_of_read_data number (r ++ beat ∷ [])))) (map (λ (a : Access). a.byte.value) xs)) (sym (other-accesses number ne))
     ]
 
     reads-stored : AllByRecursion (IsReadOf (IsStored config store) t) new

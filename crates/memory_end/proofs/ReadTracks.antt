@@ -20,8 +20,9 @@ use Rattle.axi_trail.proofs.StepFacts.{answer_keeps_order, answers_within, held-
 use Rattle.axi_trail.proofs.StreamFacts.{prefix_append, prefix_itself, prefix_trans}
 use Rattle.axi_trail.proofs.WaitingFacts.{pending-beat, pending-request}
 use Rattle.flight.specs.Entries.{count_of, of_key}
+use Rattle.burst_address.specs.Lanes.{is_valid, lane_address}
 use Rattle.memory_end.specs.Accesses.{BeatOf, beats_of_parts}
-use Rattle.memory_end.specs.Beats.{answered_byte, answered_lanes, is_valid, lane_address, valid_status}
+use Rattle.memory_end.specs.Beats.{answered_byte, answered_lanes, valid_status}
 use Rattle.memory_end.specs.MemoryTable.{after_r, next_beat}
 use Rattle.memory_end.specs.Store.{Store}
 use Rattle.memory_end.specs.Tracks.{TracksReads, len_of_address, read_waiting}

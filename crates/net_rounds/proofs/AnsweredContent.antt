@@ -18,7 +18,8 @@ use Rattle.flight.specs.Entries.{of_key}
 use Rattle.manager_end.specs.ManagerTrail.{IsReadNote, IsWriteNote, shares_of}
 use Rattle.manager_end.specs.Script.{ScriptItem}
 use Rattle.manager_end.proofs.NumberLemmas.{all-at, contains-at}
-use Rattle.memory_end.specs.Accesses.{accesses_of, allowed_before, beats_of_parts, filled_bytes}
+use Rattle.burst_address.specs.Accesses.{answered_bytes}
+use Rattle.memory_end.specs.Accesses.{accesses_of, allowed_before, beats_of_parts}
 use Rattle.memory_end.specs.Events.{Access}
 use Rattle.memory_end.specs.declared.config.MemoryConfig.{MemoryConfig}
 use Rattle.net_rounds.proofs.BuiltInSchedule.{lower_trail, pair_at, schedule_of, upper_trail}
@@ -132,7 +133,7 @@ module _ (script : List ScriptItem) (run : RunFacts script) (n : ℕ) where
         let taken = all-taken reads in
         let count : length lower ≡ suc item.txn.request.len = ap length taken ∙ came in
         (read-note reads).bytes ∙ ap (λ (beats : List RBeat). bytes_on beats share.lanes) (sym taken) ∙ (accessed script run n).answered number
-        ∙ ap (λ (config : MemoryConfig). filled_bytes (allowed_before config share (length lower)) values) (run.config n) ∙ item-filled script run n item among reads (omega arith)
+        ∙ ap (λ (config : MemoryConfig). answered_bytes (allowed_before config share (length lower)) values) (run.config n) ∙ item-filled script run n item among reads (omega arith)
 
     pub all-bytes : (note script n place).bytes ≡ cond item.txn.write [] (answered_bytes (bytes_of ram item) (values_of item.txn.number (run_events script n)))
     all-bytes =

@@ -13,7 +13,8 @@ use Rattle.manager_end.specs.Answer.{AnswerView}
 use Rattle.manager_end.specs.Beats.{data_beats, request_of}
 use Rattle.manager_end.specs.ManagerTable.{manager_out}
 use Rattle.manager_end.specs.Script.{ScriptItem}
-use Rattle.memory_end.specs.Accesses.{BeatOf, accesses_of, allowed_before, beats_of_parts, burst_status, filled_bytes, span_of}
+use Rattle.burst_address.specs.Accesses.{answered_bytes}
+use Rattle.memory_end.specs.Accesses.{BeatOf, accesses_of, allowed_before, beats_of_parts, burst_status, span_of}
 use Rattle.memory_end.specs.Beats.{valid_status}
 use Rattle.memory_end.specs.Events.{Access, memory_events}
 use Rattle.memory_end.specs.MemoryTable.{memory_out}
@@ -96,6 +97,6 @@ module _ (script : List ScriptItem) where
     issued = λ number. list_any (is_noted_issued number) (zip script (pair_at n).manager.state.answers);
     written = λ number. length (of_key number_of_data number (lower_trail n).w) == length (beats_of_parts ((schedule_of script).writes number).parts);
     filled = λ number.
-        filled_bytes (allowed_before ram ((schedule_of script).reads number) (length (beats_of_parts ((schedule_of script).reads number).parts)))
+        answered_bytes (allowed_before ram ((schedule_of script).reads number) (length (beats_of_parts ((schedule_of script).reads number).parts)))
         (map (λ (a : Access). a.byte.value) (accesses_of false number (accesses_at n)));
   }

@@ -16,12 +16,14 @@ use Rattle.burst_address.specs.Formulas.{beats_of}
 use Rattle.manager_end.specs.Beats.{data_beat, data_beats, high_lane, low_lane}
 use Rattle.manager_end.specs.BurstLaws.{SendsItsBytes}
 use Rattle.manager_end.specs.Script.{ScriptItem}
+use Rattle.burst_address.specs.LaneLaws.{StrobesValidLanes}
+use Rattle.burst_address.specs.Status.{worst_among}
 use Rattle.memory_end.proofs.BurstFacts.{status-of_written_bytes, writes-burst_bytes}
 use Rattle.memory_end.specs.Accesses.{burst_status}
 use Rattle.memory_end.specs.Beats.{strobed_status}
-use Rattle.memory_end.specs.BurstBytes.{StrobesValidLanes, all_written_bytes, inside_of}
+use Rattle.memory_end.specs.BurstBytes.{all_stored_bytes, inside_of}
 use Rattle.memory_end.specs.MemoryState.{IsMemoryConfig}
-use Rattle.memory_end.specs.Status.{worst_among, write_status}
+use Rattle.memory_end.specs.Status.{write_status}
 use Rattle.memory_end.proofs.TrackFacts.{worst-assoc, worst-okay}
 use Rattle.net_rounds.proofs.NodeLaws.{NodeLaws}
 use Rattle.net_rounds.proofs.ScheduleLemmas.{IsTrafficItem, data-count, part_of}
@@ -135,7 +137,7 @@ module _ (laws : NodeLaws) (item : ScriptItem) (known : IsTrafficItem item) (dir
   data-written = part-written item (data_beats item 4) ∙ laws.data_writes item 4 sends-bytes
 
   -- the memory writes those that lie in it
-  pub data-inside : all_written_bytes ram (part_of item) 0 (data_beats item 4) ≡ inside_of ram (strobed_bytes item)
+  pub data-inside : all_stored_bytes ram (part_of item) 0 (data_beats item 4) ≡ inside_of ram (strobed_bytes item)
   data-inside =
       writes-burst_bytes ram (part_of item) (data_beats item 4) ram-memory known.legal (omega (arith, data-count item)) strobes-valid
       ∙ ap (inside_of ram) data-written

@@ -15,20 +15,23 @@ use Rattle.axi_history.specs.Delivered.{IsBeginningOf, wanted}
 use Rattle.axi_history.specs.Records.{Byte, due}
 use Rattle.axi_trail.proofs.FilterFacts.{filter_map}
 use Rattle.axi_trail.specs.Schedule.{Share}
-use Rattle.burst_address.specs.Bytes.{beat_bytes, burst_bytes, bytes_before}
+use Rattle.burst_address.specs.Bytes.{beat_bytes, burst_bytes, bytes_before, Byte as MemoryByte}
 use Rattle.burst_address.specs.Formulas.{beats_of}
 use Rattle.burst_address.specs.Legal.{IsLegal}
 use Rattle.manager_end.proofs.ListLemmas.{filter-same}
 use Rattle.manager_end.specs.Beats.{data_beats as data_of_item}
 use Rattle.manager_end.specs.ManagerTrail.{shares_of}
 use Rattle.manager_end.specs.Script.{ScriptItem}
+use Rattle.burst_address.specs.Accesses.{answered_bytes}
+use Rattle.burst_address.specs.Lanes.{lane_address, valid_lanes}
+use Rattle.burst_address.specs.Status.{worst_among}
 use Rattle.memory_end.proofs.BurstFacts.{lanes-are_bytes, status-of_burst_bytes}
 use Rattle.memory_end.proofs.DueFacts.{due-reads, due-writes}
 use Rattle.memory_end.proofs.ListLemmas.{range-more}
-use Rattle.memory_end.specs.Accesses.{BeatOf, allowed_before, allowed_bytes, beats_of_parts, data_beats, due_reads, due_writes, filled_bytes, read_addresses}
-use Rattle.memory_end.specs.Beats.{Byte as MemoryByte, lane_address, valid_lanes, valid_status, written_bytes}
-use Rattle.memory_end.specs.BurstBytes.{all_written_bytes, inside_of}
-use Rattle.memory_end.specs.Status.{is_inside, is_okay, read_status, worst_among, write_status}
+use Rattle.memory_end.specs.Accesses.{BeatOf, allowed_before, allowed_bytes, beats_of_parts, beats_with_data, due_reads, due_writes, read_addresses}
+use Rattle.memory_end.specs.Beats.{valid_status, stored_bytes}
+use Rattle.memory_end.specs.BurstBytes.{all_stored_bytes, inside_of}
+use Rattle.memory_end.specs.Status.{is_inside, is_okay, read_status, write_status}
 use Rattle.net_rounds.proofs.BuiltInSchedule.{schedule_of, read_share, write_share}
 use Rattle.net_rounds.proofs.DataLemmas.{data-inside, data-status, part-bytes, ram-memory}
 use Rattle.net_rounds.proofs.NodeLaws.{NodeLaws}
@@ -58,7 +61,7 @@ abbrev pub shown_read : ℕ → ℕ × Option ℕ
 shown_read address = (address, None)
 
 abbrev pub beat_writes : BeatOf × WBeat → List MemoryByte
-beat_writes b = written_bytes ram b.0.request b.0.beat b.1
+beat_writes b = stored_bytes ram b.0.request b.0.beat b.1
 
 abbrev write_byte : ℕ × ℕ → Byte
 write_byte byte = record { address = byte.0; value = Some byte.1; allowed = is_okay (write_status ram byte.0) }
@@ -159,20 +162,20 @@ module _ (laws : NodeLaws) (item : ScriptItem) (known : IsTrafficItem item) (dir
   write-bytes = ap (λ b. cond b (map write_byte (strobed_bytes item)) (map read_byte (burst_bytes item.txn.request))) direction
 
   -- there is no beat of data but for the beats of the request
-  few-data : length (data_beats (write_share item)) ≤ length (beats_of_parts (write_share item).parts)
+  few-data : length (beats_with_data (write_share item)) ≤ length (beats_of_parts (write_share item).parts)
   few-data = omega (arith, length-zip (beats_of_parts (write_share item).parts) (flat_map (λ beats. beats) (write_share item).write_data))
 
   -- what all beats of a write write is what is due of it
-  all-writes : map shown_write (flat_map beat_writes (data_beats (write_share item))) ≡ map wanted (due (transaction_of ram 0 1 item))
+  all-writes : map shown_write (flat_map beat_writes (beats_with_data (write_share item))) ≡ map wanted (due (transaction_of ram 0 1 item))
   all-writes =
       let share = write_share item in
       let bytes = strobed_bytes item in
       let inside : ℕ × ℕ → Bool = λ (byte : ℕ × ℕ). is_inside ram byte.0 in
       let kept : ℕ × ℕ → Bool = λ (byte : ℕ × ℕ). is_okay (write_status ram byte.0) in
-      let written : flat_map beat_writes (data_beats share) ≡ inside_of ram bytes =
-      ap (flat_map beat_writes) (sym (take_all (length (beats_of_parts share.parts)) (data_beats share) few-data))
+      let written : flat_map beat_writes (beats_with_data share) ≡ inside_of ram bytes =
+      ap (flat_map beat_writes) (sym (take_all (length (beats_of_parts share.parts)) (beats_with_data share) few-data))
       ∙ due-writes ram share (ap (λ count. count ∷ []) (data-count item))
-      ∙ append-nil (all_written_bytes ram (part_of item) 0 (data_of_item item 4))
+      ∙ append-nil (all_stored_bytes ram (part_of item) 0 (data_of_item item 4))
       ∙ data-inside laws item known direction in
       ap (map shown_write) written
       ∙ map-map shown_write (λ (byte : ℕ × ℕ). record { address = byte.0; value = byte.1 }) (filter inside bytes)
@@ -182,11 +185,11 @@ module _ (laws : NodeLaws) (item : ScriptItem) (known : IsTrafficItem item) (dir
   -- the first data beats write the first bytes that are due, and all beats write all
   pub writes-begin : (count : ℕ) → IsBeginningOf (map shown_write (due_writes ram (write_share item) count)) (map wanted (due (transaction_of ram 0 1 item)))
   writes-begin count =
-      let front = flat-begins shown_write beat_writes count (data_beats (write_share item)) in
+      let front = flat-begins shown_write beat_writes count (beats_with_data (write_share item)) in
       (front.0, sym all-writes ∙ front.1)
 
   pub writes-whole : (count : ℕ) → length (beats_of_parts (write_share item).parts) ≤ count → map shown_write (due_writes ram (write_share item) count) ≡ map wanted (due (transaction_of ram 0 1 item))
-  writes-whole count all = ap (λ beats. map shown_write (flat_map beat_writes beats)) (take_all count (data_beats (write_share item)) (omega (arith, all, few-data))) ∙ all-writes
+  writes-whole count all = ap (λ beats. map shown_write (flat_map beat_writes beats)) (take_all count (beats_with_data (write_share item)) (omega (arith, all, few-data))) ∙ all-writes
 
   -- its response is the worst status of what the script strobes
   write-responses : (write_share item).responses ≡ response_of ram item
@@ -195,10 +198,10 @@ module _ (laws : NodeLaws) (item : ScriptItem) (known : IsTrafficItem item) (dir
 -- ---- answers
 
 -- the bytes of an answer, where all values are there that are due
-pub filled-answered : (bytes : List Byte) (values : List ℕ) → length (filter is_allowed bytes) ≤ length values → filled_bytes (map is_allowed bytes) values ≡ answered_bytes bytes values
+pub filled-answered : (bytes : List Byte) (values : List ℕ) → length (filter is_allowed bytes) ≤ length values → answered_bytes (map is_allowed bytes) values ≡ answered_bytes bytes values
 filled-answered [] values enough = refl
 filled-answered (byte ∷ bytes) [] enough =
-    let go : (allowed : Bool) → length (cond allowed (byte ∷ filter is_allowed bytes) (filter is_allowed bytes)) ≤ 0 → filled_bytes (allowed ∷ map is_allowed bytes) [] ≡ 0 ∷ answered_bytes bytes [] =
+    let go : (allowed : Bool) → length (cond allowed (byte ∷ filter is_allowed bytes) (filter is_allowed bytes)) ≤ 0 → answered_bytes (allowed ∷ map is_allowed bytes) [] ≡ 0 ∷ answered_bytes bytes [] =
     elim [
       | true ↦ λ enough. absurd (omega (arith, enough))
       | false ↦ λ enough. ap (λ rest. 0 ∷ rest) (filled-answered bytes [] enough)
@@ -207,7 +210,7 @@ filled-answered (byte ∷ bytes) [] enough =
 filled-answered (byte ∷ bytes) (value ∷ values) enough =
     let go :
     (allowed : Bool) → length (cond allowed (byte ∷ filter is_allowed bytes) (filter is_allowed bytes)) ≤ suc (length values) →
-    filled_bytes (allowed ∷ map is_allowed bytes) (value ∷ values) ≡ cond allowed (value ∷ answered_bytes bytes values) (0 ∷ answered_bytes bytes (value ∷ values)) =
+    answered_bytes (allowed ∷ map is_allowed bytes) (value ∷ values) ≡ cond allowed (value ∷ answered_bytes bytes values) (0 ∷ answered_bytes bytes (value ∷ values)) =
     elim [
       | true ↦ λ enough. ap (λ rest. value ∷ rest) (filled-answered bytes values (omega (arith, enough)))
       | false ↦ λ enough. ap (λ rest. 0 ∷ rest) (filled-answered bytes (value ∷ values) enough)
@@ -235,7 +238,7 @@ module _ (script : List ScriptItem) (t : IsNumberedTraffic script) (item : Scrip
   -- what is answered for a read of which all values are there
   pub due-bytes-read :
       item.txn.write ≡ false → (count : ℕ) → item.txn.request.len < count → (values : List ℕ) → length values ≡ length (due_reads ram ((schedule_of script).reads item.txn.number) count) →
-      filled_bytes (allowed_before ram ((schedule_of script).reads item.txn.number) count) values ≡ answered_bytes (bytes_of ram item) values
+      answered_bytes (allowed_before ram ((schedule_of script).reads item.txn.number) count) values ≡ answered_bytes (bytes_of ram item) values
   due-bytes-read direction count enough values all =
       let known = traffic-item script t item among in
       let own = share-own script t item among false direction in
@@ -244,6 +247,6 @@ module _ (script : List ScriptItem) (t : IsNumberedTraffic script) (item : Scrip
       let read : length due_now ≡ length (filter is_allowed (bytes_of ram item)) =
       sym (length-map due_now shown_read) ∙ ap (λ xs. length xs) (reads-whole item known direction count beats) ∙ length-map (filter is_allowed (bytes_of ram item)) wanted in
       let values_all : length values ≡ length due_now = all ∙ ap (λ (s : Share). length (due_reads ram s count)) own in
-      ap (λ (s : Share). filled_bytes (allowed_before ram s count) values) own
-      ∙ ap (λ allowed. filled_bytes allowed values) (allowed-reads item known direction count beats)
+      ap (λ (s : Share). answered_bytes (allowed_before ram s count) values) own
+      ∙ ap (λ allowed. answered_bytes allowed values) (allowed-reads item known direction count beats)
       ∙ filled-answered (bytes_of ram item) values (omega (arith, values_all, read))

@@ -15,7 +15,8 @@ use Rattle.flight.specs.Entries.{of_key}
 use Rattle.manager_end.specs.ManagerOrder.{IsAt}
 use Rattle.manager_end.specs.Script.{ScriptItem}
 use Rattle.manager_end.proofs.NumberLemmas.{contains-at}
-use Rattle.memory_end.specs.Accesses.{accesses_of, allowed_before, beats_of_parts, due_reads, due_writes, filled_bytes}
+use Rattle.burst_address.specs.Accesses.{answered_bytes}
+use Rattle.memory_end.specs.Accesses.{accesses_of, allowed_before, beats_of_parts, due_reads, due_writes}
 use Rattle.memory_end.specs.Events.{Access}
 use Rattle.memory_end.specs.MemoryTrail.{HasAccessed}
 use Rattle.memory_end.specs.declared.config.MemoryConfig.{MemoryConfig}
@@ -102,7 +103,7 @@ module _ (script : List ScriptItem) (facts : RunFacts script) (n : ℕ) where
     -- what the memory has filled in of a read that it has wholly answered is what is due
     pub item-filled :
         item.txn.write ≡ false → item.txn.request.len < read_beats item.txn.number →
-        filled_bytes (allowed_before ram ((schedule_of script).reads item.txn.number) (read_beats item.txn.number)) (map (λ (a : Access). a.byte.value) (accesses_of false item.txn.number run_accesses))
+        answered_bytes (allowed_before ram ((schedule_of script).reads item.txn.number) (read_beats item.txn.number)) (map (λ (a : Access). a.byte.value) (accesses_of false item.txn.number run_accesses))
         ≡ answered_bytes (bytes_of ram item) (values_of item.txn.number (run_events script n))
     item-filled direction enough =
         let mine = accesses_of false item.txn.number run_accesses in

@@ -8,7 +8,8 @@ use Rattle.burst_address.specs.Bytes.{beat_bytes, burst_bytes, written}
 use Rattle.burst_address.specs.Formulas.{beats_of}
 use Rattle.manager_end.specs.Beats.{strobed_value}
 use Rattle.manager_end.specs.Script.{ScriptItem}
-use Rattle.memory_end.specs.Status.{is_okay, read_status, worst_among, write_status}
+use Rattle.burst_address.specs.Status.{worst_among}
+use Rattle.memory_end.specs.Status.{is_okay, read_status, write_status}
 use Rattle.memory_end.specs.declared.config.MemoryConfig.{MemoryConfig}
 use Rattle.net_rounds.specs.BuiltIn.{IsTraffic, ram}
 

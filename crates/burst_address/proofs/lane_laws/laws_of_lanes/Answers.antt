@@ -1,4 +1,5 @@
 use Rattle.burst_address.proofs.LaneBytes.{addresses-on_wider, beats-in_lines, lanes-are_bytes, lanes-are_on_bus, lanes-on_wider, words-in_lines}
+use Rattle.burst_address.proofs.OneStatus.{none-strobed, one-status_of_strobed, one-status_of_valid}
 use Rattle.burst_address.proofs.Statuses.{data-status, strobed-status, valid-status}
 use Rattle.burst_address.proofs.Strobes.{strobed-are_written}
 use Rattle.burst_address.proofs.lane_laws.laws_of_lanes.Goals as goal
@@ -32,3 +33,12 @@ returns-clause-strobed_status c = strobed-status
 
 pub returns-clause-data_status : goal.returns-clause-data_status
 returns-clause-data_status c = data-status
+
+pub returns-clause-one_valid : goal.returns-clause-one_valid
+returns-clause-one_valid c = one-status_of_valid
+
+pub returns-clause-one_strobed : goal.returns-clause-one_strobed
+returns-clause-one_strobed c = one-status_of_strobed
+
+pub returns-clause-none_strobed : goal.returns-clause-none_strobed
+returns-clause-none_strobed c = none-strobed
