@@ -8,3 +8,5 @@ pub mod LaneBytes
 pub mod Strobes
 pub mod Statuses
 pub mod OneStatus
+pub mod AccessValues
+pub mod Alone

@@ -14,10 +14,11 @@ use Rattle.axi_trail.specs.Schedule.{ComesBefore, Schedule, Share, bytes_on}
 use Rattle.axi_trail.specs.Words.{number_of_read_data}
 use Rattle.axi_trail.proofs.FilterFacts.{of_key-push, of_key-push_other}
 use Rattle.flight.specs.Entries.{of_key}
-use Rattle.burst_address.specs.Accesses.{answered_bytes}
+use Rattle.burst_address.specs.Accesses.{answered_bytes, value_after}
 use Rattle.burst_address.specs.Bytes.{Byte}
 use Rattle.burst_address.specs.Lanes.{lane_address, valid_lanes}
-use Rattle.memory_end.specs.Accesses.{BeatOf, accesses_of, allowed_before, allowed_bytes, beats_of_parts, due_reads, left_at, read_addresses, span_of}
+use Rattle.burst_address.proofs.AccessValues.{value_after-append}
+use Rattle.memory_end.specs.Accesses.{BeatOf, accesses_of, allowed_before, allowed_bytes, beats_of_parts, due_reads, writes_at, read_addresses, span_of}
 use Rattle.memory_end.specs.Beats.{read_bytes}
 use Rattle.memory_end.specs.Events.{Access, accesses}
 use Rattle.memory_end.specs.MemoryState.{IsMemoryConfig}
@@ -26,7 +27,7 @@ use Rattle.memory_end.specs.Status.{is_inside, is_okay, read_status}
 use Rattle.memory_end.specs.Store.{Store, byte_at}
 use Rattle.memory_end.specs.declared.config.MemoryConfig.{MemoryConfig}
 use Rattle.memory_end.specs.declared.entry.ReadEntry.{ReadEntry}
-use Rattle.memory_end.proofs.AccessFacts.{IsReadOf, accesses_of-append, accesses_of-opposite, accesses_of-other, accesses_of-own, all_at, left_at-append, left_at-reads, order-more, order-other, reads-are}
+use Rattle.memory_end.proofs.AccessFacts.{IsReadOf, accesses_of-append, accesses_of-opposite, accesses_of-other, accesses_of-own, all_at, value_after-reads, order-more, order-other, reads-are}
 use Rattle.memory_end.proofs.Accessed.{Accessed, addresses-of_accesses, nil-of_map, values-of_accesses}
 use Rattle.memory_end.proofs.FillFacts.{bytes_on-more, count-reads, count_allowed, filled-append, filled-beat}
 use Rattle.memory_end.proofs.LaneFacts.{allowed-without_id, reads-without_id, span-without_id}
@@ -177,7 +178,7 @@ module _ (schedule : Schedule) (config : MemoryConfig) (store : Store) (e : Read
     reads-stored : AllByRecursion (IsReadOf (IsStored config store) t) new
     reads-stored = reads-are (IsStored config store) t bytes_read (stored-lanes config store (λ lane. lane_address e.request e.put config.bus lane) (valid_lanes e.request e.put config.bus))
 
-    latest-more : (earlier later : List Access) (a : Access) → all ++ new ≡ earlier ++ a ∷ later → a.write ≡ false → a.byte.value ≡ left_at a.byte.address config.fill earlier
+    latest-more : (earlier later : List Access) (a : Access) → all ++ new ≡ earlier ++ a ∷ later → a.write ≡ false → a.byte.value ≡ value_after (writes_at a.byte.address) (λ (a : Access). a.byte.value) config.fill earlier
     latest-more earlier later a at way = elim (split_append all new earlier a later at) [
       | inl old ↦ is.latest earlier old.0 a old.1 way
       | inr mine ↦
@@ -185,9 +186,9 @@ module _ (schedule : Schedule) (config : MemoryConfig) (store : Store) (e : Read
           all_at (IsReadOf (IsStored config store) t) mine.0 a later (subst (λ (xs : List Access). AllByRecursion (IsReadOf (IsStored config store) t) xs) mine.1 reads-stored) in
           here.0.byte.value
           ∙ sym (is.bytes a.byte.address here.0.byte.inside)
-          ∙ sym (left_at-reads (IsStored config store) t a.byte.address (left_at a.byte.address config.fill all) mine.0 here.1)
-          ∙ sym (left_at-append a.byte.address config.fill all mine.0)
-          ∙ ap (left_at a.byte.address config.fill) (sym mine.2)
+          ∙ sym (value_after-reads (IsStored config store) t a.byte.address (value_after (writes_at a.byte.address) (λ (a : Access). a.byte.value) config.fill all) mine.0 here.1)
+          ∙ sym (value_after-append (writes_at a.byte.address) (λ (a : Access). a.byte.value) config.fill all mine.0)
+          ∙ ap (value_after (writes_at a.byte.address) (λ (a : Access). a.byte.value) config.fill) (sym mine.2)
     ]
 
     pub accessed-read : Accessed schedule config store w (r ++ beat ∷ []) (all ++ new)
@@ -196,8 +197,8 @@ module _ (schedule : Schedule) (config : MemoryConfig) (store : Store) (e : Read
       read = read-more;
       answered = answered-more;
       bytes = λ address inside.
-          left_at-append address config.fill all new
-          ∙ left_at-reads (IsStored config store) t address (left_at address config.fill all) new reads-stored
+          value_after-append (writes_at address) (λ (a : Access). a.byte.value) config.fill all new
+          ∙ value_after-reads (IsStored config store) t address (value_after (writes_at address) (λ (a : Access). a.byte.value) config.fill all) new reads-stored
           ∙ is.bytes address inside;
       latest = latest-more;
       writes_in_order = order-other schedule.writes false all t bytes_read is.writes_in_order;

@@ -14,17 +14,18 @@ use Rattle.axi_trail.specs.Words.{number_of_data, number_of_read_data}
 use Rattle.axi_trail.proofs.FilterFacts.{of_key-push, of_key-push_other}
 use Rattle.flight.specs.Entries.{of_key}
 use Rattle.burst_address.proofs.LaneBytes.{words-in_lines}
-use Rattle.burst_address.specs.Accesses.{answered_bytes}
+use Rattle.burst_address.specs.Accesses.{answered_bytes, value_after}
 use Rattle.burst_address.specs.Bytes.{Byte}
 use Rattle.burst_address.specs.Lanes.{is_strobed, lane_address, lane_bytes, strobed_lanes, word_address}
-use Rattle.memory_end.specs.Accesses.{BeatOf, accesses_of, allowed_before, beats_with_data, due_writes, left_at}
+use Rattle.burst_address.proofs.AccessValues.{value_after-append}
+use Rattle.memory_end.specs.Accesses.{BeatOf, accesses_of, allowed_before, beats_with_data, due_writes, writes_at}
 use Rattle.memory_end.specs.Beats.{with_bytes, stored_bytes}
 use Rattle.memory_end.specs.Events.{Access, accesses}
 use Rattle.memory_end.specs.MemoryState.{AreLinesAmong, IsMemoryConfig}
 use Rattle.memory_end.specs.Status.{is_inside, is_okay, write_status}
 use Rattle.memory_end.specs.Store.{IsStore, Store, byte_at, byte_place, line_of, with_byte}
 use Rattle.memory_end.specs.declared.config.MemoryConfig.{MemoryConfig}
-use Rattle.memory_end.proofs.AccessFacts.{accesses_of-append, accesses_of-opposite, accesses_of-other, accesses_of-own, bytes-of_accesses, left_at-append, order-more, order-other, stands_among}
+use Rattle.memory_end.proofs.AccessFacts.{accesses_of-append, accesses_of-opposite, accesses_of-other, accesses_of-own, bytes-of_accesses, order-more, order-other, stands_among}
 use Rattle.memory_end.proofs.Accessed.{Accessed, nil-of_map}
 use Rattle.memory_end.proofs.LaneFacts.{inside-of_lane, written-without_id}
 use Rattle.memory_end.proofs.ListLemmas.{filter-range-below}
@@ -34,7 +35,7 @@ use Rattle.memory_end.proofs.TrailLists.{flat_map_next, split_append}
 
 -- bytes on lines that are kept are left in the store
 left-written : (number address : ℕ) (lines : List ℕ) (bytes : List Byte) (store : Store) → IsStore store → store.lines ≡ lines → AllByRecursion (λ (b : Byte). Contains lines (line_of b.address)) bytes →
-    left_at address (byte_at store address) (accesses number true bytes) ≡ byte_at (with_bytes store bytes) address
+    value_after (writes_at address) (λ (a : Access). a.byte.value) (byte_at store address) (accesses number true bytes) ≡ byte_at (with_bytes store bytes) address
 left-written number address lines [] store is same kept = refl
 left-written number address lines (b ∷ bytes) store is same kept =
     let keeps : Keeps store (with_byte store b.address b.value) = with_byte_at-keeps store (byte_place store b.address) b.value in
@@ -47,7 +48,7 @@ left-written number address lines (b ∷ bytes) store is same kept =
           ap (λ c. cond c b.value (byte_at store address)) (ne_eqb b.address address ne)
           ∙ sym (reads-others store b.address address b.value is (λ h. ne (sym h)))
     ] in
-    ap (λ v. left_at address v (accesses number true bytes)) one
+    ap (λ v. value_after (writes_at address) (λ (a : Access). a.byte.value) v (accesses number true bytes)) one
     ∙ left-written number address lines bytes (with_byte store b.address b.value) (store-stays store (with_byte store b.address b.value) keeps is) (keeps.lines ∙ same) kept.1
 
 -- the bytes of a beat are on lines that are kept
@@ -129,7 +130,7 @@ module _ (schedule : Schedule) (config : MemoryConfig) (store : Store) (a : Addr
           ∙ ap (λ xs. due_writes config (schedule.writes number) (length xs)) (sym (of_key-push_other number_of_data number w x (λ h. ne (sym next.own ∙ h))))
     ]
 
-    latest-more : (earlier later : List Access) (b : Access) → all ++ new ≡ earlier ++ b ∷ later → b.write ≡ false → b.byte.value ≡ left_at b.byte.address config.fill earlier
+    latest-more : (earlier later : List Access) (b : Access) → all ++ new ≡ earlier ++ b ∷ later → b.write ≡ false → b.byte.value ≡ value_after (writes_at b.byte.address) (λ (a : Access). a.byte.value) config.fill earlier
     latest-more earlier later b at way = elim (split_append all new earlier b later at) [
       | inl old ↦ is.latest earlier old.0 b old.1 way
       | inr mine ↦ absurd (stands_among false b.number new mine.0 b later mine.1 way refl (accesses_of-opposite true b.number t bytes_written))
@@ -143,8 +144,8 @@ module _ (schedule : Schedule) (config : MemoryConfig) (store : Store) (a : Addr
           is.answered number
           ∙ ap (λ (xs : List Access). answered_bytes (allowed_before config (schedule.reads number) (length (of_key number_of_read_data number r))) (map (λ (a : Access). a.byte.value) xs)) (sym (reads-same number));
       bytes = λ address inside.
-          left_at-append address config.fill all new
-          ∙ ap (λ v. left_at address v new) (is.bytes address inside)
+          value_after-append (writes_at address) (λ (a : Access). a.byte.value) config.fill all new
+          ∙ ap (λ v. value_after (writes_at address) (λ (a : Access). a.byte.value) v new) (is.bytes address inside)
           ∙ left-written t address store.lines bytes_written store next.is_store refl next.lines;
       latest = latest-more;
       writes_in_order = order-more schedule.writes true all t bytes_written

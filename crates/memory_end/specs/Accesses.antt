@@ -66,7 +66,6 @@ span_of config b = record {
 abbrev pub accesses_of : Bool → ℕ → List Access → List Access
 accesses_of write number all = filter (λ (a : Access). beq a.write write && a.number == number) all
 
--- what the accesses leave at an address, where it held this byte before them
-abbrev pub left_at : ℕ → ℕ → List Access → ℕ
-left_at address before [] = before
-left_at address before (a ∷ more) = left_at address (if a.write && a.byte.address == address then a.byte.value else before) more
+-- an access writes this address
+abbrev pub writes_at : ℕ → Access → Bool
+writes_at address a = a.write && a.byte.address == address

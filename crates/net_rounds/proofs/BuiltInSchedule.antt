@@ -10,7 +10,7 @@ use Rattle.axi_trail.specs.Trail.{Beats, trail_above, trail_below}
 use Rattle.axi_trail.specs.Words.{number_of_data}
 use Rattle.flight.specs.Entries.{of_key}
 use Rattle.manager_end.specs.Answer.{AnswerView}
-use Rattle.manager_end.specs.Beats.{data_beats, request_of}
+use Rattle.manager_end.specs.Beats.{data_beats, item_request}
 use Rattle.manager_end.specs.ManagerTable.{manager_out}
 use Rattle.manager_end.specs.Script.{ScriptItem}
 use Rattle.burst_address.specs.Accesses.{answered_bytes}
@@ -29,7 +29,7 @@ no_share = record { parts = []; write_data = []; lanes = []; responses = []; cha
 -- a write, and a read, as it leaves the manager
 abbrev pub write_share : ScriptItem → Share
 write_share item =
-    let part = without_id (request_of item) in
+    let part = without_id (item_request item) in
     record {
       parts = part ∷ [];
       write_data = data_beats item 4 ∷ [];
@@ -40,7 +40,7 @@ write_share item =
 
 abbrev pub read_share : ScriptItem → Share
 read_share item =
-    let part = without_id (request_of item) in
+    let part = without_id (item_request item) in
     record {
       parts = part ∷ [];
       write_data = [];
