@@ -2,14 +2,8 @@
 -- and in order for each manager, ID and direction. (Arm IHI 0022, transaction ordering, read and write
 -- response structure.)
 use Rattle.std.specs.Prelude.{◌≡◌, ◌≢◌, ◌==◌, ◌<◌, ◌++◌, ◌∷◌, [], ℕ, List, All, Any, filter, map, take, if◌then◌else◌}
-use Rattle.axi_history.specs.Records.{Byte, Transaction, Event, Issue, Answer, events_of}
-
--- the bytes of an answer: the values that were read, in order, and 0 for a byte that can't be read and where no value is
--- left
-abbrev pub answered_bytes : List Byte → List ℕ → List ℕ
-answered_bytes [] values = []
-answered_bytes (b ∷ more) [] = 0 ∷ answered_bytes more []
-answered_bytes (b ∷ more) (v ∷ values) = if b.allowed then v ∷ answered_bytes more values else 0 ∷ answered_bytes more (v ∷ values)
+use Rattle.burst_address.specs.Accesses.{answered_bytes}
+use Rattle.axi_history.specs.Records.{NamedByte, Transaction, Event, Issue, Answer, events_of}
 
 -- the values that a transaction has read or written so far, in the order of its accesses
 abbrev pub values_of : ℕ → List Event → List ℕ
@@ -54,7 +48,7 @@ AreAccessedInOrder events t u =
 
 -- an answer to the transaction has the values of its accesses, which for a write are not told
 abbrev pub HasItsBytes : List Event → Transaction → Answer → Type 0
-HasItsBytes events t a = a.number ≡ t.number → a.bytes ≡ (if t.write then [] else answered_bytes t.bytes (values_of t.number events))
+HasItsBytes events t a = a.number ≡ t.number → a.bytes ≡ (if t.write then [] else answered_bytes (map (λ (b : NamedByte). b.allowed) t.bytes) (values_of t.number events))
 
 -- each issue of the transaction comes after the answers to those that it waits for: the first ones of its manager
 abbrev pub WaitsForAnswers : List Transaction → List Issue → List Answer → Transaction → Type 0

@@ -2,7 +2,8 @@
 -- at the subordinate that the address names, and all of them once it is answered; and a read sees the latest write.
 -- (Arm IHI 0022, transaction ordering.)
 use Rattle.std.specs.Prelude.{◌≡◌, ◌==◌, ◌&&◌, ◌++◌, ◌∷◌, [], ℕ, List, Bool, false, Option, Some, None, All, Any, map, if◌then◌else◌}
-use Rattle.axi_history.specs.Records.{Byte, Transaction, Event, Answer, due, events_of}
+use Rattle.burst_address.specs.Accesses.{value_after}
+use Rattle.axi_history.specs.Records.{NamedByte, Transaction, Event, Answer, due, events_of}
 
 module _ {X : Type 0} where
   -- the list begins with these
@@ -18,17 +19,12 @@ abbrev pub shown : Event → ℕ × Option ℕ
 shown e = (e.address, (if e.write then Some e.value else None))
 
 -- a byte of a transaction, as the access that it asks for, in the same form
-abbrev pub wanted : Byte → ℕ × Option ℕ
+abbrev pub wanted : NamedByte → ℕ × Option ℕ
 wanted b = (b.address, b.value)
 
 -- an access writes this place
 abbrev pub is_write_at : ℕ → ℕ → Event → Bool
 is_write_at node address e = e.write && (e.node == node) && (e.address == address)
-
--- what a place holds after these accesses: what the last write there wrote, else what it held before
-abbrev pub value_after : ℕ → ℕ → ℕ → List Event → ℕ
-value_after node address before [] = before
-value_after node address before (e ∷ more) = value_after node address (if is_write_at node address e then e.value else before) more
 
 -- an access belongs to a transaction of its number and direction, at that one's target
 abbrev pub IsOf : List Transaction → Event → Type 0
@@ -44,4 +40,4 @@ pub record Delivered (transactions : List Transaction) (events : List Event) (an
   pub whole : All (λ (t : Transaction). IsAnswered t answers → map shown (events_of t.number events) ≡ map wanted (due t)) transactions
   -- a read sees what the latest write before it wrote there, and else the subordinate's fill byte
   pub reads_latest :
-      All (λ (t : Transaction). (earlier later : List Event) (e : Event) → events ≡ earlier ++ e ∷ later → e.number ≡ t.number → e.write ≡ false → e.value ≡ value_after e.node e.address t.fill earlier) transactions
+      All (λ (t : Transaction). (earlier later : List Event) (e : Event) → events ≡ earlier ++ e ∷ later → e.number ≡ t.number → e.write ≡ false → e.value ≡ value_after (is_write_at e.node e.address) (λ (x : Event). x.value) t.fill earlier) transactions

@@ -4,7 +4,7 @@ use Rattle.axi_beats.specs.declared.response.Resp.{Resp}
 
 -- one byte that a transaction names, in burst order: its address, the value that is to be written
 -- there (none for a read), and whether its subordinate allows the access
-pub record Byte : Type 0 where
+pub record NamedByte : Type 0 where
   pub address : ℕ
   pub value : Option ℕ
   pub allowed : Bool
@@ -21,7 +21,7 @@ pub record Transaction : Type 0 where
   pub after : ℕ
   pub target : ℕ
   pub fill : ℕ
-  pub bytes : List Byte
+  pub bytes : List NamedByte
   pub response : List Resp
 
 -- an access to a byte: in which round, at which subordinate and for which transaction, its address, and the value
@@ -48,8 +48,8 @@ pub record Answer : Type 0 where
   pub bytes : List ℕ
 
 -- the bytes that are to be accessed
-abbrev pub due : Transaction → List Byte
-due t = filter (λ (b : Byte). b.allowed) t.bytes
+abbrev pub due : Transaction → List NamedByte
+due t = filter (λ (b : NamedByte). b.allowed) t.bytes
 
 -- the accesses of one transaction
 abbrev pub events_of : ℕ → List Event → List Event

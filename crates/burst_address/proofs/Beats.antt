@@ -14,7 +14,7 @@ use Rattle.axi_beats.specs.Bus.{IsBusWidth}
 use Rattle.axi_beats.specs.declared.beat.Addr.{Addr}
 use Rattle.axi_beats.specs.declared.beat.Burst.{Burst}
 use Rattle.axi_beats.specs.declared.beat.Burst.TheVariants.{Fixed, Incr, Wrap}
-use Rattle.burst_address.specs.Formulas.{aligned, incr_address, wrap_boundary, wrap_address, address_of, size_of, beats_of, beat_at, lower_lane, upper_lane}
+use Rattle.burst_address.specs.Formulas.{aligned, incr_address, wrap_boundary, wrap_address, address_by_kind, size_of, beats_of, beat_at, lower_lane, upper_lane}
 use Rattle.burst_address.specs.Legal.{is_length_of, is_start_of, is_in_page, IsLegal, page}
 use Rattle.burst_address.specs.Bytes.{valid_bytes, beat_bytes, bytes_before, burst_bytes}
 use Rattle.burst_address.proofs.Numbers.{aligned-le, aligned-near, same_block, coarser, mod-add, exponent_below, exponents, bus_power, below_from_bits}
@@ -26,14 +26,14 @@ use Rattle.burst_address.proofs.Legality.{legal-size, legal-length, legal-start,
 -- the bytes of the first beats of an INCR burst
 incr-before : (a : Addr) (n : ℕ) → a.burst ≡ Incr → bytes_before a (suc n) ≡ range_with_len a.addr (aligned (size_of a) a.addr + suc n * size_of a - a.addr)
 incr-before a zero e =
-    ap (λ b. valid_bytes (size_of a) (address_of b (size_of a) (beats_of a) a.addr 0)) e
+    ap (λ b. valid_bytes (size_of a) (address_by_kind b (size_of a) (beats_of a) a.addr 0)) e
     ∙ ap (λ t. range_with_len a.addr t) (omega arith)
 incr-before a (suc n) e =
     let pos : 0 < size_of a = pow_pos a.size in
     let near : a.addr < aligned (size_of a) a.addr + size_of a = aligned-near (size_of a) a.addr pos in
     let room : 1 * size_of a ≤ suc n * size_of a = mul-le-mul_right (size_of a) (omega arith) in
     let beat : beat_bytes a (suc n) ≡ range_with_len (aligned (size_of a) a.addr + suc n * size_of a) (size_of a) =
-    ap (λ b. valid_bytes (size_of a) (address_of b (size_of a) (beats_of a) a.addr (suc n))) e
+    ap (λ b. valid_bytes (size_of a) (address_by_kind b (size_of a) (beats_of a) a.addr (suc n))) e
     ∙ valid_bytes-whole (size_of a) (a.addr / size_of a + suc n) (aligned (size_of a) a.addr + suc n * size_of a) pos (omega arith) in
     ap (λ t. t ++ beat_bytes a (suc n)) (incr-before a n e)
     ∙ ap (λ t. range_with_len a.addr (aligned (size_of a) a.addr + suc n * size_of a - a.addr) ++ t) beat
@@ -106,7 +106,7 @@ wrap-before a s e whole (suc n) le =
     let pos : 0 < size_of a = pow_pos a.size in
     let sum : a.addr / size_of a * size_of a + a.addr % size_of a ≡ a.addr = div-add-mod' a.addr (size_of a) in
     let beat : beat_bytes a n ≡ range_with_len (a.addr + n * size_of a) (size_of a) =
-    ap (λ b. valid_bytes (size_of a) (address_of b (size_of a) (beats_of a) a.addr n)) e
+    ap (λ b. valid_bytes (size_of a) (address_by_kind b (size_of a) (beats_of a) a.addr n)) e
     ∙ ap (λ t. valid_bytes (size_of a) t) (wrap-below (size_of a) (beats_of a) a.addr n s pos whole (omega arith))
     ∙ valid_bytes-whole (size_of a) (a.addr / size_of a + n) (a.addr + n * size_of a) pos (omega arith) in
     let more : n * size_of a + size_of a ≡ suc n * size_of a = omega arith in
@@ -128,7 +128,7 @@ wrap-then a s e whole m (suc i) all =
     let next : m + suc i ≡ suc (m + i) = omega arith in
     let low : wrap_boundary (size_of a) (beats_of a) a.addr ≡ s.blocks * size_of a = s.low in
     let beat : beat_bytes a (m + i) ≡ range_with_len (wrap_boundary (size_of a) (beats_of a) a.addr + i * size_of a) (size_of a) =
-    ap (λ b. valid_bytes (size_of a) (address_of b (size_of a) (beats_of a) a.addr (m + i))) e
+    ap (λ b. valid_bytes (size_of a) (address_by_kind b (size_of a) (beats_of a) a.addr (m + i))) e
     ∙ ap (λ t. valid_bytes (size_of a) t) (wrap-above (size_of a) (beats_of a) a.addr (m + i) i s pos whole (omega arith))
     ∙ valid_bytes-whole (size_of a) (s.blocks + i) (wrap_boundary (size_of a) (beats_of a) a.addr + i * size_of a) pos (omega arith) in
     let more : i * size_of a + size_of a ≡ suc i * size_of a = omega arith in
@@ -192,7 +192,7 @@ wrap-page s beats start n small is whole lt =
     coarser (s + power.0) 12 start (wrap_address (2 ^ s) beats start n) (omega arith)
     (subst (λ (b : ℕ). wrap_address (2 ^ s) beats start n / b ≡ start / b) (sym block) (wrap-block (2 ^ s) beats start n start_of (pow_pos s) whole lt))
 
-address-page : (kind : Burst) (s beats start n : ℕ) → s ≤ 7 → is_length_of kind beats ≡ true → is_start_of kind (2 ^ s) start ≡ true → is_in_page kind (2 ^ s) beats start ≡ true → n < beats → address_of kind (2 ^ s) beats start n / 4096 ≡ start / 4096
+address-page : (kind : Burst) (s beats start n : ℕ) → s ≤ 7 → is_length_of kind beats ≡ true → is_start_of kind (2 ^ s) start ≡ true → is_in_page kind (2 ^ s) beats start ≡ true → n < beats → address_by_kind kind (2 ^ s) beats start n / 4096 ≡ start / 4096
 address-page Fixed s beats start n small long whole one lt = refl
 address-page Incr s beats start n small long whole one lt = incr-page (2 ^ s) beats start n (pow_pos s) (eqb-true (start / 4096) ((aligned (2 ^ s) start + beats * 2 ^ s - 1) / 4096) one) lt
 address-page Wrap s beats start n small long whole one lt = wrap-page s beats start n small long (eqb-true (start % 2 ^ s) 0 whole) lt

@@ -32,21 +32,26 @@ strobed_byte bus w address =
     if bit_at w.strobe (address % bus) == 1 then Some (slice_index w.lanes (address % bus)) else None
 
 -- what W beats say of the valid bytes of a burst, of which the first one is beat n
-abbrev pub strobed_bytes : ℕ → Addr → ℕ → List WBeat → List (Option ℕ)
-strobed_bytes bus a n [] = []
-strobed_bytes bus a n (w ∷ ws) = map (strobed_byte bus w) (beat_bytes a n) ++ strobed_bytes bus a (suc n) ws
+abbrev pub strobed_values : ℕ → Addr → ℕ → List WBeat → List (Option ℕ)
+strobed_values bus a n [] = []
+strobed_values bus a n (w ∷ ws) = map (strobed_byte bus w) (beat_bytes a n) ++ strobed_values bus a (suc n) ws
 
--- the bytes that are written, each with its value: those addresses whose value is there, which are the strobed ones
-abbrev pub written : List ℕ → List (Option ℕ) → List (ℕ × ℕ)
-written [] values = []
-written (address ∷ addresses) [] = []
-written (address ∷ addresses) (None ∷ values) = written addresses values
-written (address ∷ addresses) (Some value ∷ values) = (address, value) ∷ written addresses values
+-- a byte at its address
+pub record Byte : Type 0 where
+  pub address : ℕ
+  pub value : ℕ
 
--- the bytes that W beat n writes, ascending
-abbrev pub beat_written : ℕ → Addr → ℕ → WBeat → List (ℕ × ℕ)
-beat_written bus a n w = written (beat_bytes a n) (map (strobed_byte bus w) (beat_bytes a n))
+-- those addresses whose value is there, each with it
+abbrev pub bytes_with : List ℕ → List (Option ℕ) → List Byte
+bytes_with [] values = []
+bytes_with (address ∷ addresses) [] = []
+bytes_with (address ∷ addresses) (None ∷ values) = bytes_with addresses values
+bytes_with (address ∷ addresses) (Some value ∷ values) = record { address = address; value = value } ∷ bytes_with addresses values
+
+-- the bytes that W beat n writes, ascending: the strobed ones
+abbrev pub beat_written : ℕ → Addr → ℕ → WBeat → List Byte
+beat_written bus a n w = bytes_with (beat_bytes a n) (map (strobed_byte bus w) (beat_bytes a n))
 
 -- the bytes that a write with these W beats, from the first one on, writes, in burst order
-abbrev pub written_bytes : ℕ → Addr → List WBeat → List (ℕ × ℕ)
-written_bytes bus a ws = written (burst_bytes a) (strobed_bytes bus a 0 ws)
+abbrev pub written_bytes : ℕ → Addr → List WBeat → List Byte
+written_bytes bus a ws = bytes_with (burst_bytes a) (strobed_values bus a 0 ws)

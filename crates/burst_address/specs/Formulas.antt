@@ -28,10 +28,10 @@ wrap_address size beats start n =
     else incr_address size start n - size * beats
 
 -- the address of beat n, by the kind of the burst; every beat of a FIXED burst is at the start
-abbrev pub address_of : Burst → ℕ → ℕ → ℕ → ℕ → ℕ
-address_of Fixed size beats start n = start
-address_of Incr size beats start n = incr_address size start n
-address_of Wrap size beats start n = wrap_address size beats start n
+abbrev pub address_by_kind : Burst → ℕ → ℕ → ℕ → ℕ → ℕ
+address_by_kind Fixed size beats start n = start
+address_by_kind Incr size beats start n = incr_address size start n
+address_by_kind Wrap size beats start n = wrap_address size beats start n
 
 -- the number of bytes in a beat, of which one at an unaligned address has fewer valid
 abbrev pub size_of : Addr → ℕ
@@ -43,7 +43,7 @@ beats_of a = a.len + 1
 
 -- the address of beat n
 abbrev pub beat_at : Addr → ℕ → ℕ
-beat_at a n = address_of a.burst (size_of a) (beats_of a) a.addr n
+beat_at a n = address_by_kind a.burst (size_of a) (beats_of a) a.addr n
 
 -- the lanes that hold valid bytes of a beat run from the lane of its address to the lane of the
 -- last byte of the aligned block that its address lies in

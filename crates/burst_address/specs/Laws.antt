@@ -4,6 +4,7 @@ use Rattle.std.specs.Int.{bit_at}
 use Rattle.std.specs.List.{range_with_len}
 use Rattle.axi_beats.specs.Bus.{IsBusWidth}
 use Rattle.axi_beats.specs.declared.beat.Addr.{Addr}
+use Rattle.axi_beats.specs.declared.beat.Tag.{Tag}
 use Rattle.axi_beats.specs.declared.beat.WBeat.{WBeat}
 use Rattle.axi_beats.specs.declared.beat.Burst.TheVariants.{Fixed, Incr, Wrap}
 use Rattle.burst_address.specs.Formulas.{aligned, wrap_boundary, size_of, beats_of, beat_at, lower_lane, upper_lane}
@@ -79,3 +80,10 @@ StrobesBelow =
     (a : Addr) (bus n strobe : ℕ) → IsBusWidth bus →
     ((lane : ℕ) → bit_at strobe lane ≡ 1 → lane ≤ upper_lane (size_of a) bus (beat_at a n)) →
     strobe < 2 ^ bus
+
+-- the bytes of a burst, and what W beats write of them, don't depend on its ID and its tag
+abbrev pub IdIsNoMatter : Type 0
+IdIsNoMatter =
+    (bus : ℕ) (a : Addr) (id : ℕ) (tag : Tag) (ws : List WBeat) →
+    (burst_bytes (record a { id = id; tag = tag }) ≡ burst_bytes a)
+    × (written_bytes bus (record a { id = id; tag = tag }) ws ≡ written_bytes bus a ws)

@@ -1,5 +1,5 @@
 //! What holds of bursts. Where a law needs it, it asks that the burst is legal.
-ghost use Rattle.burst_address.specs.Laws.{LegalOnWider, OnePage, BelowLimit, OneLine, ValidCount, LanesFollow, IncrAscends, WrapVisitsOnce, FixedRepeats, StrobesBelow, WritesBeatByBeat};
+ghost use Rattle.burst_address.specs.Laws.{LegalOnWider, OnePage, BelowLimit, OneLine, ValidCount, LanesFollow, IncrAscends, WrapVisitsOnce, FixedRepeats, StrobesBelow, WritesBeatByBeat, IdIsNoMatter};
 
 /// The laws of bursts and their bytes. Each is told in plain words in `specs/Laws.antt`.
 pub fn laws()
@@ -22,4 +22,7 @@ pub fn laws()
 
     // What a write writes.
     ensures written { WritesBeatByBeat }
+
+    // What isn't asked.
+    ensures id { IdIsNoMatter }
 {}

@@ -3,7 +3,7 @@ ghost use Rattle.std.specs.Prelude.{◌<◌};
 ghost use Rattle.axi_beats.specs.Bus.{IsBusWidth};
 ghost use Rattle.burst_address.specs.Legal.{IsLegal};
 
-use crate::{BurstRule, beat_address, burst_count, lanes, laws, legal};
+use crate::{BurstRule, beat_address, burst_count, lanes, laws, laws_of_lanes, legal};
 use axi_beats::{Addr, Burst, is_bus_width};
 use std::process::Abort;
 
@@ -46,6 +46,7 @@ fn beat(rt: &impl Abort, a: &Addr, n: u32, bus: u8) -> (u64, u8, u8) {
 #[test]
 fn judges_by_the_first_broken_rule(rt: HostRuntime) {
     laws();
+    laws_of_lanes();
     let size = Err(BurstRule::Size);
     let length = Err(BurstRule::Length);
     let start = Err(BurstRule::WrapAlign);

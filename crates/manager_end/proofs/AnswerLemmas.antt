@@ -8,7 +8,7 @@ use Rattle.burst_address.specs.Bytes.{burst_bytes, bytes_before}
 use Rattle.burst_address.specs.Legal.{IsLegal}
 use Rattle.manager_end.specs.Answer.{AnswerView, answered_in}
 use Rattle.manager_end.specs.AnswerInside.{IsAnswer, answer_view}
-use Rattle.manager_end.specs.Beats.{high_lane, low_lane}
+use Rattle.burst_address.specs.Lanes.{last_lane, first_lane}
 use Rattle.manager_end.specs.declared.answer.Answer.TheInside.{Inside}
 use Rattle.manager_end.proofs.BurstLemmas.{beat-within, lane-count}
 
@@ -41,7 +41,7 @@ noted-after round resp a view bytes lanes low high count n end same counts order
 -- there is room for the bytes of the next beat
 pub beat-fits : (a : Inside) (view : AnswerView) (request : Addr) (bus low high count : ℕ) → answer_view a ≡ view → IsAnswer a → length view.resps < view.due_resps → view.due_resps ≡ request.len + 1 →
     length view.bytes ≤ length (bytes_before request (length view.resps)) → view.due_bytes ≡ length (burst_bytes request) → IsBusWidth bus → IsLegal request bus →
-    low ≡ low_lane bus request a.came → high ≡ high_lane bus request a.came → count ≡ high - low → a.read + count + 1 ≤ length a.bytes.items
+    low ≡ first_lane request a.came bus → high ≡ last_lane request a.came bus → count ≡ high - low → a.read + count + 1 ≤ length a.bytes.items
 beat-fits a view request bus low high count same is more resps had bytes wide legal lows highs counts =
     let came = came-is a view same is
     in let read = read-is a view same is

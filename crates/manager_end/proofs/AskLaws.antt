@@ -13,7 +13,7 @@ use Rattle.axi_trail.specs.LinkContracts.{OneIdAtATime, Requests, WholeBeforeThe
 use Rattle.axi_trail.specs.Schedule.{Progress, Schedule}
 use Rattle.axi_trail.specs.Trail.{Beats}
 use Rattle.axi_trail.specs.Words.{Asked, Mark, Reply, announced_marks, burst_asked, burst_marks, data_marks, mark_of_data, marks, marks_of, number_of_data, read_replies, write_replies}
-use Rattle.manager_end.specs.Beats.{data_beat, data_beats, request_of as request_of_item}
+use Rattle.manager_end.specs.Beats.{data_beat, data_beats, item_request}
 use Rattle.manager_end.specs.ManagerOrder.{IsAt, note_at}
 use Rattle.manager_end.specs.ManagerState.{ManagerState, issued_of, of_direction, writes_of}
 use Rattle.manager_end.specs.ManagerTrail.{HasItem, IsScheduleOf, ManagerAsks, ManagerKeeps, first_data, shares_of}
@@ -102,19 +102,19 @@ marks-of_items bus (p ∷ ps) =
 
 module _ (schedule : Schedule) (now : Progress) (rounds : ℕ) (s : ManagerState) (trail : Beats) (keeps : ManagerKeeps schedule rounds s trail)
     (known : (place : ℕ) (item : ScriptItem) → IsAt s place item → 0 < (note_at s place).issued → IsTrue (now.issued item.txn.number)) where
-  issued-asked : (write : Bool) → All (λ (a : Addr). IsTrue (now.issued a.tag.txn)) (map (λ (p : ℕ × ScriptItem). request_of_item p.1) (take (issued_of write s) (of_direction write s.script)))
-  issued-asked write = all-at (λ (a : Addr). IsTrue (now.issued a.tag.txn)) (map (λ (p : ℕ × ScriptItem). request_of_item p.1) (take (issued_of write s) (of_direction write s.script))) (λ k a at.
-      let from : (p : ℕ × ScriptItem) × (slice_get (take (issued_of write s) (of_direction write s.script)) k ≡ Some p) × (request_of_item p.1 ≡ a) = map-from (λ (p : ℕ × ScriptItem). request_of_item p.1) (take (issued_of write s) (of_direction write s.script)) k a at
+  issued-asked : (write : Bool) → All (λ (a : Addr). IsTrue (now.issued a.tag.txn)) (map (λ (p : ℕ × ScriptItem). item_request p.1) (take (issued_of write s) (of_direction write s.script)))
+  issued-asked write = all-at (λ (a : Addr). IsTrue (now.issued a.tag.txn)) (map (λ (p : ℕ × ScriptItem). item_request p.1) (take (issued_of write s) (of_direction write s.script))) (λ k a at.
+      let from : (p : ℕ × ScriptItem) × (slice_get (take (issued_of write s) (of_direction write s.script)) k ≡ Some p) × (item_request p.1 ≡ a) = map-from (λ (p : ℕ × ScriptItem). item_request p.1) (take (issued_of write s) (of_direction write s.script)) k a at
       in let first = take-from (issued_of write s) (of_direction write s.script) k from.0 from.1
       in let place = direction-at write s.script k from.0 first.1
       in subst (λ (b : Addr). IsTrue (now.issued b.tag.txn)) from.2 (known from.0.0 from.0.1 place.0 ((keeps.is_manager.issues write k from.0 first.1).1 first.0)))
 
   -- the requests of a direction
-  requests-asked : (write : Bool) (len_of : Addr → ℕ) (addresses : List Addr) (replies : List Reply) → addresses ≡ map (λ (p : ℕ × ScriptItem). request_of_item p.1) (take (issued_of write s) (of_direction write s.script)) →
+  requests-asked : (write : Bool) (len_of : Addr → ℕ) (addresses : List Addr) (replies : List Reply) → addresses ≡ map (λ (p : ℕ × ScriptItem). item_request p.1) (take (issued_of write s) (of_direction write s.script)) →
       Requests (shares_of schedule write) schedule.id_width now.issued (λ a. record { number = a.tag.txn; id = a.id; len = len_of a }) addresses replies
   requests-asked write len_of addresses replies put =
-      let shown : map (λ (a : Addr). record { number = a.tag.txn; id = a.id; len = len_of a }) (map (λ (p : ℕ × ScriptItem). request_of_item p.1) (take (issued_of write s) (of_direction write s.script))) ≡ map (asked_by len_of) (take (issued_of write s) (of_direction write s.script)) =
-      map-map (λ (a : Addr). record { number = a.tag.txn; id = a.id; len = len_of a }) (λ (p : ℕ × ScriptItem). request_of_item p.1) (take (issued_of write s) (of_direction write s.script))
+      let shown : map (λ (a : Addr). record { number = a.tag.txn; id = a.id; len = len_of a }) (map (λ (p : ℕ × ScriptItem). item_request p.1) (take (issued_of write s) (of_direction write s.script))) ≡ map (asked_by len_of) (take (issued_of write s) (of_direction write s.script)) =
+      map-map (λ (a : Addr). record { number = a.tag.txn; id = a.id; len = len_of a }) (λ (p : ℕ × ScriptItem). item_request p.1) (take (issued_of write s) (of_direction write s.script))
       in subst (λ (addrs : List Addr). Requests (shares_of schedule write) schedule.id_width now.issued (λ a. record { number = a.tag.txn; id = a.id; len = len_of a }) addrs replies) (sym put) (record {
         asks_only_its_parts = parts-asked schedule s.bus s.script keeps.scheduled write (issued_of write s);
         ids_fit = ids-asked schedule s.bus s.script keeps.scheduled write (issued_of write s);
@@ -135,7 +135,7 @@ module _ (schedule : Schedule) (now : Progress) (rounds : ℕ) (s : ManagerState
       let sent : IsPrefix (data_marks trail) (marks (map (asked_by (λ a. a.len)) (writes_of s.script))) =
       prefix_of_same (prefix_same (ap (map mark_of_data) keeps.passed.w) (prefix_map mark_of_data (sent-prefix s.bus s.sent_writes s.sent_beats (writes_of s.script)))) (marks-of_items s.bus (writes_of s.script))
       in let announced : announced_marks trail ≡ marks (map (asked_by (λ a. a.len)) (take s.issued_writes (writes_of s.script))) =
-      ap (λ (asked : List Asked). marks asked) (ap (map burst_asked) keeps.passed.aw ∙ map-map burst_asked (λ (p : ℕ × ScriptItem). request_of_item p.1) (take s.issued_writes (writes_of s.script)))
+      ap (λ (asked : List Asked). marks asked) (ap (map burst_asked) keeps.passed.aw ∙ map-map burst_asked (λ (p : ℕ × ScriptItem). item_request p.1) (take s.issued_writes (writes_of s.script)))
       in let front : IsPrefix (take s.issued_writes (writes_of s.script)) (writes_of s.script) = record { rest = drop s.issued_writes (writes_of s.script); whole = sym (take-append-drop s.issued_writes (writes_of s.script)) }
       in let shown : IsPrefix (announced_marks trail) (marks (map (asked_by (λ a. a.len)) (writes_of s.script))) = prefix_same announced (prefix_flat_map marks_of (prefix_map (asked_by (λ a. a.len)) front))
       in Agree_fronts sent shown (prefix_agree (prefix_itself (marks (map (asked_by (λ a. a.len)) (writes_of s.script)))))

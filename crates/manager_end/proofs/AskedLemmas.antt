@@ -8,7 +8,7 @@ use Rattle.axi_beats.specs.declared.beat.Addr.{Addr}
 use Rattle.axi_trail.specs.LinkContracts.{OneIdAtATime, WholeBeforeTheNext, without_id}
 use Rattle.axi_trail.specs.Schedule.{SameChain, Schedule}
 use Rattle.axi_trail.specs.Words.{Asked, Reply, number_of_address, number_of_asked}
-use Rattle.manager_end.specs.Beats.{request_of as request_of_item}
+use Rattle.manager_end.specs.Beats.{item_request}
 use Rattle.manager_end.specs.ManagerState.{of_direction}
 use Rattle.manager_end.specs.ManagerTrail.{HasItem, IsItsOwn, IsScheduleOf, shares_of}
 use Rattle.manager_end.specs.Script.{ScriptItem}
@@ -65,10 +65,10 @@ module _ (schedule : Schedule) (bus : ℕ) (script : List ScriptItem) (scheduled
       in direction-once write script j k p q at_p at_q place
 
   -- the schedule has a transaction of the direction
-  part-of : (k : ℕ) (p : ℕ × ScriptItem) → slice_get (of_direction write script) k ≡ Some p → (shares_of schedule write p.1.txn.number).parts ≡ without_id (request_of_item p.1) ∷ []
+  part-of : (k : ℕ) (p : ℕ × ScriptItem) → slice_get (of_direction write script) k ≡ Some p → (shares_of schedule write p.1.txn.number).parts ≡ without_id (item_request p.1) ∷ []
   part-of k p at =
       let place = direction-at write script k p at
-      in subst (λ (way : Bool). (shares_of schedule way p.1.txn.number).parts ≡ without_id (request_of_item p.1) ∷ []) place.1 (at-all (HasItem schedule bus) script p.0 p.1 scheduled.items place.0).parts
+      in subst (λ (way : Bool). (shares_of schedule way p.1.txn.number).parts ≡ without_id (item_request p.1) ∷ []) place.1 (at-all (HasItem schedule bus) script p.0 p.1 scheduled.items place.0).parts
 
   -- its chain has the others of its ID
   own-of : (k : ℕ) (p : ℕ × ScriptItem) (t : ℕ) → slice_get (of_direction write script) k ≡ Some p → SameChain (shares_of schedule write) t p.1.txn.number → IsItsOwn script write p.1.txn.request.id t
@@ -78,21 +78,21 @@ module _ (schedule : Schedule) (bus : ℕ) (script : List ScriptItem) (scheduled
       in subst (λ (way : Bool). SameChain (shares_of schedule way) t p.1.txn.number → IsItsOwn script way p.1.txn.request.id t) place.1 (own t) chain
 
   module _ (n : ℕ) where
-    pub parts-asked : (t : ℕ) → IsPrefix (map without_id (of_key number_of_address t (map (λ (p : ℕ × ScriptItem). request_of_item p.1) (take n (of_direction write script))))) (shares_of schedule write t).parts
+    pub parts-asked : (t : ℕ) → IsPrefix (map without_id (of_key number_of_address t (map (λ (p : ℕ × ScriptItem). item_request p.1) (take n (of_direction write script))))) (shares_of schedule write t).parts
     parts-asked t =
-        let own : of_key number_of_address t (map (λ (p : ℕ × ScriptItem). request_of_item p.1) (take n (of_direction write script))) ≡ map (λ (p : ℕ × ScriptItem). request_of_item p.1) (of_key number_of_item t (take n (of_direction write script))) =
-        of_key-map number_of_address (λ (p : ℕ × ScriptItem). request_of_item p.1) t (take n (of_direction write script))
+        let own : of_key number_of_address t (map (λ (p : ℕ × ScriptItem). item_request p.1) (take n (of_direction write script))) ≡ map (λ (p : ℕ × ScriptItem). item_request p.1) (of_key number_of_item t (take n (of_direction write script))) =
+        of_key-map number_of_address (λ (p : ℕ × ScriptItem). item_request p.1) t (take n (of_direction write script))
         in elim (lone-of_key number_of_item t (take n (of_direction write script)) (lone-take number_of_item n (of_direction write script) lone-numbers)) [
-          | inl none ↦ prefix_same (ap (map without_id) (own ∙ ap (map (λ (p : ℕ × ScriptItem). request_of_item p.1)) none)) (prefix_nil (shares_of schedule write t).parts)
+          | inl none ↦ prefix_same (ap (map without_id) (own ∙ ap (map (λ (p : ℕ × ScriptItem). item_request p.1)) none)) (prefix_nil (shares_of schedule write t).parts)
           | inr one ↦
-              let parts : (shares_of schedule write t).parts ≡ without_id (request_of_item one.1.1) ∷ [] =
+              let parts : (shares_of schedule write t).parts ≡ without_id (item_request one.1.1) ∷ [] =
               ap (λ (k : ℕ). (shares_of schedule write k).parts) (sym one.3) ∙ part-of one.0 one.1 (take-from n (of_direction write script) one.0 one.1 one.2).1
-              in prefix_same (ap (map without_id) (own ∙ ap (map (λ (p : ℕ × ScriptItem). request_of_item p.1)) one.4)) (prefix_of_same (prefix_itself (without_id (request_of_item one.1.1) ∷ [])) (sym parts))
+              in prefix_same (ap (map without_id) (own ∙ ap (map (λ (p : ℕ × ScriptItem). item_request p.1)) one.4)) (prefix_of_same (prefix_itself (without_id (item_request one.1.1) ∷ [])) (sym parts))
         ]
 
-    pub ids-asked : All (λ (a : Addr). a.id < 2 ^ schedule.id_width) (map (λ (p : ℕ × ScriptItem). request_of_item p.1) (take n (of_direction write script)))
-    ids-asked = all-at (λ (a : Addr). a.id < 2 ^ schedule.id_width) (map (λ (p : ℕ × ScriptItem). request_of_item p.1) (take n (of_direction write script))) (λ k a at.
-        let from : (p : ℕ × ScriptItem) × (slice_get (take n (of_direction write script)) k ≡ Some p) × (request_of_item p.1 ≡ a) = map-from (λ (p : ℕ × ScriptItem). request_of_item p.1) (take n (of_direction write script)) k a at
+    pub ids-asked : All (λ (a : Addr). a.id < 2 ^ schedule.id_width) (map (λ (p : ℕ × ScriptItem). item_request p.1) (take n (of_direction write script)))
+    ids-asked = all-at (λ (a : Addr). a.id < 2 ^ schedule.id_width) (map (λ (p : ℕ × ScriptItem). item_request p.1) (take n (of_direction write script))) (λ k a at.
+        let from : (p : ℕ × ScriptItem) × (slice_get (take n (of_direction write script)) k ≡ Some p) × (item_request p.1 ≡ a) = map-from (λ (p : ℕ × ScriptItem). item_request p.1) (take n (of_direction write script)) k a at
         in let place = direction-at write script k from.0 (take-from n (of_direction write script) k from.0 from.1).1
         in subst (λ (b : Addr). b.id < 2 ^ schedule.id_width) from.2 (at-all (HasItem schedule bus) script from.0.0 from.0.1 scheduled.items place.0).id_fits)
 

@@ -6,14 +6,14 @@ use Rattle.burst_address.proofs.Beats.{beat-count}
 use Rattle.burst_address.proofs.Legality.{legal-size}
 use Rattle.burst_address.specs.Bytes.{beat_bytes, bytes_before, burst_bytes}
 use Rattle.burst_address.specs.Legal.{IsLegal}
-use Rattle.manager_end.specs.Beats.{high_lane, low_lane}
+use Rattle.burst_address.specs.Lanes.{last_lane, first_lane}
 
 module _ (a : Addr) (bus n : ℕ) (wide : IsBusWidth bus) (legal : IsLegal a bus) where
   -- a beat has a byte on each valid lane
-  pub lane-order : low_lane bus a n ≤ high_lane bus a n
+  pub lane-order : first_lane a n bus ≤ last_lane a n bus
   lane-order = let count = beat-count a bus n wide legal in omega (arith, count.0, count.1)
 
-  pub lane-count : high_lane bus a n - low_lane bus a n + 1 ≡ length (beat_bytes a n)
+  pub lane-count : last_lane a n bus - first_lane a n bus + 1 ≡ length (beat_bytes a n)
   lane-count = let count = beat-count a bus n wide legal in omega (arith, count.0, count.1)
 
 -- one more beat

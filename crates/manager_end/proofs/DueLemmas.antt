@@ -9,12 +9,13 @@ use Rattle.axi_beats.specs.declared.response.Resp.{Resp}
 use Rattle.burst_address.specs.Bytes.{bytes_before}
 use Rattle.burst_address.specs.Legal.{IsLegal}
 use Rattle.manager_end.specs.Answer.{AnswerView, answered_in, is_last}
-use Rattle.manager_end.specs.Beats.{high_lane, low_lane, bytes_on_valid_lanes}
+use Rattle.manager_end.specs.Beats.{bytes_on_valid_lanes}
 use Rattle.manager_end.specs.ManagerState.{IsDue, bytes_by, is_answered}
 use Rattle.manager_end.specs.ManagerTable.{read_in}
 use Rattle.manager_end.specs.Script.{ScriptItem}
 use Rattle.manager_end.proofs.BurstLemmas.{bytes-next, lane-count, lane-order}
 use Rattle.plain_lists.proofs.PlaceLemmas.{at-all}
+use Rattle.burst_address.specs.Lanes.{last_lane, first_lane}
 
 -- transactions of two directions stand at two places
 pub due-apart : (script : List ScriptItem) (n m : Bool) (p q : ℕ) (a b : AnswerView) → n ≢ m → IsDue script n p a → IsDue script m q b → p ≢ q
@@ -51,7 +52,7 @@ read-more script place round bus beat a wide all more due =
     let legal = at-all (λ (item : ScriptItem). IsLegal item.txn.request bus) script place due.item all due.at
     in let count = lane-count due.item.txn.request bus (length a.resps) wide legal
     in let order = lane-order due.item.txn.request bus (length a.resps) wide legal
-    in let least = length-take (high_lane bus due.item.txn.request (length a.resps) + 1 - low_lane bus due.item.txn.request (length a.resps)) (drop (low_lane bus due.item.txn.request (length a.resps)) beat.lanes)
+    in let least = length-take (last_lane due.item.txn.request (length a.resps) bus + 1 - first_lane due.item.txn.request (length a.resps) bus) (drop (first_lane due.item.txn.request (length a.resps) bus) beat.lanes)
     in let next = bytes-next due.item.txn.request (length a.resps)
     in let longer : length (a.resps ++ beat.resp ∷ []) ≡ suc (length a.resps) = omega (arith, length-append a.resps (beat.resp ∷ []))
     in let was : length a.bytes ≤ length (bytes_before due.item.txn.request (length a.resps)) = subst (λ (w : Bool). length a.bytes ≤ cond w 0 (length (bytes_before due.item.txn.request (length a.resps)))) due.direction due.bytes

@@ -9,7 +9,7 @@ use Rattle.axi_trail.specs.Waiting.{Waiting, fresh, request_of, waiting_shown, b
 use Rattle.axi_trail.specs.Words.{Asked, Reply, InOrderOfId, held_asked, beats_of, id_of_asked, id_of_reply, id_of_waiting, len_of_asked, next_reply}
 use Rattle.axi_trail.proofs.HeldFacts.{held-answer, held-request}
 use Rattle.axi_trail.proofs.StepFacts.{answer_keeps_order, answers_within, held-shown, later_requests_are_held, next_answer}
-use Rattle.manager_end.specs.Beats.{request_of as request_of_item}
+use Rattle.manager_end.specs.Beats.{item_request}
 use Rattle.manager_end.specs.ManagerState.{entry_of}
 use Rattle.manager_end.specs.Script.{ScriptItem}
 use Rattle.manager_end.specs.declared.entry.Entry.{Entry}
@@ -41,10 +41,10 @@ find-held id (v ∷ vs) e found =
 module _ (len_of : Addr → ℕ) where
   -- one direction: how many answer beats come after the first one
   abbrev pub asked_by : ℕ × ScriptItem → Asked
-  asked_by p = record { number = p.1.txn.number; id = p.1.txn.request.id; len = len_of (request_of_item p.1) }
+  asked_by p = record { number = p.1.txn.number; id = p.1.txn.request.id; len = len_of (item_request p.1) }
 
   abbrev pub single_len : ℕ × ScriptItem → ℕ
-  single_len p = len_of (request_of_item p.1)
+  single_len p = len_of (item_request p.1)
 
   -- those that are held
   abbrev pub holding : List (ℕ × ScriptItem) → List ℕ → List (Waiting (ℕ × ScriptItem))

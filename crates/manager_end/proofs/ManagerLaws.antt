@@ -18,7 +18,7 @@ use Rattle.axi_link.specs.Table.{link_of, head_of, has_room, passing, put_of, ta
 use Rattle.burst_address.specs.Bytes.{bytes_before}
 use Rattle.burst_address.specs.Legal.{IsLegal}
 use Rattle.manager_end.specs.Answer.{AnswerView, answered_in, awaited_of, is_last, unanswered}
-use Rattle.manager_end.specs.Beats.{request_of, data_beat, bytes_on_valid_lanes}
+use Rattle.manager_end.specs.Beats.{data_beat, bytes_on_valid_lanes, item_request}
 use Rattle.manager_end.specs.Laws.{DoneIsAnswered, ManagerBegins, ManagerMovesFit}
 use Rattle.manager_end.specs.ManagerState.{ManagerState, answered_one, is_answered, IsManager, IsDue, AreWaiting, AreDistinct, waiting, writes_of, reads_of, due_bytes, due_resps}
 use Rattle.manager_end.specs.ManagerTable.{below, answering, left_waiting, with_issued, more, note_write, note_read, note_issue, ready, fits, beats_after, ending, ends_data, read_in, manager_aw, manager_w, manager_ar, manager_b, manager_r, manager_r_last, manager_next}
@@ -264,13 +264,13 @@ module _ (links : List LinkView) (number : ℕ) where
 pub manager-fits : ManagerMovesFit
 manager-fits links s = record {
   aw_take = tt;
-  aw_put = put-fits links s.lower (λ l. l.aw) (option_map (λ next. request_of next.1) (manager_aw links s)) (passing-room links s.lower (λ l. l.aw) (λ next. request_of next.1) (fits s.write_entries) (ready s.answered (slice_get (writes_of s.script) s.issued_writes)) (below links s).depth (below links s).aw);
+  aw_put = put-fits links s.lower (λ l. l.aw) (option_map (λ next. item_request next.1) (manager_aw links s)) (passing-room links s.lower (λ l. l.aw) (λ next. item_request next.1) (fits s.write_entries) (ready s.answered (slice_get (writes_of s.script) s.issued_writes)) (below links s).depth (below links s).aw);
   w_take = tt;
   w_put = put-fits links s.lower (λ l. l.w) (option_map (λ next. data_beat next.1 s.bus s.sent_beats) (manager_w links s)) (passing-room links s.lower (λ l. l.w) (λ next. data_beat next.1 s.bus s.sent_beats) (nat_lt s.sent_writes s.issued_writes) (slice_get (writes_of s.script) s.sent_writes) (below links s).depth (below links s).w);
   b_take = take-fits links s.lower (λ l. l.b) (is_some (manager_b links s)) (answering-head links s.lower (λ l. l.b) (λ beat. beat.id) s.write_entries (below links s).b);
   b_put = tt;
   ar_take = tt;
-  ar_put = put-fits links s.lower (λ l. l.ar) (option_map (λ next. request_of next.1) (manager_ar links s)) (passing-room links s.lower (λ l. l.ar) (λ next. request_of next.1) (fits s.read_entries) (ready s.answered (slice_get (reads_of s.script) s.issued_reads)) (below links s).depth (below links s).ar);
+  ar_put = put-fits links s.lower (λ l. l.ar) (option_map (λ next. item_request next.1) (manager_ar links s)) (passing-room links s.lower (λ l. l.ar) (λ next. item_request next.1) (fits s.read_entries) (ready s.answered (slice_get (reads_of s.script) s.issued_reads)) (below links s).depth (below links s).ar);
   r_take = take-fits links s.lower (λ l. l.r) (is_some (manager_r links s)) (answering-head links s.lower (λ l. l.r) (λ beat. beat.id) s.read_entries (below links s).r);
   r_put = tt;
 }

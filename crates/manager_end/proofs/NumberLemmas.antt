@@ -6,7 +6,7 @@ use Rattle.std.proofs.lemmas.Option.{get_or_from_slice_get, slice_get_within}
 use Rattle.std.proofs.lemmas.Simd.{map-map}
 use Rattle.axi_beats.specs.declared.beat.Addr.{Addr}
 use Rattle.axi_trail.specs.Words.{number_of_address}
-use Rattle.manager_end.specs.Beats.{request_of as request_of_item}
+use Rattle.manager_end.specs.Beats.{item_request}
 use Rattle.manager_end.specs.ManagerOrder.{IsAt, note_at}
 use Rattle.manager_end.specs.ManagerState.{ManagerState, NotesIssues, issued_of, of_direction}
 use Rattle.manager_end.specs.Script.{ScriptItem}
@@ -43,12 +43,12 @@ module _ (script : List ScriptItem) (numbered : AllPairs (λ (a b : ScriptItem).
 
 -- a transaction is noted as issued exactly where its number has been seen on the link
 pub issued-shown : (write : Bool) (s : ManagerState) (addresses : List Addr) → AllPairs (λ (a b : ScriptItem). a.txn.number < b.txn.number) s.script → NotesIssues s →
-    addresses ≡ map (λ (p : ℕ × ScriptItem). request_of_item p.1) (take (issued_of write s) (of_direction write s.script)) →
+    addresses ≡ map (λ (p : ℕ × ScriptItem). item_request p.1) (take (issued_of write s) (of_direction write s.script)) →
     (place : ℕ) (item : ScriptItem) → IsAt s place item → item.txn.write ≡ write → (0 < (note_at s place).issued) ↔ Contains (map number_of_address addresses) item.txn.number
 issued-shown write s addresses numbered issues put place item at directed =
     let of_way : (n : ℕ) × (slice_get (of_direction write s.script) n ≡ Some (place, item)) = direction-of write s.script place item at directed
     in let seen : map number_of_address addresses ≡ map number_of_item (take (issued_of write s) (of_direction write s.script)) =
-    ap (map number_of_address) put ∙ map-map number_of_address (λ (p : ℕ × ScriptItem). request_of_item p.1) (take (issued_of write s) (of_direction write s.script))
+    ap (map number_of_address) put ∙ map-map number_of_address (λ (p : ℕ × ScriptItem). item_request p.1) (take (issued_of write s) (of_direction write s.script))
     in let there : 0 < (note_at s place).issued → Contains (map number_of_item (take (issued_of write s) (of_direction write s.script))) item.txn.number =
     λ some.
     let less = (issues write of_way.0 (place, item) of_way.1).0 some

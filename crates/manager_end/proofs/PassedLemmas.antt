@@ -11,7 +11,7 @@ use Rattle.axi_link.specs.Table.{head_of, passing, put_of, take_of}
 use Rattle.axi_trail.specs.Trail.{moved_above, beat_taken}
 use Rattle.axi_trail.specs.Waiting.{Waiting, beats_by}
 use Rattle.axi_trail.specs.Words.{Reply, InOrderOfId, id_of_reply}
-use Rattle.manager_end.specs.Beats.{data_beat, request_of as request_of_item}
+use Rattle.manager_end.specs.Beats.{data_beat, item_request}
 use Rattle.manager_end.specs.ManagerState.{ManagerState, entry_of}
 use Rattle.manager_end.specs.ManagerTable.{answering, below, left_waiting, manager_aw, manager_w, manager_ar, manager_b, manager_r, manager_out, more, with_issued}
 use Rattle.manager_end.specs.Script.{ScriptItem}
@@ -41,14 +41,14 @@ module _ {X : Type 0} where
       in go (find (λ entry. entry.id == id_of x) entries)
 
 module _ (links : List LinkView) (s : ManagerState) where
-  pub aw-moved : (moved_above (manager_out links s) links s.lower).aw ≡ option_to_list (option_map (λ next. request_of_item next.1) (manager_aw links s))
-  aw-moved = put-moved s.lower (option_map (λ next. request_of_item next.1) (manager_aw links s))
+  pub aw-moved : (moved_above (manager_out links s) links s.lower).aw ≡ option_to_list (option_map (λ next. item_request next.1) (manager_aw links s))
+  aw-moved = put-moved s.lower (option_map (λ next. item_request next.1) (manager_aw links s))
 
   pub w-moved : (moved_above (manager_out links s) links s.lower).w ≡ option_to_list (option_map (λ next. data_beat next.1 s.bus s.sent_beats) (manager_w links s))
   w-moved = put-moved s.lower (option_map (λ next. data_beat next.1 s.bus s.sent_beats) (manager_w links s))
 
-  pub ar-moved : (moved_above (manager_out links s) links s.lower).ar ≡ option_to_list (option_map (λ next. request_of_item next.1) (manager_ar links s))
-  ar-moved = put-moved s.lower (option_map (λ next. request_of_item next.1) (manager_ar links s))
+  pub ar-moved : (moved_above (manager_out links s) links s.lower).ar ≡ option_to_list (option_map (λ next. item_request next.1) (manager_ar links s))
+  ar-moved = put-moved s.lower (option_map (λ next. item_request next.1) (manager_ar links s))
 
   pub b-moved : (moved_above (manager_out links s) links s.lower).b ≡ option_to_list (option_map (λ answer. answer.1) (manager_b links s))
   b-moved = take-moved s.lower (is_some (manager_b links s)) (below links s).b ∙ answer-moved (λ beat. beat.id) s.write_entries (below links s).b

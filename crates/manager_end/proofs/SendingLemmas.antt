@@ -8,7 +8,8 @@ use Rattle.axi_beats.specs.declared.beat.Tag.{Tag}
 use Rattle.axi_beats.specs.declared.beat.WBeat.{WBeat}
 use Rattle.axi_beats.specs.declared.lanes.Lanes.{Lanes}
 use Rattle.burst_address.specs.Bytes.{beat_bytes, burst_bytes, bytes_before}
-use Rattle.manager_end.specs.Beats.{beat_data, data_beat, lanes_from, low_lane, strobe_of}
+use Rattle.burst_address.specs.Lanes.{first_lane}
+use Rattle.manager_end.specs.Beats.{beat_data, data_beat, lanes_from, strobe_of}
 use Rattle.manager_end.specs.ManagerInside.{IsWithin}
 use Rattle.manager_end.specs.Placed.{placed}
 use Rattle.manager_end.specs.Script.{ScriptItem, sent_bytes}
@@ -73,7 +74,7 @@ next-data sending script place request bytes at has counts within =
 
 -- the beat that is made is the next one
 pub beat-is : (item : ScriptItem) (request : Addr) (txn : Txn) (bytes part : List WriteByte) (bus beats low start end : ℕ) (lanes : Lanes) (strobe : ℕ) (last : Bool) (tag : Tag) → item.txn.request ≡ request → item.bytes ≡ bytes → item.txn ≡ txn →
-    low ≡ low_lane bus request beats → start ≡ length (bytes_before request beats) → end - start ≡ length (beat_bytes request beats) → part ≡ take (end - start) (drop start bytes) →
+    low ≡ first_lane request beats bus → start ≡ length (bytes_before request beats) → end - start ≡ length (beat_bytes request beats) → part ≡ take (end - start) (drop start bytes) →
     lanes ≡ lanes_from low part → strobe ≡ strobe_of part * 2 ^ low → last ≡ (beats == request.len) → tag ≡ record { txn = txn.number; low = 0; high = 0 } →
     data_beat item bus beats ≡ record { lanes = lanes; strobe = strobe; last = last; tag = tag }
 beat-is item request txn bytes part bus beats low start end lanes strobe last tag same same_bytes same_txn lows starts size parts on_lanes strobes lasts tags =
@@ -81,10 +82,10 @@ beat-is item request txn bytes part bus beats low start end lanes strobe last ta
     ap (λ (a : Addr). take (length (beat_bytes a beats)) (drop (length (bytes_before a beats)) item.bytes)) same
     ∙ ap (λ (bs : List WriteByte). take (length (beat_bytes request beats)) (drop (length (bytes_before request beats)) bs)) same_bytes
     ∙ ap (λ (k : ℕ). take k (drop (length (bytes_before request beats)) bytes)) (sym size) ∙ ap (λ (k : ℕ). take (end - start) (drop k bytes)) (sym starts) ∙ sym parts
-    in let first : low_lane bus item.txn.request beats ≡ low = ap (λ (a : Addr). low_lane bus a beats) same ∙ sym lows
+    in let first : first_lane item.txn.request beats bus ≡ low = ap (λ (a : Addr). first_lane a beats bus) same ∙ sym lows
     in w-same _ lanes _ strobe _ last _ tag
-    (ap (lanes_from (low_lane bus item.txn.request beats)) own ∙ ap (λ (k : ℕ). lanes_from k part) first ∙ sym on_lanes)
-    (ap (λ (b : List WriteByte). strobe_of b * 2 ^ low_lane bus item.txn.request beats) own ∙ ap (λ (k : ℕ). strobe_of part * 2 ^ k) first ∙ sym strobes)
+    (ap (lanes_from (first_lane item.txn.request beats bus)) own ∙ ap (λ (k : ℕ). lanes_from k part) first ∙ sym on_lanes)
+    (ap (λ (b : List WriteByte). strobe_of b * 2 ^ first_lane item.txn.request beats bus) own ∙ ap (λ (k : ℕ). strobe_of part * 2 ^ k) first ∙ sym strobes)
     (ap (λ (a : Addr). beats == a.len) same ∙ sym lasts)
     (ap (λ (t : Txn). record { txn = t.number; low = 0; high = 0 }) same_txn ∙ sym tags)
   where

@@ -12,11 +12,11 @@ use Rattle.axi_beats.specs.declared.response.Resp.{Resp}
 use Rattle.axi_link.specs.LinkView.{LinkView}
 use Rattle.burst_address.specs.Formulas.{beats_of}
 use Rattle.axi_trail.specs.LinkContracts.{Answers}
-use Rattle.axi_trail.specs.Schedule.{Schedule, Span, Progress, bytes_on}
+use Rattle.axi_trail.specs.Schedule.{Schedule, Progress, bytes_on}
 use Rattle.axi_trail.specs.Trail.{Beats}
 use Rattle.axi_trail.specs.Words.{number_of_response, number_of_read_data}
 use Rattle.manager_end.specs.Answer.{AnswerView, answered_in, is_last}
-use Rattle.manager_end.specs.Beats.{high_lane, low_lane, bytes_on_valid_lanes}
+use Rattle.manager_end.specs.Beats.{bytes_on_valid_lanes}
 use Rattle.manager_end.specs.ManagerOrder.{IsAt, note_at}
 use Rattle.manager_end.specs.ManagerState.{ManagerState, IsDue, IsManager, due_resps, new_manager, of_direction, writes_of}
 use Rattle.manager_end.specs.ManagerTable.{manager_b, manager_r, manager_next, read_in}
@@ -35,6 +35,8 @@ use Rattle.manager_end.proofs.TrailLemmas.{ar-after, aw-after, b-after, b-number
 use Rattle.plain_lists.specs.Keys.{of_key}
 use Rattle.plain_lists.proofs.PrefixLemmas.{prefix_nil}
 use Rattle.plain_lists.proofs.PlaceLemmas.{at-all}
+use Rattle.axi_beats.specs.Lanes.{Span}
+use Rattle.burst_address.specs.Lanes.{last_lane, first_lane}
 
 -- the bytes of one more beat
 bytes-push : (rs : List RBeat) (spans : List Span) (r : RBeat) (span : Span) → slice_get spans (length rs) ≡ Some span → bytes_on (rs ++ r ∷ []) spans ≡ bytes_on rs spans ++ slice_range r.lanes span.low (span.high + 1)
@@ -47,9 +49,9 @@ bytes-push (q ∷ rs) (first ∷ spans) r span at =
     ∙ sym (append_assoc (slice_range q.lanes first.low (first.high + 1)) (bytes_on rs spans) (slice_range r.lanes span.low (span.high + 1)))
 
 -- the valid lanes of a beat
-span-at : (bus : ℕ) (request : Addr) (k : ℕ) → k < beats_of request → slice_get (spans_of bus request) k ≡ Some (record { low = low_lane bus request k; high = high_lane bus request k })
+span-at : (bus : ℕ) (request : Addr) (k : ℕ) → k < beats_of request → slice_get (spans_of bus request) k ≡ Some (record { low = first_lane request k bus; high = last_lane request k bus })
 span-at bus request k less =
-    let span : ℕ → Span = λ n. record { low = low_lane bus request n; high = high_lane bus request n }
+    let span : ℕ → Span = λ n. record { low = first_lane request n bus; high = last_lane request n bus }
     in let long : length (spans_of bus request) ≡ beats_of request = length-map-range_with_len span 0 (beats_of request)
     in let none : Span = record { low = 0; high = 0 }
     in slice_get-get_or (spans_of bus request) k none (subst (λ (n : ℕ). k < n) (sym long) less)

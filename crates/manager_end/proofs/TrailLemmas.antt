@@ -21,7 +21,7 @@ use Rattle.axi_trail.specs.Trail.{Beats}
 use Rattle.axi_trail.specs.Waiting.{Waiting, pending, waiting_shown}
 use Rattle.axi_trail.specs.Words.{Asked, InOrderOfId, Reply, beats_of, burst_asked, id_of_reply, number_of_asked, number_of_reply, number_of_response, number_of_read_data, read_reply, read_replies, write_asked, write_reply, write_replies}
 use Rattle.manager_end.specs.Answer.{is_last}
-use Rattle.manager_end.specs.Beats.{data_beat, request_of as request_of_item}
+use Rattle.manager_end.specs.Beats.{data_beat, item_request}
 use Rattle.manager_end.specs.ManagerOrder.{IsAt, note_at}
 use Rattle.manager_end.specs.ManagerState.{ManagerState, due_resps, entry_of, of_direction, writes_of, reads_of}
 use Rattle.manager_end.specs.ManagerTable.{below, ending, manager_aw, manager_w, manager_ar, manager_b, manager_r, manager_r_last, manager_next}
@@ -108,11 +108,11 @@ next-equal a b = elim (cases_eq a b) [
 
 module _ (schedule : Schedule) (now : Progress) (rounds : ℕ) (links : List LinkView) (s : ManagerState) (trail : Beats) (keeps : ManagerKeeps schedule rounds s trail) (answers : Answers schedule now (manager_trail links s trail)) where
   -- what has been put after the round
-  pub aw-after : (manager_trail links s trail).aw ≡ map (λ (p : ℕ × ScriptItem). request_of_item p.1) (take (manager_next (suc rounds) links s).issued_writes (writes_of s.script))
-  aw-after = put-grows (λ (p : ℕ × ScriptItem). request_of_item p.1) (writes_of s.script) s.issued_writes (manager_aw links s) trail.aw _ (aw-next links s) (aw-moved links s) keeps.passed.aw
+  pub aw-after : (manager_trail links s trail).aw ≡ map (λ (p : ℕ × ScriptItem). item_request p.1) (take (manager_next (suc rounds) links s).issued_writes (writes_of s.script))
+  aw-after = put-grows (λ (p : ℕ × ScriptItem). item_request p.1) (writes_of s.script) s.issued_writes (manager_aw links s) trail.aw _ (aw-next links s) (aw-moved links s) keeps.passed.aw
 
-  pub ar-after : (manager_trail links s trail).ar ≡ map (λ (p : ℕ × ScriptItem). request_of_item p.1) (take (manager_next (suc rounds) links s).issued_reads (reads_of s.script))
-  ar-after = put-grows (λ (p : ℕ × ScriptItem). request_of_item p.1) (reads_of s.script) s.issued_reads (manager_ar links s) trail.ar _ (ar-next links s) (ar-moved links s) keeps.passed.ar
+  pub ar-after : (manager_trail links s trail).ar ≡ map (λ (p : ℕ × ScriptItem). item_request p.1) (take (manager_next (suc rounds) links s).issued_reads (reads_of s.script))
+  ar-after = put-grows (λ (p : ℕ × ScriptItem). item_request p.1) (reads_of s.script) s.issued_reads (manager_ar links s) trail.ar _ (ar-next links s) (ar-moved links s) keeps.passed.ar
 
   pub w-after : (manager_trail links s trail).w ≡ sent_data (manager_next (suc rounds) links s)
   w-after =
@@ -128,13 +128,13 @@ module _ (schedule : Schedule) (now : Progress) (rounds : ℕ) (links : List Lin
 
   -- writes
   writes-before : InOrderOfId (map (asked_by (λ a. 0)) (take s.issued_writes (writes_of s.script))) (map write_reply trail.b)
-  writes-before = subst (λ (asked : List Asked). InOrderOfId asked (map write_reply trail.b)) (ap (map write_asked) keeps.passed.aw ∙ map-map write_asked (λ (p : ℕ × ScriptItem). request_of_item p.1) (take s.issued_writes (writes_of s.script))) keeps.passed.writes_in_order
+  writes-before = subst (λ (asked : List Asked). InOrderOfId asked (map write_reply trail.b)) (ap (map write_asked) keeps.passed.aw ∙ map-map write_asked (λ (p : ℕ × ScriptItem). item_request p.1) (take s.issued_writes (writes_of s.script))) keeps.passed.writes_in_order
 
   writes-after : InOrderOfId (map (asked_by (λ a. 0)) (take s.issued_writes (writes_of s.script) ++ option_to_list (manager_aw links s))) (map write_reply (trail.b ++ option_to_list (option_map (λ answer. answer.1) (manager_b links s))))
   writes-after =
       subst (λ (bs : List BBeat). InOrderOfId (map (asked_by (λ a. 0)) (take s.issued_writes (writes_of s.script) ++ option_to_list (manager_aw links s))) (map write_reply bs)) b-after
       (subst (λ (asked : List Asked). InOrderOfId asked (write_replies (manager_trail links s trail)))
-      (ap (map write_asked) aw-after ∙ map-map write_asked (λ (p : ℕ × ScriptItem). request_of_item p.1) (take (manager_next (suc rounds) links s).issued_writes (writes_of s.script)) ∙ ap (map (asked_by (λ a. 0))) (take-next (writes_of s.script) s.issued_writes (manager_aw links s) (aw-next links s)))
+      (ap (map write_asked) aw-after ∙ map-map write_asked (λ (p : ℕ × ScriptItem). item_request p.1) (take (manager_next (suc rounds) links s).issued_writes (writes_of s.script)) ∙ ap (map (asked_by (λ a. 0))) (take-next (writes_of s.script) s.issued_writes (manager_aw links s) (aw-next links s)))
       answers.answers_in_order_of_id)
 
   b-own : (x : Entry × BBeat) → manager_b links s ≡ Some x → find (λ (entry : Entry). entry.id == x.1.id) s.write_entries ≡ Some x.0
@@ -162,13 +162,13 @@ module _ (schedule : Schedule) (now : Progress) (rounds : ℕ) (links : List Lin
 
   -- reads
   reads-before : InOrderOfId (map (asked_by (λ a. a.len)) (take s.issued_reads (reads_of s.script))) (map read_reply trail.r)
-  reads-before = subst (λ (asked : List Asked). InOrderOfId asked (map read_reply trail.r)) (ap (map burst_asked) keeps.passed.ar ∙ map-map burst_asked (λ (p : ℕ × ScriptItem). request_of_item p.1) (take s.issued_reads (reads_of s.script))) keeps.passed.reads_in_order
+  reads-before = subst (λ (asked : List Asked). InOrderOfId asked (map read_reply trail.r)) (ap (map burst_asked) keeps.passed.ar ∙ map-map burst_asked (λ (p : ℕ × ScriptItem). item_request p.1) (take s.issued_reads (reads_of s.script))) keeps.passed.reads_in_order
 
   reads-after : InOrderOfId (map (asked_by (λ a. a.len)) (take s.issued_reads (reads_of s.script) ++ option_to_list (manager_ar links s))) (map read_reply (trail.r ++ option_to_list (option_map (λ answer. answer.1) (manager_r links s))))
   reads-after =
       subst (λ (rs : List RBeat). InOrderOfId (map (asked_by (λ a. a.len)) (take s.issued_reads (reads_of s.script) ++ option_to_list (manager_ar links s))) (map read_reply rs)) r-after
       (subst (λ (asked : List Asked). InOrderOfId asked (read_replies (manager_trail links s trail)))
-      (ap (map burst_asked) ar-after ∙ map-map burst_asked (λ (p : ℕ × ScriptItem). request_of_item p.1) (take (manager_next (suc rounds) links s).issued_reads (reads_of s.script)) ∙ ap (map (asked_by (λ a. a.len))) (take-next (reads_of s.script) s.issued_reads (manager_ar links s) (ar-next links s)))
+      (ap (map burst_asked) ar-after ∙ map-map burst_asked (λ (p : ℕ × ScriptItem). item_request p.1) (take (manager_next (suc rounds) links s).issued_reads (reads_of s.script)) ∙ ap (map (asked_by (λ a. a.len))) (take-next (reads_of s.script) s.issued_reads (manager_ar links s) (ar-next links s)))
       answers.reads_in_order_of_id)
 
   r-own : (x : Entry × RBeat) → manager_r links s ≡ Some x → find (λ (entry : Entry). entry.id == x.1.id) s.read_entries ≡ Some x.0

@@ -5,17 +5,18 @@ use Rattle.axi_beats.specs.declared.beat.Addr.{Addr}
 use Rattle.axi_beats.specs.declared.beat.Tag.{Tag}
 use Rattle.axi_beats.specs.declared.beat.WBeat.{WBeat}
 use Rattle.burst_address.specs.Bytes.{beat_bytes, bytes_before}
-use Rattle.burst_address.specs.Formulas.{beat_at, beats_of, lower_lane, size_of, upper_lane}
+use Rattle.burst_address.specs.Formulas.{beats_of}
+use Rattle.burst_address.specs.Lanes.{first_lane, last_lane}
 use Rattle.manager_end.specs.Script.{ScriptItem}
 use Rattle.manager_end.specs.declared.script.WriteByte.{WriteByte}
 
 -- the tag of a transaction's beats: its number, and no lanes
-abbrev pub tag_of : ScriptItem → Tag
-tag_of item = record { txn = item.txn.number; low = 0; high = 0 }
+abbrev pub item_tag : ScriptItem → Tag
+item_tag item = record { txn = item.txn.number; low = 0; high = 0 }
 
 -- the request of a transaction
-abbrev pub request_of : ScriptItem → Addr
-request_of item = record item.txn.request { tag = tag_of item }
+abbrev pub item_request : ScriptItem → Addr
+item_request item = record item.txn.request { tag = item_tag item }
 
 -- what is on a byte's lane: its value, and 0 for a byte without a strobe
 abbrev pub lane_of : WriteByte → ℕ
@@ -34,13 +35,6 @@ strobe_of (byte ∷ bytes) = (if byte.strobed then 1 else 0) + 2 * strobe_of byt
 abbrev pub lanes_from : ℕ → List WriteByte → List ℕ
 lanes_from low bytes = replicate low 0 ++ (map lane_of bytes ++ replicate (128 - low - length bytes) 0)
 
--- the lowest and the highest valid lane of a beat on a bus
-abbrev pub low_lane : ℕ → Addr → ℕ → ℕ
-low_lane bus request n = lower_lane bus (beat_at request n)
-
-abbrev pub high_lane : ℕ → Addr → ℕ → ℕ
-high_lane bus request n = upper_lane (size_of request) bus (beat_at request n)
-
 -- the bytes that a write sends with beat n: as many as the beat has valid ones, after those of the beats before it
 abbrev pub beat_data : ScriptItem → ℕ → List WriteByte
 beat_data item n = take (length (beat_bytes item.txn.request n)) (drop (length (bytes_before item.txn.request n)) item.bytes)
@@ -48,10 +42,10 @@ beat_data item n = take (length (beat_bytes item.txn.request n)) (drop (length (
 -- beat n of a write's data on a bus: its bytes on the valid lanes, with their strobes, and `last` on the last beat
 abbrev pub data_beat : ScriptItem → ℕ → ℕ → WBeat
 data_beat item bus n = record {
-  lanes = lanes_from (low_lane bus item.txn.request n) (beat_data item n);
-  strobe = strobe_of (beat_data item n) * 2 ^ low_lane bus item.txn.request n;
+  lanes = lanes_from (first_lane item.txn.request n bus) (beat_data item n);
+  strobe = strobe_of (beat_data item n) * 2 ^ first_lane item.txn.request n bus;
   last = n == item.txn.request.len;
-  tag = tag_of item;
+  tag = item_tag item;
 }
 
 -- all data beats of a write on a bus
@@ -60,4 +54,4 @@ data_beats item bus = map (data_beat item bus) (range_with_len 0 (beats_of item.
 
 -- of the bytes on all lanes, those on the valid lanes of beat n of a read
 abbrev pub bytes_on_valid_lanes : ℕ → Addr → ℕ → List ℕ → List ℕ
-bytes_on_valid_lanes bus request n lanes = slice_range lanes (low_lane bus request n) (high_lane bus request n + 1)
+bytes_on_valid_lanes bus request n lanes = slice_range lanes (first_lane request n bus) (last_lane request n bus + 1)

@@ -9,7 +9,7 @@ use Rattle.axi_link.specs.LinkView.{LinkView}
 use Rattle.axi_link.specs.Table.{link_of, head_of, has_room, passing, put_of, take_of}
 use Rattle.axi_link.specs.declared.out.Out.{Out}
 use Rattle.manager_end.specs.Answer.{AnswerView, issued_in, is_last, answered_in, noted, unanswered}
-use Rattle.manager_end.specs.Beats.{request_of, data_beat, bytes_on_valid_lanes}
+use Rattle.manager_end.specs.Beats.{data_beat, bytes_on_valid_lanes, item_request}
 use Rattle.manager_end.specs.ManagerState.{ManagerState, writes_of, reads_of}
 use Rattle.manager_end.specs.Script.{ScriptItem}
 use Rattle.manager_end.specs.declared.entry.Entry.{Entry}
@@ -134,13 +134,13 @@ manager_next round links s = record {
 abbrev pub manager_out : List LinkView → ManagerState → Out
 manager_out links s = record {
   aw_take = None;
-  aw_put = put_of s.lower (option_map (λ next. request_of next.1) (manager_aw links s));
+  aw_put = put_of s.lower (option_map (λ next. item_request next.1) (manager_aw links s));
   w_take = None;
   w_put = put_of s.lower (option_map (λ next. data_beat next.1 s.bus s.sent_beats) (manager_w links s));
   b_take = take_of s.lower (is_some (manager_b links s));
   b_put = None;
   ar_take = None;
-  ar_put = put_of s.lower (option_map (λ next. request_of next.1) (manager_ar links s));
+  ar_put = put_of s.lower (option_map (λ next. item_request next.1) (manager_ar links s));
   r_take = take_of s.lower (is_some (manager_r links s));
   r_put = None;
 }

@@ -6,18 +6,20 @@ use Rattle.std.specs.List.{range_with_len}
 use Rattle.axi_beats.specs.declared.beat.Addr.{Addr}
 use Rattle.axi_link.specs.LinkView.{LinkView}
 use Rattle.axi_trail.specs.LinkContracts.{Asks, Answers, without_id}
-use Rattle.axi_trail.specs.Schedule.{Schedule, Share, Span, Progress, SameChain, bytes_on}
+use Rattle.axi_trail.specs.Schedule.{Schedule, Share, Progress, SameChain, bytes_on}
 use Rattle.axi_trail.specs.Trail.{Beats, no_beats, joined, moved_above}
 use Rattle.axi_trail.specs.Waiting.{held, request_of}
 use Rattle.axi_trail.specs.Words.{InOrderOfId, number_of_address, number_of_response, number_of_read_data, reads_asked, read_replies, writes_asked, write_replies}
 use Rattle.burst_address.specs.Formulas.{beats_of}
 use Rattle.burst_address.specs.Legal.{IsLegal}
-use Rattle.manager_end.specs.Beats.{data_beats, high_lane, low_lane, request_of as request_of_item}
+use Rattle.manager_end.specs.Beats.{data_beats, item_request}
 use Rattle.manager_end.specs.ManagerOrder.{AreInOrder, IsAt, note_at}
 use Rattle.manager_end.specs.ManagerState.{ManagerState, IsManager, entry_of, new_manager, writes_of, reads_of}
 use Rattle.manager_end.specs.ManagerTable.{manager_next, manager_out}
 use Rattle.manager_end.specs.Script.{ScriptItem, IsScript}
 use Rattle.plain_lists.specs.Keys.{of_key}
+use Rattle.axi_beats.specs.Lanes.{Span}
+use Rattle.burst_address.specs.Lanes.{last_lane, first_lane}
 
 -- the shares of a direction
 abbrev pub shares_of : Schedule → Bool → ℕ → Share
@@ -25,12 +27,12 @@ shares_of schedule write = if write then schedule.writes else schedule.reads
 
 -- the valid lanes of each beat of a burst on a bus
 abbrev pub spans_of : ℕ → Addr → List Span
-spans_of bus request = map (λ n. record { low = low_lane bus request n; high = high_lane bus request n }) (range_with_len 0 (beats_of request))
+spans_of bus request = map (λ n. lanes_of request n bus) (range_with_len 0 (beats_of request))
 
 -- The schedule of the link below a manager has this transaction as it is: as one request, with its own data, and the
 -- valid lanes of its beats wanted.
 pub record HasItem (schedule : Schedule) (bus : ℕ) (item : ScriptItem) : Type 0 where
-  pub parts : (shares_of schedule item.txn.write item.txn.number).parts ≡ without_id (request_of_item item) ∷ []
+  pub parts : (shares_of schedule item.txn.write item.txn.number).parts ≡ without_id (item_request item) ∷ []
   pub write_data : item.txn.write ≡ true → (schedule.writes item.txn.number).write_data ≡ data_beats item bus ∷ []
   pub lanes : item.txn.write ≡ false → (schedule.reads item.txn.number).lanes ≡ spans_of bus item.txn.request
   pub id_fits : item.txn.request.id < 2 ^ schedule.id_width
@@ -89,9 +91,9 @@ pub record IsReadNote (schedule : Schedule) (s : ManagerState) (trail : Beats) (
 -- What a manager's state has to do with its trail.
 pub record HasPassed (schedule : Schedule) (s : ManagerState) (trail : Beats) : Type 0 where
   -- it has put the first requests of each direction, and the data of the first writes
-  pub aw : trail.aw ≡ map (λ (p : ℕ × ScriptItem). request_of_item p.1) (take s.issued_writes (writes_of s.script))
+  pub aw : trail.aw ≡ map (λ (p : ℕ × ScriptItem). item_request p.1) (take s.issued_writes (writes_of s.script))
   pub w : trail.w ≡ sent_data s
-  pub ar : trail.ar ≡ map (λ (p : ℕ × ScriptItem). request_of_item p.1) (take s.issued_reads (reads_of s.script))
+  pub ar : trail.ar ≡ map (λ (p : ℕ × ScriptItem). item_request p.1) (take s.issued_reads (reads_of s.script))
   -- those wait that are held
   pub write_entries : s.write_entries ≡ map entry_of (held_items true (take s.issued_writes (writes_of s.script)) (map (λ b. b.id) trail.b))
   pub read_entries : s.read_entries ≡ map entry_of (held_items false (take s.issued_reads (reads_of s.script)) (map (λ r. r.id) trail.r))

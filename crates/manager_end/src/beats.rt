@@ -6,7 +6,7 @@ ghost use Rattle.std.specs.Option.{option_map};
 ghost use Rattle.axi_beats.specs.Bus.{IsBusWidth};
 ghost use Rattle.axi_link.specs.Table.{put_of};
 ghost use Rattle.burst_address.specs.Legal.{IsLegal};
-ghost use Rattle.manager_end.specs.Beats.{data_beat, lane_of, lanes_from, request_of, strobe_of};
+ghost use Rattle.manager_end.specs.Beats.{data_beat, lane_of, lanes_from, item_request, strobe_of};
 ghost use Rattle.manager_end.specs.ManagerInside.{IsWithin};
 ghost use Rattle.manager_end.specs.Placed.{placed};
 
@@ -25,7 +25,7 @@ pub(crate) fn put_request(
 )
     requires { IfSome place (λ p. p < length script.now) }
     ensures { put.new ≡ put_of number
-        (option_map (λ next. request_of next.1) (placed script.now place)) }
+        (option_map (λ next. item_request next.1) (placed script.now place)) }
 {
     match place {
         Some(place) => {

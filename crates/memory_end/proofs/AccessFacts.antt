@@ -5,12 +5,13 @@ use Rattle.std.specs.List.{AllByRecursion}
 use Rattle.std.proofs.lemmas.Bool.{cases_eq, ne_eqb}
 use Rattle.std.proofs.lemmas.List.Elements.{filter-append}
 use Rattle.axi_trail.specs.Schedule.{Share, ComesBefore}
-use Rattle.memory_end.specs.Accesses.{accesses_of, left_at}
-use Rattle.memory_end.specs.Beats.{Byte}
+use Rattle.memory_end.specs.Accesses.{accesses_of, writes_at}
 use Rattle.memory_end.specs.Events.{Access, accesses}
 use Rattle.memory_end.specs.MemoryTrail.{AccessesInOrder}
 use Rattle.plain_lists.proofs.KeyLemmas.{filter_cons, filter_skip}
 use Rattle.plain_lists.proofs.PartLemmas.{split_append}
+use Rattle.burst_address.specs.Bytes.{Byte}
+use Rattle.burst_address.specs.Accesses.{value_after}
 
 -- the test of an access
 abbrev is_of : Bool → ℕ → Access → Bool
@@ -56,11 +57,6 @@ pub bytes-of_accesses : (number : ℕ) (write : Bool) (bytes : List Byte) → ma
 bytes-of_accesses number write [] = refl
 bytes-of_accesses number write (b ∷ bytes) = ap (λ t. b ∷ t) (bytes-of_accesses number write bytes)
 
--- accesses one after the other
-pub left_at-append : (address before : ℕ) (all more : List Access) → left_at address before (all ++ more) ≡ left_at address (left_at address before all) more
-left_at-append address before [] more = refl
-left_at-append address before (a ∷ all) more = left_at-append address (cond (a.write && a.byte.address == address) a.byte.value before) all more
-
 -- what each read of a beat is like
 pub record IsReadOf (P : Byte → Type 0) (number : ℕ) (a : Access) : Type 0 where
   pub read : a.write ≡ false
@@ -72,11 +68,11 @@ reads-are P number [] all = tt
 reads-are P number (b ∷ bytes) all = (record { read = refl; own = refl; byte = all.0 }, reads-are P number bytes all.1)
 
 -- reads change nothing
-pub left_at-reads : (P : Byte → Type 0) (number address before : ℕ) (reads : List Access) → AllByRecursion (IsReadOf P number) reads → left_at address before reads ≡ before
-left_at-reads P number address before [] all = refl
-left_at-reads P number address before (a ∷ reads) all =
-    ap (λ b. left_at address (cond (b && a.byte.address == address) a.byte.value before) reads) (all.0.read)
-    ∙ left_at-reads P number address before reads all.1
+pub value_after-reads : (P : Byte → Type 0) (number address before : ℕ) (reads : List Access) → AllByRecursion (IsReadOf P number) reads → value_after (writes_at address) (λ (a : Access). a.byte.value) before reads ≡ before
+value_after-reads P number address before [] all = refl
+value_after-reads P number address before (a ∷ reads) all =
+    ap (λ b. value_after (writes_at address) (λ (a : Access). a.byte.value) (cond (b && a.byte.address == address) a.byte.value before) reads) (all.0.read)
+    ∙ value_after-reads P number address before reads all.1
 
 -- what holds of each element holds at a place, and of those before it
 pub all_at : {X : Type 0} (P : X → Type 0) (before : List X) (x : X) (after : List X) → AllByRecursion P (before ++ x ∷ after) → (P x) × (AllByRecursion P before)

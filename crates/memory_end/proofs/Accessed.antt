@@ -4,14 +4,15 @@ use Rattle.axi_beats.specs.declared.beat.RBeat.{RBeat}
 use Rattle.axi_beats.specs.declared.beat.WBeat.{WBeat}
 use Rattle.axi_trail.specs.Schedule.{Schedule, bytes_on}
 use Rattle.axi_trail.specs.Words.{number_of_data, number_of_read_data}
-use Rattle.memory_end.specs.Accesses.{accesses_of, allowed_before, due_reads, due_writes, filled_bytes, left_at}
-use Rattle.memory_end.specs.Beats.{Byte}
+use Rattle.memory_end.specs.Accesses.{accesses_of, allowed_before, due_reads, due_writes, writes_at}
 use Rattle.memory_end.specs.Events.{Access, accesses}
 use Rattle.memory_end.specs.MemoryTrail.{AccessesInOrder}
 use Rattle.memory_end.specs.Status.{is_inside}
 use Rattle.memory_end.specs.Store.{Store, byte_at}
 use Rattle.memory_end.specs.declared.config.MemoryConfig.{MemoryConfig}
 use Rattle.plain_lists.specs.Keys.{of_key}
+use Rattle.burst_address.specs.Accesses.{answered_bytes, value_after}
+use Rattle.burst_address.specs.Bytes.{Byte}
 
 pub record Accessed (schedule : Schedule) (config : MemoryConfig) (store : Store) (w : List WBeat) (r : List RBeat) (all : List Access) : Type 0 where
   pub written : (number : ℕ) → map (λ (a : Access). a.byte) (accesses_of true number all) ≡ due_writes config (schedule.writes number) (length (of_key number_of_data number w))
@@ -19,9 +20,9 @@ pub record Accessed (schedule : Schedule) (config : MemoryConfig) (store : Store
   pub answered :
       (number : ℕ) →
       bytes_on (of_key number_of_read_data number r) (schedule.reads number).lanes
-      ≡ filled_bytes (allowed_before config (schedule.reads number) (length (of_key number_of_read_data number r))) (map (λ (a : Access). a.byte.value) (accesses_of false number all))
-  pub bytes : (address : ℕ) → IsTrue (is_inside config address) → left_at address config.fill all ≡ byte_at store address
-  pub latest : (earlier later : List Access) (a : Access) → all ≡ earlier ++ a ∷ later → a.write ≡ false → a.byte.value ≡ left_at a.byte.address config.fill earlier
+      ≡ answered_bytes (allowed_before config (schedule.reads number) (length (of_key number_of_read_data number r))) (map (λ (a : Access). a.byte.value) (accesses_of false number all))
+  pub bytes : (address : ℕ) → IsTrue (is_inside config address) → value_after (writes_at address) (λ (a : Access). a.byte.value) config.fill all ≡ byte_at store address
+  pub latest : (earlier later : List Access) (a : Access) → all ≡ earlier ++ a ∷ later → a.write ≡ false → a.byte.value ≡ value_after (writes_at a.byte.address) (λ (a : Access). a.byte.value) config.fill earlier
   pub writes_in_order : AccessesInOrder schedule.writes true all
   pub reads_in_order : AccessesInOrder schedule.reads false all
 

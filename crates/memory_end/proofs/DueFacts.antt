@@ -8,12 +8,12 @@ use Rattle.std.proofs.lemmas.List.Elements.{filter-append}
 use Rattle.std.proofs.lemmas.List.FromFn.{length-range_with_len}
 use Rattle.axi_beats.specs.declared.beat.Addr.{Addr}
 use Rattle.axi_beats.specs.declared.beat.WBeat.{WBeat}
-use Rattle.burst_address.specs.Bytes.{beat_bytes, burst_bytes, bytes_before}
+use Rattle.burst_address.specs.Bytes.{beat_bytes, burst_bytes, bytes_before, Byte}
 use Rattle.burst_address.specs.Formulas.{beats_of}
 use Rattle.burst_address.specs.Legal.{IsLegal}
 use Rattle.memory_end.specs.Accesses.{BeatOf, beats_of_parts, read_addresses}
-use Rattle.memory_end.specs.Beats.{Byte, written_bytes}
-use Rattle.memory_end.specs.BurstBytes.{DueReadsAreOfParts, DueWritesAreOfParts, all_written_bytes}
+use Rattle.memory_end.specs.Beats.{stored_bytes}
+use Rattle.memory_end.specs.BurstBytes.{DueReadsAreOfParts, DueWritesAreOfParts, all_stored_bytes}
 use Rattle.memory_end.specs.MemoryState.{IsMemoryConfig}
 use Rattle.memory_end.specs.Status.{is_inside}
 use Rattle.memory_end.specs.declared.config.MemoryConfig.{MemoryConfig}
@@ -57,17 +57,17 @@ due-reads config share is legal =
 
 module _ (config : MemoryConfig) where
   abbrev writes_of : BeatOf × WBeat → List Byte
-  writes_of b = written_bytes config b.0.request b.0.beat b.1
+  writes_of b = stored_bytes config b.0.request b.0.beat b.1
 
-  part-writes : (a : Addr) (n k : ℕ) (ws : List WBeat) → length ws ≡ k → flat_map writes_of (zip (map (beat_of a) (range_with_len n k)) ws) ≡ all_written_bytes config a n ws
+  part-writes : (a : Addr) (n k : ℕ) (ws : List WBeat) → length ws ≡ k → flat_map writes_of (zip (map (beat_of a) (range_with_len n k)) ws) ≡ all_stored_bytes config a n ws
   part-writes a n zero [] e = refl
   part-writes a n zero (w ∷ ws) e = absurd (omega arith)
   part-writes a n (suc k) [] e = absurd (omega arith)
   part-writes a n (suc k) (w ∷ ws) e =
-      ap (λ t. written_bytes config a n w ++ t) (part-writes a (n + 1) k ws (omega arith) ∙ ap (λ m. all_written_bytes config a m ws) (add-one n))
+      ap (λ t. stored_bytes config a n w ++ t) (part-writes a (n + 1) k ws (omega arith) ∙ ap (λ m. all_stored_bytes config a m ws) (add-one n))
 
   parts-write : (parts : List Addr) (sent : List (List WBeat)) → map (λ (ws : List WBeat). length ws) sent ≡ map beats_of parts →
-      flat_map writes_of (zip (beats_of_parts parts) (flat_map (λ (ws : List WBeat). ws) sent)) ≡ flat_map (λ (p : Addr × List WBeat). all_written_bytes config p.0 0 p.1) (zip parts sent)
+      flat_map writes_of (zip (beats_of_parts parts) (flat_map (λ (ws : List WBeat). ws) sent)) ≡ flat_map (λ (p : Addr × List WBeat). all_stored_bytes config p.0 0 p.1) (zip parts sent)
   parts-write [] [] e = refl
   parts-write [] (ws ∷ sent) e = absurd (cc)
   parts-write (a ∷ parts) [] e = absurd (cc)
@@ -80,7 +80,7 @@ module _ (config : MemoryConfig) where
       ap (flat_map writes_of) (zip-append beats (beats_of_parts parts) ws later long)
       ∙ flat_map-append writes_of (zip beats ws) (zip (beats_of_parts parts) later)
       ∙ ap (λ t. t ++ flat_map writes_of (zip (beats_of_parts parts) later)) (part-writes a 0 (beats_of a) ws own)
-      ∙ ap (λ t. all_written_bytes config a 0 ws ++ t) (parts-write parts sent rest)
+      ∙ ap (λ t. all_stored_bytes config a 0 ws ++ t) (parts-write parts sent rest)
 
 pub due-writes : DueWritesAreOfParts
 due-writes config share e =

@@ -7,9 +7,9 @@ use Rattle.std.proofs.lemmas.List.{length-map, map-append, drop_at, take_at}
 use Rattle.std.proofs.lemmas.Simd.{map-map}
 use Rattle.std.proofs.lemmas.List.FromFn.{length-range_with_len}
 use Rattle.axi_beats.specs.declared.beat.RBeat.{RBeat}
-use Rattle.axi_trail.specs.Schedule.{Span, bytes_on}
-use Rattle.memory_end.specs.Accesses.{BeatOf, allowed_bytes, filled_bytes, read_addresses, span_of}
-use Rattle.memory_end.specs.Beats.{Byte, answered_byte, answered_lanes, first_lane, lane_address, lane_count, read_bytes, valid_lanes}
+use Rattle.axi_trail.specs.Schedule.{bytes_on}
+use Rattle.memory_end.specs.Accesses.{BeatOf, allowed_bytes, read_addresses, span_of}
+use Rattle.memory_end.specs.Beats.{answered_byte, answered_lanes, read_bytes}
 use Rattle.memory_end.specs.MemoryState.{IsMemoryConfig}
 use Rattle.memory_end.specs.Status.{is_okay, read_status}
 use Rattle.memory_end.specs.Store.{Store, byte_at}
@@ -18,13 +18,17 @@ use Rattle.memory_end.proofs.LaneFacts.{lanes-within}
 use Rattle.plain_lists.specs.Prefixes.{IsPrefix}
 use Rattle.plain_lists.proofs.PrefixLemmas.{prefix_cons, prefix_itself, prefix_nil}
 use Rattle.plain_lists.proofs.RangeLemmas.{map-range-agree, range-split}
+use Rattle.axi_beats.specs.Lanes.{Span}
+use Rattle.burst_address.specs.Accesses.{answered_bytes}
+use Rattle.burst_address.specs.Bytes.{Byte}
+use Rattle.burst_address.specs.Lanes.{first_lane, lane_address, lane_count, valid_lanes}
 
 -- how many are allowed
 abbrev pub count_allowed : List Bool → ℕ
 count_allowed allowed = length (filter (λ b. b) allowed)
 
 -- bytes of more beats, where those of the first ones have all been read
-pub filled-append : (allowed more : List Bool) (values others : List ℕ) → length values ≡ count_allowed allowed → filled_bytes (allowed ++ more) (values ++ others) ≡ filled_bytes allowed values ++ filled_bytes more others
+pub filled-append : (allowed more : List Bool) (values others : List ℕ) → length values ≡ count_allowed allowed → answered_bytes (allowed ++ more) (values ++ others) ≡ answered_bytes allowed values ++ answered_bytes more others
 filled-append [] more [] others e = refl
 filled-append [] more (v ∷ values) others e = absurd (omega arith)
 filled-append (false ∷ allowed) more values others e = ap (λ t. 0 ∷ t) (filled-append allowed more values others e)
@@ -32,17 +36,17 @@ filled-append (true ∷ allowed) more [] others e = absurd (omega arith)
 filled-append (true ∷ allowed) more (v ∷ values) others e = ap (λ t. v ∷ t) (filled-append allowed more values others (omega arith))
 
 -- the bytes of fewer beats are the first ones
-pub filled-front : (allowed more : List Bool) (values : List ℕ) → IsPrefix (filled_bytes allowed values) (filled_bytes (allowed ++ more) values)
-filled-front [] more values = prefix_nil (filled_bytes more values)
+pub filled-front : (allowed more : List Bool) (values : List ℕ) → IsPrefix (answered_bytes allowed values) (answered_bytes (allowed ++ more) values)
+filled-front [] more values = prefix_nil (answered_bytes more values)
 filled-front (false ∷ allowed) more values = prefix_cons 0 (filled-front allowed more values)
 filled-front (true ∷ allowed) more [] = prefix_itself []
 filled-front (true ∷ allowed) more (v ∷ values) = prefix_cons v (filled-front allowed more values)
 
 -- the bytes of one beat: those that pass a test are read
-filled-tested : (test : ℕ → Bool) (value : ℕ → ℕ) (lanes : List ℕ) → filled_bytes (map test lanes) (map value (filter test lanes)) ≡ map (λ lane. cond (test lane) (value lane) 0) lanes
+filled-tested : (test : ℕ → Bool) (value : ℕ → ℕ) (lanes : List ℕ) → answered_bytes (map test lanes) (map value (filter test lanes)) ≡ map (λ lane. cond (test lane) (value lane) 0) lanes
 filled-tested test value [] = refl
 filled-tested test value (k ∷ lanes) =
-    let go : (b : Bool) → filled_bytes (b ∷ map test lanes) (map value (cond b (k ∷ filter test lanes) (filter test lanes))) ≡ cond b (value k) 0 ∷ map (λ lane. cond (test lane) (value lane) 0) lanes =
+    let go : (b : Bool) → answered_bytes (b ∷ map test lanes) (map value (cond b (k ∷ filter test lanes) (filter test lanes))) ≡ cond b (value k) 0 ∷ map (λ lane. cond (test lane) (value lane) 0) lanes =
     elim [ true ↦ ap (λ t. value k ∷ t) (filled-tested test value lanes) | false ↦ ap (λ t. 0 ∷ t) (filled-tested test value lanes) ]
     in go (test k)
 
@@ -106,19 +110,19 @@ slice-range g end low count some le =
 -- the lanes of an answer beat that are wanted have the bytes that were read for it
 pub filled-beat : (config : MemoryConfig) (store : Store) (b : BeatOf) → IsMemoryConfig config →
     slice_range (answered_lanes config store b.request b.beat) (span_of config b).low ((span_of config b).high + 1)
-    ≡ filled_bytes (allowed_bytes config b) (map (λ (byte : Byte). byte.value) (read_bytes config store b.request b.beat))
+    ≡ answered_bytes (allowed_bytes config b) (map (λ (byte : Byte). byte.value) (read_bytes config store b.request b.beat))
 filled-beat config store b is =
     let bounds : (0 < lane_count b.request b.beat config.bus) × (first_lane b.request b.beat config.bus + lane_count b.request b.beat config.bus ≤ config.bus) × (config.bus ≤ 128) = lanes-within b.request b.beat config.bus is.bus in
     of_lanes (first_lane b.request b.beat config.bus) (lane_count b.request b.beat config.bus) (λ lane. lane_address b.request b.beat config.bus lane) bounds.0 (omega (arith, bounds.1, bounds.2))
   where
     of_lanes : (low count : ℕ) (address : ℕ → ℕ) → 0 < count → low + count ≤ 128 →
         slice_range (map (λ lane. cond (leb low lane && ltb lane (low + count)) (answered_byte config store (address lane)) 0) (range_with_len 0 128)) low (low + count - 1 + 1)
-        ≡ filled_bytes (map (λ lane. is_okay (read_status config (address lane))) (range_with_len low count))
+        ≡ answered_bytes (map (λ lane. is_okay (read_status config (address lane))) (range_with_len low count))
         (map (λ (byte : Byte). byte.value) (map (λ lane. record { address = address lane; value = byte_at store (address lane) }) (filter (λ lane. is_okay (read_status config (address lane))) (range_with_len low count))))
     of_lanes low count address some le =
         slice-range (λ lane. cond (leb low lane && ltb lane (low + count)) (answered_byte config store (address lane)) 0) 128 low count some le
         ∙ map-range-agree (λ lane. cond (leb low lane && ltb lane (low + count)) (answered_byte config store (address lane)) 0) (λ lane. answered_byte config store (address lane)) low count
         (λ k from below. ap (λ c. cond (c && ltb k (low + count)) (answered_byte config store (address k)) 0) (le-leb low k from) ∙ ap (λ c. cond (true && c) (answered_byte config store (address k)) 0) (lt-ltb k (low + count) below))
         ∙ sym (filled-tested (λ lane. is_okay (read_status config (address lane))) (λ lane. byte_at store (address lane)) (range_with_len low count))
-        ∙ ap (filled_bytes (map (λ lane. is_okay (read_status config (address lane))) (range_with_len low count)))
+        ∙ ap (answered_bytes (map (λ lane. is_okay (read_status config (address lane))) (range_with_len low count)))
         (sym (map-map (λ (byte : Byte). byte.value) (λ lane. record { address = address lane; value = byte_at store (address lane) }) (filter (λ lane. is_okay (read_status config (address lane))) (range_with_len low count))))

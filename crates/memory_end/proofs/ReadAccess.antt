@@ -9,10 +9,10 @@ use Rattle.axi_beats.specs.declared.beat.RBeat.{RBeat}
 use Rattle.axi_beats.specs.declared.beat.WBeat.{WBeat}
 use Rattle.axi_beats.specs.declared.response.Resp.TheVariants.{Okay, DecErr}
 use Rattle.axi_trail.specs.LinkContracts.{without_id}
-use Rattle.axi_trail.specs.Schedule.{ComesBefore, Schedule, Share, Span, bytes_on}
+use Rattle.axi_trail.specs.Schedule.{ComesBefore, Schedule, Share, bytes_on}
 use Rattle.axi_trail.specs.Words.{number_of_read_data}
-use Rattle.memory_end.specs.Accesses.{BeatOf, accesses_of, allowed_before, allowed_bytes, beats_of_parts, due_reads, filled_bytes, left_at, read_addresses, span_of}
-use Rattle.memory_end.specs.Beats.{Byte, lane_address, read_bytes, valid_lanes}
+use Rattle.memory_end.specs.Accesses.{BeatOf, accesses_of, allowed_before, allowed_bytes, beats_of_parts, due_reads, read_addresses, span_of, writes_at}
+use Rattle.memory_end.specs.Beats.{read_bytes}
 use Rattle.memory_end.specs.Events.{Access, accesses}
 use Rattle.memory_end.specs.MemoryState.{IsMemoryConfig}
 use Rattle.memory_end.specs.MemoryTable.{next_beat}
@@ -20,13 +20,18 @@ use Rattle.memory_end.specs.Status.{is_inside, is_okay, read_status}
 use Rattle.memory_end.specs.Store.{Store, byte_at}
 use Rattle.memory_end.specs.declared.config.MemoryConfig.{MemoryConfig}
 use Rattle.memory_end.specs.declared.entry.ReadEntry.{ReadEntry}
-use Rattle.memory_end.proofs.AccessFacts.{IsReadOf, accesses_of-append, accesses_of-opposite, accesses_of-other, accesses_of-own, all_at, left_at-append, left_at-reads, order-more, order-other, reads-are}
+use Rattle.memory_end.proofs.AccessFacts.{IsReadOf, accesses_of-append, accesses_of-opposite, accesses_of-other, accesses_of-own, all_at, order-more, order-other, reads-are, value_after-reads}
 use Rattle.memory_end.proofs.Accessed.{Accessed, addresses-of_accesses, nil-of_map, values-of_accesses}
 use Rattle.memory_end.proofs.FillFacts.{bytes_on-more, count-reads, count_allowed, filled-append, filled-beat}
 use Rattle.memory_end.proofs.LaneFacts.{allowed-without_id, reads-without_id, span-without_id}
 use Rattle.plain_lists.proofs.KeyLemmas.{of_key-push, of_key-push_other}
 use Rattle.plain_lists.specs.Keys.{of_key}
 use Rattle.plain_lists.proofs.PartLemmas.{flat_map_next, split_append}
+use Rattle.axi_beats.specs.Lanes.{Span}
+use Rattle.burst_address.specs.Accesses.{answered_bytes, value_after}
+use Rattle.burst_address.specs.Bytes.{Byte}
+use Rattle.burst_address.specs.Lanes.{lane_address, valid_lanes}
+use Rattle.burst_address.proofs.AccessValues.{value_after-append}
 
 -- a byte that is read is in the memory, and has the value that the store has
 record IsStored (config : MemoryConfig) (store : Store) (byte : Byte) : Type 0 where
@@ -135,7 +140,7 @@ module _ (schedule : Schedule) (config : MemoryConfig) (store : Store) (e : Read
         ∙ ap length (is.read t)
         ∙ sym (count-reads config (take so_far (beats_of_parts share.parts)))
 
-    wanted : bytes_on (of_key number_of_read_data t (r ++ beat ∷ [])) share.lanes ≡ bytes_on (of_key number_of_read_data t r) share.lanes ++ filled_bytes (allowed_bytes config now) (map (λ (b : Byte). b.value) bytes_read)
+    wanted : bytes_on (of_key number_of_read_data t (r ++ beat ∷ [])) share.lanes ≡ bytes_on (of_key number_of_read_data t r) share.lanes ++ answered_bytes (allowed_bytes config now) (map (λ (b : Byte). b.value) bytes_read)
     wanted =
         let spans : drop so_far share.lanes ≡ span_of config now ∷ map (span_of config) next.rest =
         ap (drop so_far) next.lanes
@@ -147,33 +152,33 @@ module _ (schedule : Schedule) (config : MemoryConfig) (store : Store) (e : Read
         ∙ ap (λ xs. bytes_on (of_key number_of_read_data t r) share.lanes ++ xs) (filled-beat config store now next.is_config)
 
     answered-own : bytes_on (of_key number_of_read_data t (r ++ beat ∷ [])) share.lanes
-        ≡ filled_bytes (allowed_before config share (length (of_key number_of_read_data t (r ++ beat ∷ [])))) (map (λ (a : Access). a.byte.value) (accesses_of false t (all ++ new)))
+        ≡ answered_bytes (allowed_before config share (length (of_key number_of_read_data t (r ++ beat ∷ [])))) (map (λ (a : Access). a.byte.value) (accesses_of false t (all ++ new)))
     answered-own =
         wanted
-        ∙ ap (λ xs. xs ++ filled_bytes (allowed_bytes config now) (map (λ (b : Byte). b.value) bytes_read)) (is.answered t)
+        ∙ ap (λ xs. xs ++ answered_bytes (allowed_bytes config now) (map (λ (b : Byte). b.value) bytes_read)) (is.answered t)
         ∙ sym (filled-append (allowed_before config share so_far) (allowed_bytes config now) (map (λ (a : Access). a.byte.value) (accesses_of false t all)) (map (λ (b : Byte). b.value) bytes_read) values-counted)
-        ∙ ap (λ xs. filled_bytes xs (map (λ (a : Access). a.byte.value) (accesses_of false t all) ++ map (λ (b : Byte). b.value) bytes_read)) (sym allowed-more ∙ ap (allowed_before config share) (sym own-count))
-        ∙ ap (filled_bytes (allowed_before config share (length (of_key number_of_read_data t (r ++ beat ∷ [])))))
+        ∙ ap (λ xs. answered_bytes xs (map (λ (a : Access). a.byte.value) (accesses_of false t all) ++ map (λ (b : Byte). b.value) bytes_read)) (sym allowed-more ∙ ap (allowed_before config share) (sym own-count))
+        ∙ ap (answered_bytes (allowed_before config share (length (of_key number_of_read_data t (r ++ beat ∷ [])))))
         (sym (ap (map (λ (a : Access). a.byte.value)) own-accesses
         ∙ map-append (λ (a : Access). a.byte.value) (accesses_of false t all) new
         ∙ ap (λ xs. map (λ (a : Access). a.byte.value) (accesses_of false t all) ++ xs) (values-of_accesses t false bytes_read)))
 
     answered-more : (number : ℕ) → bytes_on (of_key number_of_read_data number (r ++ beat ∷ [])) (schedule.reads number).lanes
-        ≡ filled_bytes (allowed_before config (schedule.reads number) (length (of_key number_of_read_data number (r ++ beat ∷ [])))) (map (λ (a : Access). a.byte.value) (accesses_of false number (all ++ new)))
+        ≡ answered_bytes (allowed_before config (schedule.reads number) (length (of_key number_of_read_data number (r ++ beat ∷ [])))) (map (λ (a : Access). a.byte.value) (accesses_of false number (all ++ new)))
     answered-more number = elim (cases_eq t number) [
       | inl own ↦ subst (λ (n : ℕ). bytes_on (of_key number_of_read_data n (r ++ beat ∷ [])) (schedule.reads n).lanes
-          ≡ filled_bytes (allowed_before config (schedule.reads n) (length (of_key number_of_read_data n (r ++ beat ∷ [])))) (map (λ (a : Access). a.byte.value) (accesses_of false n (all ++ new)))) own answered-own
+          ≡ answered_bytes (allowed_before config (schedule.reads n) (length (of_key number_of_read_data n (r ++ beat ∷ [])))) (map (λ (a : Access). a.byte.value) (accesses_of false n (all ++ new)))) own answered-own
       | inr ne ↦
           ap (λ xs. bytes_on xs (schedule.reads number).lanes) (of_key-push_other number_of_read_data number r beat ne)
           ∙ is.answered number
-          ∙ ap (λ xs. filled_bytes (allowed_before config (schedule.reads number) (length xs)) (map (λ (a : Access). a.byte.value) (accesses_of false number all))) (sym (of_key-push_other number_of_read_data number r beat ne))
-          ∙ ap (λ xs. filled_bytes (allowed_before config (schedule.reads number) (length (of_key number_of_read_data number (r ++ beat ∷ [])))) (map (λ (a : Access). a.byte.value) xs)) (sym (other-accesses number ne))
+          ∙ ap (λ xs. answered_bytes (allowed_before config (schedule.reads number) (length xs)) (map (λ (a : Access). a.byte.value) (accesses_of false number all))) (sym (of_key-push_other number_of_read_data number r beat ne))
+          ∙ ap (λ xs. answered_bytes (allowed_before config (schedule.reads number) (length (of_key number_of_read_data number (r ++ beat ∷ [])))) (map (λ (a : Access). a.byte.value) xs)) (sym (other-accesses number ne))
     ]
 
     reads-stored : AllByRecursion (IsReadOf (IsStored config store) t) new
     reads-stored = reads-are (IsStored config store) t bytes_read (stored-lanes config store (λ lane. lane_address e.request e.put config.bus lane) (valid_lanes e.request e.put config.bus))
 
-    latest-more : (earlier later : List Access) (a : Access) → all ++ new ≡ earlier ++ a ∷ later → a.write ≡ false → a.byte.value ≡ left_at a.byte.address config.fill earlier
+    latest-more : (earlier later : List Access) (a : Access) → all ++ new ≡ earlier ++ a ∷ later → a.write ≡ false → a.byte.value ≡ value_after (writes_at a.byte.address) (λ (a : Access). a.byte.value) config.fill earlier
     latest-more earlier later a at way = elim (split_append all new earlier a later at) [
       | inl old ↦ is.latest earlier old.0 a old.1 way
       | inr mine ↦
@@ -181,9 +186,9 @@ module _ (schedule : Schedule) (config : MemoryConfig) (store : Store) (e : Read
           all_at (IsReadOf (IsStored config store) t) mine.0 a later (subst (λ (xs : List Access). AllByRecursion (IsReadOf (IsStored config store) t) xs) mine.1 reads-stored) in
           here.0.byte.value
           ∙ sym (is.bytes a.byte.address here.0.byte.inside)
-          ∙ sym (left_at-reads (IsStored config store) t a.byte.address (left_at a.byte.address config.fill all) mine.0 here.1)
-          ∙ sym (left_at-append a.byte.address config.fill all mine.0)
-          ∙ ap (left_at a.byte.address config.fill) (sym mine.2)
+          ∙ sym (value_after-reads (IsStored config store) t a.byte.address (value_after (writes_at a.byte.address) (λ (a : Access). a.byte.value) config.fill all) mine.0 here.1)
+          ∙ sym (value_after-append (writes_at a.byte.address) (λ (a : Access). a.byte.value) config.fill all mine.0)
+          ∙ ap (value_after (writes_at a.byte.address) (λ (a : Access). a.byte.value) config.fill) (sym mine.2)
     ]
 
     pub accessed-read : Accessed schedule config store w (r ++ beat ∷ []) (all ++ new)
@@ -192,8 +197,8 @@ module _ (schedule : Schedule) (config : MemoryConfig) (store : Store) (e : Read
       read = read-more;
       answered = answered-more;
       bytes = λ address inside.
-          left_at-append address config.fill all new
-          ∙ left_at-reads (IsStored config store) t address (left_at address config.fill all) new reads-stored
+          value_after-append (writes_at address) (λ (a : Access). a.byte.value) config.fill all new
+          ∙ value_after-reads (IsStored config store) t address (value_after (writes_at address) (λ (a : Access). a.byte.value) config.fill all) new reads-stored
           ∙ is.bytes address inside;
       latest = latest-more;
       writes_in_order = order-other schedule.writes false all t bytes_read is.writes_in_order;

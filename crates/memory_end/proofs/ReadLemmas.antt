@@ -7,7 +7,7 @@ use Rattle.std.proofs.lemmas.List.{get_or-set_same, get_or-set_other}
 use Rattle.std.proofs.lemmas.Option.{slice_get-get_or, unwrap_or-slice_get}
 use Rattle.flight.specs.Entries.{place_of}
 use Rattle.flight.proofs.EntryFacts.{some-inner}
-use Rattle.memory_end.specs.Store.{Store, IsStore, ReadsWritten, ReadsOthers, line_of, byte_place, byte_at, written_at}
+use Rattle.memory_end.specs.Store.{Store, IsStore, ReadsWritten, ReadsOthers, line_of, byte_place, byte_at, with_byte_at}
 use Rattle.memory_end.proofs.StoreLemmas.{place_of-first}
 
 -- a list has one value at a place, whatever is told beyond its end
@@ -55,8 +55,8 @@ byte_place-kept store address is kept =
 pub reads-written : ReadsWritten
 reads-written store address value is kept =
     let (place, e, lt) = byte_place-kept store address is kept in
-    ap (λ o. byte_at (written_at store o value) address) e
-    ∙ byte_at-kept (written_at store (Some place) value) address place e
+    ap (λ o. byte_at (with_byte_at store o value) address) e
+    ∙ byte_at-kept (with_byte_at store (Some place) value) address place e
     ∙ get_or-set_same store.bytes place value store.fill lt
 
 -- a kept place is that of its line and of its offset
@@ -82,7 +82,7 @@ place-once store a b place at_a at_b =
 
 pub reads-others : ReadsOthers
 reads-others store address other value is different =
-    let go : (o p : Option ℕ) → byte_place store address ≡ o → byte_place store other ≡ p → byte_at (written_at store o value) other ≡ byte_at store other =
+    let go : (o p : Option ℕ) → byte_place store address ≡ o → byte_place store other ≡ p → byte_at (with_byte_at store o value) other ≡ byte_at store other =
     elim [
       | None ↦ λ p at_address at_other. refl
       | Some place ↦ elim [
@@ -91,7 +91,7 @@ reads-others store address other value is different =
             ∙ sym (ap (λ o. unwrap_or (option_and_then (slice_get store.bytes) o) store.fill) at_other)
         | Some there ↦ λ at_address at_other.
             let apart : there ≢ place = λ e. different (place-once store address other place at_address (at_other ∙ ap (λ (n : ℕ). Some n) e)) in
-            byte_at-kept (written_at store (Some place) value) other there at_other
+            byte_at-kept (with_byte_at store (Some place) value) other there at_other
             ∙ get_or-set_other store.bytes place there value store.fill apart
             ∙ sym (byte_at-kept store other there at_other)
       ]

@@ -17,7 +17,7 @@ use Rattle.axi_trail.proofs.SlackFacts.{in_order_goes_up}
 use Rattle.axi_trail.proofs.StepFacts.{answer_keeps_order, answers_within, held-shown, next_goes_on, pending-shown}
 use Rattle.axi_trail.proofs.WaitingFacts.{pending-beat, pending-request}
 use Rattle.memory_end.specs.Accesses.{BeatOf, beats_of_parts}
-use Rattle.memory_end.specs.Beats.{answered_byte, answered_lanes, is_valid, lane_address, valid_status}
+use Rattle.memory_end.specs.Beats.{answered_byte, answered_lanes, valid_status}
 use Rattle.memory_end.specs.MemoryTable.{after_r, next_beat}
 use Rattle.memory_end.specs.Store.{Store}
 use Rattle.memory_end.specs.Tracks.{TracksReads, len_of_address, read_waiting}
@@ -29,6 +29,7 @@ use Rattle.plain_lists.specs.Prefixes.{IsPrefix}
 use Rattle.plain_lists.proofs.KeyLemmas.{of_key-cons, of_key-map, of_key-push, of_key-push_other}
 use Rattle.plain_lists.proofs.PrefixLemmas.{prefix_flat_map, prefix_length, prefix_map, prefix_append, prefix_itself, prefix_trans, prefix_next}
 use Rattle.plain_lists.specs.Keys.{count_of, of_key}
+use Rattle.burst_address.specs.Lanes.{is_valid, lane_address}
 
 -- the beats of answers, by what they show
 abbrev pub read_marks : List RBeat → List Mark

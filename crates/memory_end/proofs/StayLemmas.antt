@@ -12,14 +12,15 @@ use Rattle.axi_link.specs.LinkView.{LinkView}
 use Rattle.axi_link.specs.Table.{head_of, has_room, passing}
 use Rattle.axi_link.proofs.KeepLemmas.{passing-has}
 use Rattle.burst_address.specs.Formulas.{beats_of}
+use Rattle.burst_address.specs.Bytes.{Byte}
 use Rattle.memory_end.specs.declared.config.MemoryConfig.{MemoryConfig}
 use Rattle.memory_end.specs.declared.entry.WriteEntry.{WriteEntry}
 use Rattle.memory_end.specs.declared.entry.ReadEntry.{ReadEntry}
-use Rattle.memory_end.specs.Beats.{Byte, all_written, written_bytes}
+use Rattle.memory_end.specs.Beats.{with_bytes, stored_bytes}
 use Rattle.memory_end.specs.Laws.{KeepsArguments, NewIsMemory, StaysMemory}
 use Rattle.memory_end.specs.MemoryState.{AreLinesAmong, IsReadEntry, IsRequest, IsWriteEntry}
 use Rattle.memory_end.specs.MemoryTable.{after_aw, after_ar, after_b, after_r, after_w, fits, lacks_data, memory_link, memory_aw, memory_ar, memory_b, memory_r, memory_w, next_beat, oldest_lacking, put_read, store_after, store_with, with_beat, with_data}
-use Rattle.memory_end.specs.Store.{Store, IsStore, byte_place, written, written_at}
+use Rattle.memory_end.specs.Store.{Store, IsStore, byte_place, with_byte, with_byte_at}
 
 -- bytes are written over, and nothing else changes
 pub record Keeps (before after : Store) : Type 0 where
@@ -27,20 +28,20 @@ pub record Keeps (before after : Store) : Type 0 where
   pub size : length after.bytes ≡ length before.bytes
   pub fill : after.fill ≡ before.fill
 
-pub written_at-keeps : (store : Store) (place : Option ℕ) (value : ℕ) → Keeps store (written_at store place value)
-written_at-keeps store None value = record { lines = refl; size = refl; fill = refl }
-written_at-keeps store (Some place) value = record { lines = refl; size = length-set store.bytes place value; fill = refl }
+pub with_byte_at-keeps : (store : Store) (place : Option ℕ) (value : ℕ) → Keeps store (with_byte_at store place value)
+with_byte_at-keeps store None value = record { lines = refl; size = refl; fill = refl }
+with_byte_at-keeps store (Some place) value = record { lines = refl; size = length-set store.bytes place value; fill = refl }
 
-all_written-keeps : (bytes : List Byte) (store : Store) → Keeps store (all_written store bytes)
-all_written-keeps [] store = record { lines = refl; size = refl; fill = refl }
-all_written-keeps (byte ∷ bytes) store =
-    let first : Keeps store (written store byte.address byte.value) = written_at-keeps store (byte_place store byte.address) byte.value in
-    let rest : Keeps (written store byte.address byte.value) (all_written (written store byte.address byte.value) bytes) = all_written-keeps bytes (written store byte.address byte.value) in
+with_bytes-keeps : (bytes : List Byte) (store : Store) → Keeps store (with_bytes store bytes)
+with_bytes-keeps [] store = record { lines = refl; size = refl; fill = refl }
+with_bytes-keeps (byte ∷ bytes) store =
+    let first : Keeps store (with_byte store byte.address byte.value) = with_byte_at-keeps store (byte_place store byte.address) byte.value in
+    let rest : Keeps (with_byte store byte.address byte.value) (with_bytes (with_byte store byte.address byte.value) bytes) = with_bytes-keeps bytes (with_byte store byte.address byte.value) in
     record { lines = rest.lines ∙ first.lines; size = rest.size ∙ first.size; fill = rest.fill ∙ first.fill }
 
 store_with-keeps : (config : MemoryConfig) (o : Option WriteEntry) (w : WBeat) (store : Store) → Keeps store (store_with config o w store)
 store_with-keeps config None w store = record { lines = refl; size = refl; fill = refl }
-store_with-keeps config (Some entry) w store = all_written-keeps (written_bytes config entry.request entry.taken w) store
+store_with-keeps config (Some entry) w store = with_bytes-keeps (stored_bytes config entry.request entry.taken w) store
 
 store_after-keeps : (config : MemoryConfig) (o : Option WBeat) (entries : List WriteEntry) (store : Store) → Keeps store (store_after config o entries store)
 store_after-keeps config None entries store = record { lines = refl; size = refl; fill = refl }

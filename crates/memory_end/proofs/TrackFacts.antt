@@ -9,6 +9,7 @@ use Rattle.axi_beats.specs.declared.response.Resp.TheVariants.{Okay, SlvErr, Dec
 use Rattle.axi_beats.specs.Response.{worst_of}
 use Rattle.axi_trail.specs.Waiting.{Waiting, beats_by, pending}
 use Rattle.axi_trail.proofs.WaitingFacts.{pending-past, pending-within}
+use Rattle.burst_address.proofs.Statuses.{worst-assoc, worst-okay}
 use Rattle.flight.proofs.EntryFacts.{some-inner}
 use Rattle.memory_end.specs.Accesses.{burst_status}
 use Rattle.memory_end.specs.Beats.{strobed_status}
@@ -19,20 +20,6 @@ use Rattle.memory_end.specs.declared.entry.WriteEntry.{WriteEntry}
 
 abbrev pub beats_of_all : List Addr → ℕ
 beats_of_all addresses = beats_by len_of_address addresses
-
-pub worst-assoc : (a b c : Resp) → worst_of (worst_of a b) c ≡ worst_of a (worst_of b c)
-worst-assoc Okay b c = refl
-worst-assoc SlvErr Okay c = refl
-worst-assoc SlvErr SlvErr Okay = refl
-worst-assoc SlvErr SlvErr SlvErr = refl
-worst-assoc SlvErr SlvErr DecErr = refl
-worst-assoc SlvErr DecErr c = refl
-worst-assoc DecErr b c = refl
-
-pub worst-okay : (a : Resp) → worst_of a Okay ≡ a
-worst-okay Okay = refl
-worst-okay SlvErr = refl
-worst-okay DecErr = refl
 
 module _ (config : MemoryConfig) where
   -- the status with one beat more

@@ -15,7 +15,7 @@ use Rattle.axi_trail.proofs.FilterFacts.{length-marks}
 use Rattle.axi_trail.proofs.OrderFacts.{own_beats}
 use Rattle.axi_trail.proofs.SlackFacts.{in_order_goes_up}
 use Rattle.burst_address.specs.Formulas.{beats_of}
-use Rattle.memory_end.specs.Accesses.{BeatOf, accesses_of, allowed_bytes, beats_of_parts, filled_bytes}
+use Rattle.memory_end.specs.Accesses.{BeatOf, accesses_of, allowed_bytes, beats_of_parts}
 use Rattle.memory_end.specs.Events.{Access}
 use Rattle.memory_end.specs.MemoryTable.{answer_to}
 use Rattle.memory_end.specs.MemoryTrail.{MemoryAnswers}
@@ -33,6 +33,7 @@ use Rattle.plain_lists.specs.Prefixes.{IsPrefix}
 use Rattle.plain_lists.proofs.KeyLemmas.{of_key-map}
 use Rattle.plain_lists.proofs.PrefixLemmas.{prefix_total, prefix_filter, prefix_flat_map, prefix_length, prefix_map, prefix_of_key, prefix_of_same, prefix_same, prefix_take, prefix_first, prefix_itself, prefix_trans, prefix_whole}
 use Rattle.plain_lists.specs.Keys.{of_key}
+use Rattle.burst_address.specs.Accesses.{answered_bytes}
 
 -- the answer to a write, by what it shows
 abbrev reply_to : Addr → Reply
@@ -179,10 +180,10 @@ module _ (schedule : Schedule) (now : Progress) (config : MemoryConfig) (entries
 
 -- the bytes that were read are the first of all that is read
 bytes-first : (config : MemoryConfig) (beats : List BeatOf) (n : ℕ) (values : List ℕ) →
-    IsPrefix (filled_bytes (flat_map (allowed_bytes config) (take n beats)) values) (filled_bytes (flat_map (allowed_bytes config) (take (length beats) beats)) values)
+    IsPrefix (answered_bytes (flat_map (allowed_bytes config) (take n beats)) values) (answered_bytes (flat_map (allowed_bytes config) (take (length beats) beats)) values)
 bytes-first config beats n values =
     prefix_of_same (filled-front (flat_map (allowed_bytes config) (take n beats)) (flat_map (allowed_bytes config) (drop n beats)) values)
-    (ap (λ xs. filled_bytes xs values)
+    (ap (λ xs. answered_bytes xs values)
     (sym (flat_map-append (allowed_bytes config) (take n beats) (drop n beats)) ∙ ap (flat_map (allowed_bytes config)) (take-append-drop n beats ∙ sym (take_all (length beats) beats (omega arith)))))
 
 pub memory-answers : MemoryAnswers

@@ -13,7 +13,7 @@ use Rattle.axi_trail.specs.Trail.{Beats}
 use Rattle.axi_trail.specs.Waiting.{Waiting, pending}
 use Rattle.axi_trail.specs.Words.{burst_asked, mark_of_data, marks, marks_of, number_of_address}
 use Rattle.axi_trail.proofs.WaitingFacts.{pending-place}
-use Rattle.memory_end.specs.Beats.{Byte, read_bytes, written_bytes}
+use Rattle.memory_end.specs.Beats.{read_bytes, stored_bytes}
 use Rattle.memory_end.specs.Events.{Access, accesses, beat_reads, beat_writes}
 use Rattle.memory_end.specs.MemoryState.{MemoryState}
 use Rattle.memory_end.specs.MemoryTable.{memory_ar, memory_aw, memory_b, memory_link, memory_r, memory_w, next_beat, oldest_lacking}
@@ -28,6 +28,7 @@ use Rattle.memory_end.proofs.WriteSteps.{next-data}
 use Rattle.memory_end.proofs.WriteTracks.{lacking-pending, one_of}
 use Rattle.plain_lists.specs.Prefixes.{Agree}
 use Rattle.plain_lists.proofs.PrefixLemmas.{Agree_fronts, prefix_flat_map, prefix_map, prefix_append, prefix_itself}
+use Rattle.burst_address.specs.Bytes.{Byte}
 
 -- the number of a request that stands among others
 number-stands : (xs before : List Addr) (a : Addr) (after : List Addr) → xs ≡ before ++ a ∷ after → Contains (map number_of_address xs) a.tag.txn
@@ -61,10 +62,10 @@ module _ (trail : Beats) where
     asked-reads shares (e ∷ es) false is = All-nil WasAsked
 
     asked-write : (e : WriteEntry) (x : WBeat) → TracksWrites s.config s.write_entries trail.aw trail.w trail.b → oldest_lacking s.write_entries ≡ Some e → x.tag.txn ≡ e.request.tag.txn →
-        All WasAsked (accesses x.tag.txn true (written_bytes s.config e.request e.taken x))
+        All WasAsked (accesses x.tag.txn true (stored_bytes s.config e.request e.taken x))
     asked-write e x is found own =
         let first : (others : List (Waiting Addr)) × (pending len_of_address (length trail.w) trail.aw ≡ data_waiting e ∷ others) = lacking-pending s.config s.write_entries trail.aw trail.w trail.b e is found in
-        asked-accesses x.tag.txn true (written_bytes s.config e.request e.taken x)
+        asked-accesses x.tag.txn true (stored_bytes s.config e.request e.taken x)
         (subst (λ (n : ℕ). Contains (map number_of_address trail.aw) n) (sym own) (number-pending (length trail.w) trail.aw (data_waiting e) first.0 first.1))
 
 pub accesses-were_asked : AccessesWereAsked

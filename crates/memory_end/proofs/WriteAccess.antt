@@ -11,58 +11,63 @@ use Rattle.axi_beats.specs.declared.response.Resp.TheVariants.{Okay, DecErr}
 use Rattle.axi_trail.specs.LinkContracts.{without_id}
 use Rattle.axi_trail.specs.Schedule.{ComesBefore, Schedule}
 use Rattle.axi_trail.specs.Words.{number_of_data, number_of_read_data}
-use Rattle.memory_end.specs.Accesses.{BeatOf, accesses_of, allowed_before, data_beats, due_writes, filled_bytes, left_at}
-use Rattle.memory_end.specs.Beats.{Byte, all_written, bytes_on, is_strobed, lane_address, strobed_lanes, word_address, written_bytes}
+use Rattle.memory_end.specs.Accesses.{BeatOf, accesses_of, allowed_before, due_writes, beats_with_data, writes_at}
+use Rattle.memory_end.specs.Beats.{with_bytes, stored_bytes}
 use Rattle.memory_end.specs.Events.{Access, accesses}
 use Rattle.memory_end.specs.MemoryState.{AreLinesAmong, IsMemoryConfig}
 use Rattle.memory_end.specs.Status.{is_inside, is_okay, write_status}
-use Rattle.memory_end.specs.Store.{IsStore, Store, byte_at, byte_place, line_of, written}
+use Rattle.memory_end.specs.Store.{IsStore, Store, byte_at, byte_place, line_of, with_byte}
 use Rattle.memory_end.specs.declared.config.MemoryConfig.{MemoryConfig}
-use Rattle.memory_end.proofs.AccessFacts.{accesses_of-append, accesses_of-opposite, accesses_of-other, accesses_of-own, bytes-of_accesses, left_at-append, order-more, order-other, stands_among}
+use Rattle.memory_end.proofs.AccessFacts.{accesses_of-append, accesses_of-opposite, accesses_of-other, accesses_of-own, bytes-of_accesses, order-more, order-other, stands_among}
 use Rattle.memory_end.proofs.Accessed.{Accessed, nil-of_map}
-use Rattle.memory_end.proofs.LaneFacts.{inside-of_lane, line-of_lane, written-without_id}
+use Rattle.memory_end.proofs.LaneFacts.{inside-of_lane, written-without_id}
 use Rattle.memory_end.proofs.ReadLemmas.{reads-others, reads-written}
-use Rattle.memory_end.proofs.StayLemmas.{Keeps, store-stays, written_at-keeps}
+use Rattle.memory_end.proofs.StayLemmas.{Keeps, store-stays, with_byte_at-keeps}
 use Rattle.plain_lists.proofs.KeyLemmas.{of_key-push, of_key-push_other}
 use Rattle.plain_lists.specs.Keys.{of_key}
 use Rattle.plain_lists.proofs.RangeLemmas.{filter-range-below}
 use Rattle.plain_lists.proofs.PartLemmas.{flat_map_next, split_append}
+use Rattle.burst_address.proofs.LaneBytes.{words-in_lines}
+use Rattle.burst_address.specs.Accesses.{answered_bytes, value_after}
+use Rattle.burst_address.specs.Bytes.{Byte}
+use Rattle.burst_address.specs.Lanes.{is_strobed, lane_address, lane_bytes, strobed_lanes, word_address}
+use Rattle.burst_address.proofs.AccessValues.{value_after-append}
 
 -- bytes on lines that are kept are left in the store
 left-written : (number address : ℕ) (lines : List ℕ) (bytes : List Byte) (store : Store) → IsStore store → store.lines ≡ lines → AllByRecursion (λ (b : Byte). Contains lines (line_of b.address)) bytes →
-    left_at address (byte_at store address) (accesses number true bytes) ≡ byte_at (all_written store bytes) address
+    value_after (writes_at address) (λ (a : Access). a.byte.value) (byte_at store address) (accesses number true bytes) ≡ byte_at (with_bytes store bytes) address
 left-written number address lines [] store is same kept = refl
 left-written number address lines (b ∷ bytes) store is same kept =
-    let keeps : Keeps store (written store b.address b.value) = written_at-keeps store (byte_place store b.address) b.value in
+    let keeps : Keeps store (with_byte store b.address b.value) = with_byte_at-keeps store (byte_place store b.address) b.value in
     let here : Contains store.lines (line_of b.address) = subst (λ (ls : List ℕ). Contains ls (line_of b.address)) (sym same) kept.0 in
-    let one : cond (b.address == address) b.value (byte_at store address) ≡ byte_at (written store b.address b.value) address = elim (cases_eq b.address address) [
+    let one : cond (b.address == address) b.value (byte_at store address) ≡ byte_at (with_byte store b.address b.value) address = elim (cases_eq b.address address) [
       | inl own ↦
           ap (λ c. cond c b.value (byte_at store address)) (eq-eqb b.address address own)
-          ∙ sym (subst (λ (n : ℕ). byte_at (written store b.address b.value) n ≡ b.value) own (reads-written store b.address b.value is here))
+          ∙ sym (subst (λ (n : ℕ). byte_at (with_byte store b.address b.value) n ≡ b.value) own (reads-written store b.address b.value is here))
       | inr ne ↦
           ap (λ c. cond c b.value (byte_at store address)) (ne_eqb b.address address ne)
           ∙ sym (reads-others store b.address address b.value is (λ h. ne (sym h)))
     ] in
-    ap (λ v. left_at address v (accesses number true bytes)) one
-    ∙ left-written number address lines bytes (written store b.address b.value) (store-stays store (written store b.address b.value) keeps is) (keeps.lines ∙ same) kept.1
+    ap (λ v. value_after (writes_at address) (λ (a : Access). a.byte.value) v (accesses number true bytes)) one
+    ∙ left-written number address lines bytes (with_byte store b.address b.value) (store-stays store (with_byte store b.address b.value) keeps is) (keeps.lines ∙ same) kept.1
 
 -- the bytes of a beat are on lines that are kept
 pub lines-written : (config : MemoryConfig) (lines : List ℕ) (a : Addr) (n : ℕ) (x : WBeat) → IsMemoryConfig config → AreLinesAmong config lines a → n ≤ a.len →
-    AllByRecursion (λ (b : Byte). Contains lines (line_of b.address)) (written_bytes config a n x)
+    AllByRecursion (λ (b : Byte). Contains lines (line_of b.address)) (stored_bytes config a n x)
 lines-written config lines a n x is among le = on (strobed_lanes config.bus x) (filter-range-below (is_strobed x) 0 config.bus config.bus (omega arith))
   where
     on : (lanes : List ℕ) → AllByRecursion (λ k. k < config.bus) lanes →
-        AllByRecursion (λ (b : Byte). Contains lines (line_of b.address)) (bytes_on (word_address a n config.bus) x (filter (λ lane. is_okay (write_status config (lane_address a n config.bus lane))) lanes))
+        AllByRecursion (λ (b : Byte). Contains lines (line_of b.address)) (lane_bytes (word_address a n config.bus) x (filter (λ lane. is_okay (write_status config (lane_address a n config.bus lane))) lanes))
     on [] below = tt
     on (k ∷ lanes) below =
-        let rest : AllByRecursion (λ (b : Byte). Contains lines (line_of b.address)) (bytes_on (word_address a n config.bus) x (filter (λ lane. is_okay (write_status config (lane_address a n config.bus lane))) lanes)) = on lanes below.1 in
+        let rest : AllByRecursion (λ (b : Byte). Contains lines (line_of b.address)) (lane_bytes (word_address a n config.bus) x (filter (λ lane. is_okay (write_status config (lane_address a n config.bus lane))) lanes)) = on lanes below.1 in
         let go : (b : Bool) → is_inside config (lane_address a n config.bus k) ≡ b →
         AllByRecursion (λ (b : Byte). Contains lines (line_of b.address))
-        (bytes_on (word_address a n config.bus) x (cond (is_okay (cond b Okay DecErr)) (k ∷ filter (λ lane. is_okay (write_status config (lane_address a n config.bus lane))) lanes) (filter (λ lane. is_okay (write_status config (lane_address a n config.bus lane))) lanes))) =
+        (lane_bytes (word_address a n config.bus) x (cond (is_okay (cond b Okay DecErr)) (k ∷ filter (λ lane. is_okay (write_status config (lane_address a n config.bus lane))) lanes) (filter (λ lane. is_okay (write_status config (lane_address a n config.bus lane))) lanes))) =
         elim [
           | true ↦ λ inside.
               let word : is_inside config (word_address a n config.bus) ≡ true = sym (inside-of_lane config a n k is below.0) ∙ inside in
-              (subst (λ (l : ℕ). Contains lines l) (sym (line-of_lane a n config.bus k is.bus below.0)) (among n le word), rest)
+              (subst (λ (l : ℕ). Contains lines l) (sym (words-in_lines a n config.bus k is.bus below.0)) (among n le word), rest)
           | false ↦ λ inside. rest
         ]
         in go (is_inside config (lane_address a n config.bus k)) refl
@@ -72,10 +77,10 @@ module _ (schedule : Schedule) (config : MemoryConfig) (store : Store) (a : Addr
   t = a.tag.txn
 
   abbrev bytes_written : List Byte
-  bytes_written = written_bytes config a n x
+  bytes_written = stored_bytes config a n x
 
   abbrev new : List Access
-  new = accesses a.tag.txn true (written_bytes config a n x)
+  new = accesses a.tag.txn true (stored_bytes config a n x)
 
   abbrev so_far : ℕ
   so_far = length (of_key number_of_data a.tag.txn w)
@@ -83,10 +88,10 @@ module _ (schedule : Schedule) (config : MemoryConfig) (store : Store) (a : Addr
   -- what the beat is of its transaction, and that nothing has come of later ones
   pub record IsNextWrite : Type 0 where
     pub is_store : IsStore store
-    pub lines : AllByRecursion (λ (b : Byte). Contains store.lines (line_of b.address)) (written_bytes config a n x)
+    pub lines : AllByRecursion (λ (b : Byte). Contains store.lines (line_of b.address)) (stored_bytes config a n x)
     pub own : x.tag.txn ≡ a.tag.txn
     pub rest : List (BeatOf × WBeat)
-    pub place : drop (length (of_key number_of_data a.tag.txn w)) (data_beats (schedule.writes a.tag.txn)) ≡ (record { request = without_id a; beat = n }, x) ∷ rest
+    pub place : drop (length (of_key number_of_data a.tag.txn w)) (beats_with_data (schedule.writes a.tag.txn)) ≡ (record { request = without_id a; beat = n }, x) ∷ rest
     pub none_later : (after : ℕ) → ComesBefore schedule.writes a.tag.txn after → length (of_key number_of_data after w) ≡ 0
 
   own-accesses : accesses_of true t (all ++ new) ≡ accesses_of true t all ++ new
@@ -104,7 +109,7 @@ module _ (schedule : Schedule) (config : MemoryConfig) (store : Store) (a : Addr
 
     due-more : due_writes config (schedule.writes t) (suc so_far) ≡ due_writes config (schedule.writes t) so_far ++ bytes_written
     due-more =
-        flat_map_next (λ (b : BeatOf × WBeat). written_bytes config b.0.request b.0.beat b.1) so_far (data_beats (schedule.writes t)) (record { request = without_id a; beat = n }, x) next.rest next.place
+        flat_map_next (λ (b : BeatOf × WBeat). stored_bytes config b.0.request b.0.beat b.1) so_far (beats_with_data (schedule.writes t)) (record { request = without_id a; beat = n }, x) next.rest next.place
         ∙ ap (λ xs. due_writes config (schedule.writes t) so_far ++ xs) (written-without_id config a n x)
 
     written-own : map (λ (a : Access). a.byte) (accesses_of true t (all ++ new)) ≡ due_writes config (schedule.writes t) (length (of_key number_of_data t (w ++ x ∷ [])))
@@ -125,22 +130,22 @@ module _ (schedule : Schedule) (config : MemoryConfig) (store : Store) (a : Addr
           ∙ ap (λ xs. due_writes config (schedule.writes number) (length xs)) (sym (of_key-push_other number_of_data number w x (λ h. ne (sym next.own ∙ h))))
     ]
 
-    latest-more : (earlier later : List Access) (b : Access) → all ++ new ≡ earlier ++ b ∷ later → b.write ≡ false → b.byte.value ≡ left_at b.byte.address config.fill earlier
+    latest-more : (earlier later : List Access) (b : Access) → all ++ new ≡ earlier ++ b ∷ later → b.write ≡ false → b.byte.value ≡ value_after (writes_at b.byte.address) (λ (a : Access). a.byte.value) config.fill earlier
     latest-more earlier later b at way = elim (split_append all new earlier b later at) [
       | inl old ↦ is.latest earlier old.0 b old.1 way
       | inr mine ↦ absurd (stands_among false b.number new mine.0 b later mine.1 way refl (accesses_of-opposite true b.number t bytes_written))
     ]
 
-    pub accessed-written : Accessed schedule config (all_written store bytes_written) (w ++ x ∷ []) r (all ++ new)
+    pub accessed-written : Accessed schedule config (with_bytes store bytes_written) (w ++ x ∷ []) r (all ++ new)
     accessed-written = record {
       written = written-more;
       read = λ number. ap (map (λ (a : Access). a.byte.address)) (reads-same number) ∙ is.read number;
       answered = λ number.
           is.answered number
-          ∙ ap (λ (xs : List Access). filled_bytes (allowed_before config (schedule.reads number) (length (of_key number_of_read_data number r))) (map (λ (a : Access). a.byte.value) xs)) (sym (reads-same number));
+          ∙ ap (λ (xs : List Access). answered_bytes (allowed_before config (schedule.reads number) (length (of_key number_of_read_data number r))) (map (λ (a : Access). a.byte.value) xs)) (sym (reads-same number));
       bytes = λ address inside.
-          left_at-append address config.fill all new
-          ∙ ap (λ v. left_at address v new) (is.bytes address inside)
+          value_after-append (writes_at address) (λ (a : Access). a.byte.value) config.fill all new
+          ∙ ap (λ v. value_after (writes_at address) (λ (a : Access). a.byte.value) v new) (is.bytes address inside)
           ∙ left-written t address store.lines bytes_written store next.is_store refl next.lines;
       latest = latest-more;
       writes_in_order = order-more schedule.writes true all t bytes_written

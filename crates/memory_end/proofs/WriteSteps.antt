@@ -15,7 +15,7 @@ use Rattle.axi_trail.specs.Words.{Mark, burst_asked, len_of_asked, mark_of_data,
 use Rattle.axi_trail.proofs.FilterFacts.{length-marks}
 use Rattle.axi_trail.proofs.StepFacts.{next_beat, pending-shown}
 use Rattle.memory_end.specs.Accesses.{BeatOf, beats_of_parts}
-use Rattle.memory_end.specs.Beats.{all_written, written_bytes}
+use Rattle.memory_end.specs.Beats.{with_bytes, stored_bytes}
 use Rattle.memory_end.specs.Events.{Access, accesses, beat_writes}
 use Rattle.memory_end.specs.MemoryState.{IsMemory, IsWriteEntry, MemoryState}
 use Rattle.memory_end.specs.MemoryTable.{lacks_data, oldest_lacking, store_after, store_with}
@@ -126,10 +126,10 @@ module _ (schedule : Schedule) (s : MemoryState) (aw : List Addr) (w : List WBea
     take-next : (e : WriteEntry) (x : WBeat) → oldest_lacking s.write_entries ≡ Some e → WritesAsked schedule aw (w ++ x ∷ []) → Accessed schedule s.config s.store w r all → IsAfterW (Some x)
     take-next e x found asked accessed =
         let next : IsNextWrite schedule s.config s.store e.request e.taken x w r all = next-is e x found asked in
-        let done : Accessed schedule s.config (all_written s.store (written_bytes s.config e.request e.taken x)) (w ++ x ∷ []) r (all ++ accesses e.request.tag.txn true (written_bytes s.config e.request e.taken x)) =
+        let done : Accessed schedule s.config (with_bytes s.store (stored_bytes s.config e.request e.taken x)) (w ++ x ∷ []) r (all ++ accesses e.request.tag.txn true (stored_bytes s.config e.request e.taken x)) =
         accessed-written schedule s.config s.store e.request e.taken x w r all accessed next in
-        let numbered : Accessed schedule s.config (all_written s.store (written_bytes s.config e.request e.taken x)) (w ++ x ∷ []) r (all ++ accesses x.tag.txn true (written_bytes s.config e.request e.taken x)) =
-        subst (λ (n : ℕ). Accessed schedule s.config (all_written s.store (written_bytes s.config e.request e.taken x)) (w ++ x ∷ []) r (all ++ accesses n true (written_bytes s.config e.request e.taken x))) (sym next.own) done in
+        let numbered : Accessed schedule s.config (with_bytes s.store (stored_bytes s.config e.request e.taken x)) (w ++ x ∷ []) r (all ++ accesses x.tag.txn true (stored_bytes s.config e.request e.taken x)) =
+        subst (λ (n : ℕ). Accessed schedule s.config (with_bytes s.store (stored_bytes s.config e.request e.taken x)) (w ++ x ∷ []) r (all ++ accesses n true (stored_bytes s.config e.request e.taken x))) (sym next.own) done in
         record {
           accessed = subst (λ (o : Option WriteEntry). Accessed schedule s.config (store_with s.config o x s.store) (w ++ x ∷ []) r (all ++ beat_writes s (Some x) o)) (sym found) numbered;
         }

@@ -5,14 +5,16 @@ use Rattle.std.specs.List.{range_with_len}
 use Rattle.axi_beats.specs.declared.beat.Addr.{Addr}
 use Rattle.axi_beats.specs.declared.beat.WBeat.{WBeat}
 use Rattle.axi_beats.specs.declared.response.Resp.{Resp}
-use Rattle.axi_beats.specs.declared.response.Resp.TheVariants.{Okay}
-use Rattle.axi_beats.specs.Response.{worst_of}
-use Rattle.axi_trail.specs.Schedule.{Share, Span}
+use Rattle.axi_beats.specs.Lanes.{Span}
+use Rattle.axi_trail.specs.Schedule.{Share}
 use Rattle.burst_address.specs.Formulas.{beats_of}
+use Rattle.burst_address.specs.Bytes.{Byte}
+use Rattle.burst_address.specs.Lanes.{first_lane, lane_address, lane_count, valid_lanes}
+use Rattle.burst_address.specs.Status.{worst_of_data}
 use Rattle.memory_end.specs.declared.config.MemoryConfig.{MemoryConfig}
-use Rattle.memory_end.specs.Beats.{Byte, first_lane, lane_count, lane_address, strobed_status, valid_lanes, written_bytes}
+use Rattle.memory_end.specs.Beats.{stored_bytes}
 use Rattle.memory_end.specs.Events.{Access}
-use Rattle.memory_end.specs.Status.{is_okay, read_status}
+use Rattle.memory_end.specs.Status.{is_okay, read_status, write_status}
 
 -- a beat of a burst, by its number from 0
 pub record BeatOf : Type 0 where
@@ -24,12 +26,12 @@ abbrev pub beats_of_parts : List Addr → List BeatOf
 beats_of_parts parts = flat_map (λ part. map (λ n. record { request = part; beat = n }) (range_with_len 0 (beats_of part))) parts
 
 -- the beats of a write's parts with their data
-abbrev pub data_beats : Share → List (BeatOf × WBeat)
-data_beats share = zip (beats_of_parts share.parts) (flat_map (λ beats. beats) share.write_data)
+abbrev pub beats_with_data : Share → List (BeatOf × WBeat)
+beats_with_data share = zip (beats_of_parts share.parts) (flat_map (λ beats. beats) share.write_data)
 
 -- the bytes that the first beats of a write write
 abbrev pub due_writes : MemoryConfig → Share → ℕ → List Byte
-due_writes config share count = flat_map (λ (b : BeatOf × WBeat). written_bytes config b.0.request b.0.beat b.1) (take count (data_beats share))
+due_writes config share count = flat_map (λ (b : BeatOf × WBeat). stored_bytes config b.0.request b.0.beat b.1) (take count (beats_with_data share))
 
 -- a byte of a read may be read, for the bytes of a beat in order
 abbrev pub allowed_bytes : MemoryConfig → BeatOf → List Bool
@@ -49,18 +51,9 @@ due_reads config share count = flat_map (read_addresses config) (take count (bea
 abbrev pub allowed_before : MemoryConfig → Share → ℕ → List Bool
 allowed_before config share count = flat_map (allowed_bytes config) (take count (beats_of_parts share.parts))
 
--- The bytes of an answer so far: the values that were read, in order, and 0 for a byte that can't be read. They end
--- at the first byte that isn't read yet.
-abbrev pub filled_bytes : List Bool → List ℕ → List ℕ
-filled_bytes [] values = []
-filled_bytes (false ∷ more) values = 0 ∷ filled_bytes more values
-filled_bytes (true ∷ more) [] = []
-filled_bytes (true ∷ more) (value ∷ values) = value ∷ filled_bytes more values
-
 -- the worst status of the bytes that the data beats of a burst strobe, of which the first one is beat n
 abbrev pub burst_status : MemoryConfig → Addr → ℕ → List WBeat → Resp
-burst_status config request n [] = Okay
-burst_status config request n (w ∷ more) = worst_of (strobed_status config request n w) (burst_status config request (suc n) more)
+burst_status config request n beats = worst_of_data (write_status config) request n config.bus beats
 
 -- the lanes that a beat of a read answers
 abbrev pub span_of : MemoryConfig → BeatOf → Span
@@ -73,7 +66,6 @@ span_of config b = record {
 abbrev pub accesses_of : Bool → ℕ → List Access → List Access
 accesses_of write number all = filter (λ (a : Access). beq a.write write && a.number == number) all
 
--- what the accesses leave at an address, where it held this byte before them
-abbrev pub left_at : ℕ → ℕ → List Access → ℕ
-left_at address before [] = before
-left_at address before (a ∷ more) = left_at address (if a.write && a.byte.address == address then a.byte.value else before) more
+-- an access writes this address
+abbrev pub writes_at : ℕ → Access → Bool
+writes_at address a = a.write && a.byte.address == address

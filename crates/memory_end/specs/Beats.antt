@@ -1,77 +1,34 @@
--- The bytes of a beat: their lanes and addresses (Arm IHI 0022, data read and write structure), and what a beat reads
--- and writes.
-use Rattle.std.specs.Prelude.{◌==◌, ◌+◌, ◌-◌, ◌&&◌, ℕ, Bool, List, map, filter, fold, nat_le, nat_lt, if◌then◌else◌, slice_index}
+-- What a beat reads and writes at a memory, and the status of its bytes (Arm IHI 0022, data read and write structure, read
+-- and write response structure).
+use Rattle.std.specs.Prelude.{◌==◌, ◌+◌, ◌-◌, ◌&&◌, ℕ, Bool, List, map, filter, fold, if◌then◌else◌}
 use Rattle.std.specs.List.{range_with_len}
-use Rattle.std.specs.Int.{bit_at}
 use Rattle.axi_beats.specs.declared.beat.Addr.{Addr}
 use Rattle.axi_beats.specs.declared.beat.WBeat.{WBeat}
 use Rattle.axi_beats.specs.declared.response.Resp.{Resp}
-use Rattle.burst_address.specs.Formulas.{aligned, beat_at, lower_lane, size_of, upper_lane}
+use Rattle.burst_address.specs.Bytes.{Byte}
+use Rattle.burst_address.specs.Lanes.{is_valid, lane_address, lane_bytes, strobed_lanes, valid_lanes, word_address}
+use Rattle.burst_address.specs.Status.{worst_of_strobed, worst_of_valid}
 use Rattle.memory_end.specs.declared.config.MemoryConfig.{MemoryConfig}
-use Rattle.memory_end.specs.Status.{write_status, read_status, worst_among, is_okay}
-use Rattle.memory_end.specs.Store.{Store, byte_at, written}
-
--- the address of the byte on a beat's lane 0: the multiple of the bus's width at or below the beat's address
-abbrev pub word_address : Addr → ℕ → ℕ → ℕ
-word_address request beat bus = aligned bus (beat_at request beat)
-
--- the address of the byte on a lane of a beat
-abbrev pub lane_address : Addr → ℕ → ℕ → ℕ → ℕ
-lane_address request beat bus lane = word_address request beat bus + lane
-
--- the first valid lane of a beat
-abbrev pub first_lane : Addr → ℕ → ℕ → ℕ
-first_lane request beat bus = lower_lane bus (beat_at request beat)
-
--- how many valid lanes it has
-abbrev pub lane_count : Addr → ℕ → ℕ → ℕ
-lane_count request beat bus = upper_lane (size_of request) bus (beat_at request beat) - first_lane request beat bus + 1
-
--- the numbers of its valid lanes, upwards
-abbrev pub valid_lanes : Addr → ℕ → ℕ → List ℕ
-valid_lanes request beat bus = range_with_len (first_lane request beat bus) (lane_count request beat bus)
-
--- the lane is a valid one of the beat
-abbrev pub is_valid : Addr → ℕ → ℕ → ℕ → Bool
-is_valid request beat bus lane =
-    nat_le (first_lane request beat bus) lane && nat_lt lane (first_lane request beat bus + lane_count request beat bus)
-
--- a W beat strobes this lane
-abbrev pub is_strobed : WBeat → ℕ → Bool
-is_strobed w lane = bit_at w.strobe lane == 1
-
--- the lanes of the bus that a W beat strobes, upwards
-abbrev pub strobed_lanes : ℕ → WBeat → List ℕ
-strobed_lanes bus w = filter (is_strobed w) (range_with_len 0 bus)
-
--- a byte at its address
-pub record Byte : Type 0 where
-  pub address : ℕ
-  pub value : ℕ
+use Rattle.memory_end.specs.Status.{write_status, read_status, is_okay}
+use Rattle.memory_end.specs.Store.{Store, byte_at, with_byte}
 
 -- the worst status of the bytes that a W beat strobes
 abbrev pub strobed_status : MemoryConfig → Addr → ℕ → WBeat → Resp
-strobed_status config request beat w =
-    worst_among (map (λ lane. write_status config (lane_address request beat config.bus lane)) (strobed_lanes config.bus w))
-
--- the bytes of a W beat on these lanes, where lane 0 is the byte at this address
-abbrev pub bytes_on : ℕ → WBeat → List ℕ → List Byte
-bytes_on word w lanes = map (λ lane. record { address = word + lane; value = slice_index w.lanes lane }) lanes
+strobed_status config request beat w = worst_of_strobed (write_status config) request beat config.bus w
 
 -- the bytes that a W beat writes, lanes upwards: those that are strobed and have the status OKAY
-abbrev pub written_bytes : MemoryConfig → Addr → ℕ → WBeat → List Byte
-written_bytes config request beat w =
-    bytes_on (word_address request beat config.bus) w
+abbrev pub stored_bytes : MemoryConfig → Addr → ℕ → WBeat → List Byte
+stored_bytes config request beat w =
+    lane_bytes (word_address request beat config.bus) w
     (filter (λ lane. is_okay (write_status config (lane_address request beat config.bus lane))) (strobed_lanes config.bus w))
 
 -- the store after bytes are written, one after the other
-abbrev pub all_written : Store → List Byte → Store
-all_written store bytes = fold (λ s byte. written s byte.address byte.value) store bytes
+abbrev pub with_bytes : Store → List Byte → Store
+with_bytes store bytes = fold (λ s byte. with_byte s byte.address byte.value) store bytes
 
 -- the worst status of the valid bytes of an R beat
 abbrev pub valid_status : MemoryConfig → Addr → ℕ → Resp
-valid_status config request beat =
-    worst_among (map (λ lane. read_status config (lane_address request beat config.bus lane)) (valid_lanes request beat config.bus))
+valid_status config request beat = worst_of_valid (read_status config) request beat config.bus
 
 -- the bytes that an R beat reads, lanes upwards: those that are valid and have the status OKAY
 abbrev pub read_bytes : MemoryConfig → Store → Addr → ℕ → List Byte

@@ -4,9 +4,10 @@ use Rattle.axi_beats.specs.declared.beat.WBeat.{WBeat}
 use Rattle.axi_beats.specs.declared.beat.RBeat.{RBeat}
 use Rattle.axi_link.specs.LinkView.{LinkView}
 use Rattle.axi_link.specs.Table.{head_of}
+use Rattle.burst_address.specs.Bytes.{Byte}
 use Rattle.memory_end.specs.declared.entry.WriteEntry.{WriteEntry}
 use Rattle.memory_end.specs.declared.entry.ReadEntry.{ReadEntry}
-use Rattle.memory_end.specs.Beats.{Byte, written_bytes, read_bytes}
+use Rattle.memory_end.specs.Beats.{stored_bytes, read_bytes}
 use Rattle.memory_end.specs.MemoryState.{MemoryState}
 use Rattle.memory_end.specs.MemoryTable.{memory_w, memory_r, oldest_lacking}
 
@@ -24,7 +25,7 @@ accesses number write bytes = map (λ byte. record { number = number; byte = byt
 abbrev pub beat_writes : MemoryState → Option WBeat → Option WriteEntry → List Access
 beat_writes state None entry = []
 beat_writes state (Some w) None = []
-beat_writes state (Some w) (Some entry) = accesses w.tag.txn true (written_bytes state.config entry.request entry.taken w)
+beat_writes state (Some w) (Some entry) = accesses w.tag.txn true (stored_bytes state.config entry.request entry.taken w)
 
 -- a beat that is put reads bytes for the oldest read
 abbrev pub beat_reads : MemoryState → Option RBeat → Option ReadEntry → List Access

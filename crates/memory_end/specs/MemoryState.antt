@@ -4,11 +4,11 @@ use Rattle.axi_beats.specs.declared.beat.Addr.{Addr}
 use Rattle.axi_beats.specs.Bus.{IsBusWidth}
 use Rattle.burst_address.specs.Formulas.{beats_of}
 use Rattle.burst_address.specs.Legal.{IsLegal}
+use Rattle.burst_address.specs.Lanes.{word_address}
 use Rattle.memory_end.specs.declared.config.MemoryConfig.{MemoryConfig}
 use Rattle.memory_end.specs.declared.entry.WriteEntry.{WriteEntry}
 use Rattle.memory_end.specs.declared.entry.ReadEntry.{ReadEntry}
 use Rattle.memory_end.specs.Status.{is_inside}
-use Rattle.memory_end.specs.Beats.{word_address}
 use Rattle.memory_end.specs.Store.{Store, IsStore, new_store, byte_at, line_of}
 
 -- its arguments, the number of its link, its open writes and reads in the order in which they came, and its bytes

@@ -15,7 +15,7 @@ use Rattle.burst_address.specs.Formulas.{beats_of}
 use Rattle.memory_end.specs.declared.config.MemoryConfig.{MemoryConfig}
 use Rattle.memory_end.specs.declared.entry.WriteEntry.{WriteEntry}
 use Rattle.memory_end.specs.declared.entry.ReadEntry.{ReadEntry}
-use Rattle.memory_end.specs.Beats.{strobed_status, written_bytes, all_written, valid_status, answered_lanes}
+use Rattle.memory_end.specs.Beats.{strobed_status, stored_bytes, with_bytes, valid_status, answered_lanes}
 use Rattle.memory_end.specs.MemoryState.{MemoryState, AreLinesAmong, IsRequest}
 use Rattle.memory_end.specs.Store.{Store}
 
@@ -132,7 +132,7 @@ after_ar (Some request) entries = entries ++ record { request = request; put = 0
 -- the store with the bytes of a write's data beat
 abbrev pub store_with : MemoryConfig → Option WriteEntry → WBeat → Store → Store
 store_with config None w store = store
-store_with config (Some entry) w store = all_written store (written_bytes config entry.request entry.taken w)
+store_with config (Some entry) w store = with_bytes store (stored_bytes config entry.request entry.taken w)
 
 -- W: the beat's bytes are written for the oldest write that lacks data
 abbrev pub store_after : MemoryConfig → Option WBeat → List WriteEntry → Store → Store

@@ -10,7 +10,7 @@ use Rattle.axi_trail.specs.Trail.{Beats, no_beats, joined, moved_below}
 use Rattle.axi_trail.specs.Waiting.{held}
 use Rattle.axi_trail.specs.Words.{number_of_address, number_of_data, number_of_read_data}
 use Rattle.burst_address.specs.Formulas.{beats_of}
-use Rattle.memory_end.specs.Accesses.{BeatOf, accesses_of, allowed_before, beats_of_parts, burst_status, due_reads, due_writes, filled_bytes, left_at, span_of}
+use Rattle.memory_end.specs.Accesses.{BeatOf, accesses_of, allowed_before, beats_of_parts, burst_status, due_reads, due_writes, span_of, writes_at}
 use Rattle.memory_end.specs.Beats.{valid_status}
 use Rattle.memory_end.specs.Events.{Access, memory_events}
 use Rattle.memory_end.specs.MemoryState.{MemoryState, IsMemory, IsMemoryConfig, new_memory}
@@ -21,6 +21,7 @@ use Rattle.memory_end.specs.Tracks.{TracksReads, TracksWrites, read_waiting, wri
 use Rattle.memory_end.specs.declared.config.MemoryConfig.{MemoryConfig}
 use Rattle.plain_lists.specs.Prefixes.{IsPrefix}
 use Rattle.plain_lists.specs.Keys.{of_key}
+use Rattle.burst_address.specs.Accesses.{answered_bytes, value_after}
 
 -- What is due of one transaction at a memory: data for each beat of its parts, and the responses and lanes that follow
 -- from its parts.
@@ -55,11 +56,11 @@ pub record HasAccessed (schedule : Schedule) (s : MemoryState) (trail : Beats) (
   pub answered :
       (number : ℕ) →
       bytes_on (of_key number_of_read_data number trail.r) (schedule.reads number).lanes
-      ≡ filled_bytes (allowed_before s.config (schedule.reads number) (length (of_key number_of_read_data number trail.r))) (map (λ (a : Access). a.byte.value) (accesses_of false number all))
+      ≡ answered_bytes (allowed_before s.config (schedule.reads number) (length (of_key number_of_read_data number trail.r))) (map (λ (a : Access). a.byte.value) (accesses_of false number all))
   -- each byte is what the writes left there
-  pub bytes : (address : ℕ) → IsTrue (is_inside s.config address) → left_at address s.config.fill all ≡ byte_at s.store address
+  pub bytes : (address : ℕ) → IsTrue (is_inside s.config address) → value_after (writes_at address) (λ (a : Access). a.byte.value) s.config.fill all ≡ byte_at s.store address
   -- and so was each that was read
-  pub latest : (earlier later : List Access) (a : Access) → all ≡ earlier ++ a ∷ later → a.write ≡ false → a.byte.value ≡ left_at a.byte.address s.config.fill earlier
+  pub latest : (earlier later : List Access) (a : Access) → all ≡ earlier ++ a ∷ later → a.write ≡ false → a.byte.value ≡ value_after (writes_at a.byte.address) (λ (a : Access). a.byte.value) s.config.fill earlier
   -- the accesses of a chain's transactions are in order
   pub writes_in_order : AccessesInOrder schedule.writes true all
   pub reads_in_order : AccessesInOrder schedule.reads false all
@@ -79,7 +80,7 @@ pub record Knows (config : MemoryConfig) (schedule : Schedule) (now : Progress) 
   -- a read has the bytes that were read for it
   pub filled :
       (number : ℕ) →
-      IsPrefix (filled_bytes (allowed_before config (schedule.reads number) (length (beats_of_parts (schedule.reads number).parts))) (map (λ (a : Access). a.byte.value) (accesses_of false number all)))
+      IsPrefix (answered_bytes (allowed_before config (schedule.reads number) (length (beats_of_parts (schedule.reads number).parts))) (map (λ (a : Access). a.byte.value) (accesses_of false number all)))
       (now.filled number)
 
 -- it holds of a new memory

@@ -1,7 +1,5 @@
--- The status of a byte, and the response that several bytes make together (Arm IHI 0022, read and write response
--- structure).
-use Rattle.std.specs.Prelude.{◌+◌, ◌&&◌, ◌∷◌, [], ℕ, Bool, true, false, List, nat_le, nat_lt, if◌then◌else◌}
-use Rattle.axi_beats.specs.Response.{worst_of}
+-- The status of a byte (Arm IHI 0022, read and write response structure).
+use Rattle.std.specs.Prelude.{◌+◌, ◌&&◌, ℕ, Bool, true, false, nat_le, nat_lt, if◌then◌else◌}
 use Rattle.axi_beats.specs.declared.response.Resp.{Resp}
 use Rattle.axi_beats.specs.declared.response.Resp.TheVariants.{Okay, SlvErr, DecErr}
 use Rattle.memory_end.specs.declared.config.MemoryConfig.{MemoryConfig}
@@ -21,11 +19,6 @@ write_status config address = if is_inside config address then Okay else DecErr
 -- the status of a byte that is read: DECERR there too
 abbrev pub read_status : MemoryConfig → ℕ → Resp
 read_status config address = if is_inside config address then Okay else DecErr
-
--- the worst of several responses, OKAY where there is none
-abbrev pub worst_among : List Resp → Resp
-worst_among [] = Okay
-worst_among (r ∷ rs) = worst_of r (worst_among rs)
 
 -- a byte of this status may be written or read
 abbrev pub is_okay : Resp → Bool

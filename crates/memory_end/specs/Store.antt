@@ -36,22 +36,22 @@ lanes_between store word low end =
     map (λ lane. if nat_le low lane && nat_lt lane end then byte_at store (word + lane) else 0) (range_with_len 0 128)
 
 -- the store with a byte written at a place
-abbrev pub written_at : Store → Option ℕ → ℕ → Store
-written_at store None value = store
-written_at store (Some place) value = record { lines = store.lines; bytes = slice_set store.bytes place value; fill = store.fill }
+abbrev pub with_byte_at : Store → Option ℕ → ℕ → Store
+with_byte_at store None value = store
+with_byte_at store (Some place) value = record { lines = store.lines; bytes = slice_set store.bytes place value; fill = store.fill }
 
 -- the store with the byte of an address written, where its line is kept
-abbrev pub written : Store → ℕ → ℕ → Store
-written store address value = written_at store (byte_place store address) value
+abbrev pub with_byte : Store → ℕ → ℕ → Store
+with_byte store address value = with_byte_at store (byte_place store address) value
 
 -- what is written at an address whose line is kept is read there
 abbrev pub ReadsWritten : Type 0
 ReadsWritten =
     (store : Store) (address value : ℕ) → IsStore store → Contains store.lines (line_of address) →
-    byte_at (written store address value) address ≡ value
+    byte_at (with_byte store address value) address ≡ value
 
 -- what is written at an address changes no other one
 abbrev pub ReadsOthers : Type 0
 ReadsOthers =
     (store : Store) (address other value : ℕ) → IsStore store → other ≢ address →
-    byte_at (written store address value) other ≡ byte_at store other
+    byte_at (with_byte store address value) other ≡ byte_at store other

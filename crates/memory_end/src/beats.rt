@@ -3,7 +3,7 @@
 
 ghost use Rattle.std.specs.Prelude.{◌≡◌, ◌*◌, ◌/◌, ◌<◌, ◌≤◌, ◌^◌};
 ghost use Rattle.burst_address.specs.Formulas.{beat_at};
-ghost use Rattle.memory_end.specs.Beats.{all_written, answered_lanes, strobed_status, written_bytes};
+ghost use Rattle.memory_end.specs.Beats.{with_bytes, answered_lanes, strobed_status, stored_bytes};
 ghost use Rattle.memory_end.specs.MemoryState.{IsMemoryConfig, IsReadEntry, IsRequest};
 ghost use Rattle.memory_end.specs.Status.{is_inside, write_status};
 
@@ -54,8 +54,8 @@ pub fn write_beat(
 )
     requires config { IsMemoryConfig config.now }
     requires address { address ≡ beat_at entry.now.request entry.now.taken }
-    ensures { store.new ≡ all_written store.old
-        (written_bytes config.now entry.now.request entry.now.taken beat.now) }
+    ensures { store.new ≡ with_bytes store.old
+        (stored_bytes config.now entry.now.request entry.now.taken beat.now) }
 {
     if is_inside(config, address) {
         let bus = u64::from(config.bus);

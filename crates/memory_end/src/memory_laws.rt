@@ -1,8 +1,8 @@
 //! What holds of a memory's definitions.
 
-ghost use Rattle.memory_end.specs.BurstBytes.{BeatsAreInLines, DueReadsAreOfParts, DueWritesAreOfParts};
-ghost use Rattle.memory_end.specs.BurstBytes.{LanesAreBytes, LinesAreOfBurst, ReadsBurstBytes};
-ghost use Rattle.memory_end.specs.BurstBytes.{StatusOfBurstBytes, StatusOfWrittenBytes, WritesBeatBytes};
+ghost use Rattle.memory_end.specs.BurstBytes.{DueReadsAreOfParts, DueWritesAreOfParts};
+ghost use Rattle.memory_end.specs.BurstBytes.{LinesAreOfBurst, ReadsBurstBytes};
+ghost use Rattle.memory_end.specs.BurstBytes.{WritesBeatBytes};
 ghost use Rattle.memory_end.specs.BurstBytes.{WritesBurstBytes};
 ghost use Rattle.memory_end.specs.Laws.{KeepsArguments, MovesAlwaysFit, NewIsMemory, StaysMemory};
 ghost use Rattle.memory_end.specs.RowLaws.{RowsAreDone};
@@ -23,14 +23,10 @@ pub fn laws()
     // What a row of its table can do in a round is done in that round.
     ensures rows { RowsAreDone }
 
-    // Its beats are those of legal bursts: their lines, and the bytes that they read and write.
-    ensures bytes { LanesAreBytes }
-    ensures lines { BeatsAreInLines }
+    // Its beats are those of legal bursts: their lines, and the bytes of them that it reads and writes.
     ensures burst_lines { LinesAreOfBurst }
     ensures reads { ReadsBurstBytes }
-    ensures read_status { StatusOfBurstBytes }
     ensures beat_writes { WritesBeatBytes }
-    ensures write_status { StatusOfWrittenBytes }
     ensures writes { WritesBurstBytes }
 
     // So what is due of a transaction is what its parts read and write.

@@ -3,7 +3,8 @@
 ghost use Rattle.std.specs.Prelude.{◌≡◌, ◌<◌, ◌≤◌, ◌+◌, ◌%◌, ◌^◌, length, fold};
 ghost use Rattle.std.specs.Prelude.{slice_index, slice_set, AllPairs, IfOk, IfSome};
 ghost use Rattle.flight.specs.Entries.{place_of};
-ghost use Rattle.memory_end.specs.Beats.{is_strobed, strobed_lanes, bytes_on, all_written};
+ghost use Rattle.burst_address.specs.Lanes.{is_strobed, lane_bytes, strobed_lanes};
+ghost use Rattle.memory_end.specs.Beats.{with_bytes};
 ghost use Rattle.memory_end.specs.Store.{new_store, byte_at, lanes_between, line_of};
 
 use axi_beats::{Lanes, NoMemory, WBeat};
@@ -74,7 +75,7 @@ impl ByteStore {
     /// n to `word + n`. Where the line isn't kept, nothing is written.
     pub fn write_word(&mut self, word: u64, bus: u8, beat: &WBeat)
         requires { word % 128 + bus ≤ 128 }
-        ensures { self.new ≡ all_written self.old (bytes_on word beat.now (strobed_lanes bus beat.now)) }
+        ensures { self.new ≡ with_bytes self.old (lane_bytes word beat.now (strobed_lanes bus beat.now)) }
     {
         if let Some(place) = line_place(&self.lines, word / 128) {
             let first = 128 * place + (word % 128) as usize;

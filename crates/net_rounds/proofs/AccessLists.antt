@@ -7,16 +7,16 @@ use Rattle.std.proofs.lemmas.Bool.{and_from, eq-eqb}
 use Rattle.std.proofs.lemmas.List.{nil_from_length, take_all}
 use Rattle.std.proofs.lemmas.List.Elements.{All-cons, All-nil, filter-append}
 use Rattle.axi_trail.specs.Schedule.{Share}
-use Rattle.memory_end.specs.Accesses.{accesses_of, beats_of_parts, data_beats, due_reads, due_writes}
+use Rattle.memory_end.specs.Accesses.{accesses_of, beats_of_parts, beats_with_data, due_reads, due_writes}
 use Rattle.memory_end.specs.Events.{Access}
 use Rattle.memory_end.proofs.AccessFacts.{tail-none}
 use Rattle.net_rounds.specs.BuiltIn.{ram}
 use Rattle.net_rounds.proofs.ScheduleLemmas.{beq-same}
 
 -- where all beats have come, more beats write and read no more
-pub due-writes_end : (share : Share) (c d : ℕ) → length (data_beats share) ≤ c → c ≤ d → due_writes ram share c ≡ due_writes ram share d
+pub due-writes_end : (share : Share) (c d : ℕ) → length (beats_with_data share) ≤ c → c ≤ d → due_writes ram share c ≡ due_writes ram share d
 due-writes_end share c d all more =
-    ap (flat_map _) (take_all c (data_beats share) all ∙ sym (take_all d (data_beats share) (omega arith)))
+    ap (flat_map _) (take_all c (beats_with_data share) all ∙ sym (take_all d (beats_with_data share) (omega arith)))
 
 pub due-reads_end : (share : Share) (c d : ℕ) → length (beats_of_parts share.parts) ≤ c → c ≤ d → due_reads ram share c ≡ due_reads ram share d
 due-reads_end share c d all more =

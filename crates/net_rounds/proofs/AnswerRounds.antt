@@ -1,7 +1,6 @@
 -- All accesses of a transaction are made before the round of its answer.
-use Rattle.std.proofs.Common.{◌≡◌, ◌<◌, ◌≤◌, [], ℕ, zero, suc, List, Bool, true, false, Some, length, sym, ap, ◌∙◌, subst, arith}
+use Rattle.std.proofs.Common.{◌≡◌, ◌<◌, ◌≤◌, [], ℕ, zero, suc, List, Bool, true, false, Some, length, sym, ap, ◌∙◌, subst, arith, inl, inr}
 use Rattle.std.specs.Prelude.{All, flat_map, map, slice_get}
-use Rattle.std.proofs.Common.{inl, inr}
 use Rattle.std.proofs.lemmas.Bool.{cases_Bool, cases_lt, eqb-true}
 use Rattle.std.proofs.lemmas.List.{length-map}
 use Rattle.std.proofs.lemmas.List.Elements.{All-append, All-map, All-nil}
@@ -12,7 +11,7 @@ use Rattle.axi_trail.specs.Schedule.{Share}
 use Rattle.axi_trail.specs.Trail.{IsBehind, moved_below}
 use Rattle.axi_trail.specs.Words.{number_of_data, number_of_read_data, number_of_response}
 use Rattle.manager_end.specs.Script.{ScriptItem}
-use Rattle.memory_end.specs.Accesses.{accesses_of, beats_of_parts, data_beats, due_reads, due_writes}
+use Rattle.memory_end.specs.Accesses.{accesses_of, beats_of_parts, due_reads, due_writes, beats_with_data}
 use Rattle.memory_end.specs.Events.{Access}
 use Rattle.memory_end.specs.declared.config.MemoryConfig.{MemoryConfig}
 use Rattle.net_rounds.proofs.AccessLists.{due-reads_end, due-writes_end, none-is, none-new}
@@ -62,7 +61,7 @@ module _ (script : List ScriptItem) (run : RunFacts script) where
       ∙ ap (λ (config : MemoryConfig). length (due_reads config ((schedule_of script).reads number) (length (of_key number_of_read_data number (lower_trail script n).r)))) (run.config n)
 
   -- where all beats have come by a round, no later round accesses anything
-  writes-over : (number n k : ℕ) → length (data_beats ((schedule_of script).writes number)) ≤ data_count number n → n ≤ k → accesses_of true number (round_accesses script k) ≡ []
+  writes-over : (number n k : ℕ) → length (beats_with_data ((schedule_of script).writes number)) ≤ data_count number n → n ≤ k → accesses_of true number (round_accesses script k) ≡ []
   writes-over number n k all le =
       let before = data-grows number n k le in
       let next = data-grows number k (suc k) (omega arith) in
@@ -83,7 +82,7 @@ module _ (script : List ScriptItem) (run : RunFacts script) where
     taken-before : IsBehind (lower_trail script m) (upper_trail script (suc m))
     taken-before = (taken_was_put_before 0 (links_at script) (upper_out script) (lower_out script) run.link_runs m).1
 
-    writes-there : item.txn.write ≡ true → length (data_beats ((schedule_of script).writes item.txn.number)) ≤ data_count item.txn.number m
+    writes-there : item.txn.write ≡ true → length (beats_with_data ((schedule_of script).writes item.txn.number)) ≤ data_count item.txn.number m
     unfolding data_count
     writes-there writes =
         let came = ((run.keeps (suc m)).manager.passed.write_notes place item (at-run script run (suc m) place item at) writes).answered.0 (omega arith) in

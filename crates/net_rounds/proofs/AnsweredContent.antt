@@ -1,23 +1,22 @@
 -- The answers of the run: one for each transaction, with its response and its bytes.
-use Rattle.std.proofs.Common.{◌≡◌, ◌<◌, ◌+◌, ◌∷◌, [], ◌++◌, ℕ, suc, List, Bool, true, false, Some, cond, length, refl, sym, ap, ◌∙◌, subst, arith, length-append}
+use Rattle.std.proofs.Common.{◌≡◌, ◌<◌, ◌+◌, ◌∷◌, [], ◌++◌, ℕ, suc, List, Bool, true, false, Some, cond, length, refl, sym, ap, ◌∙◌, subst, arith, length-append, inl, inr}
 use Rattle.std.specs.Prelude.{◌≢◌, All, AllPairs, Any, get_or, map, option_map, slice_get}
-use Rattle.std.proofs.Common.{inl, inr}
 use Rattle.std.proofs.lemmas.Bool.{cases_Bool}
 use Rattle.std.proofs.lemmas.List.{get_or-append-add, length-map}
 use Rattle.std.proofs.lemmas.List.Elements.{All-map}
 use Rattle.std.proofs.lemmas.Option.{get_or_from_slice_get, slice_get-map, slice_get_within}
 use Rattle.axi_beats.specs.declared.beat.RBeat.{RBeat}
-use Rattle.axi_history.specs.Answered.{answered_bytes, values_of}
+use Rattle.axi_history.specs.Answered.{values_of}
 use Rattle.axi_history.specs.Records.{Answer, Transaction}
 use Rattle.axi_trail.specs.Schedule.{Share, bytes_on}
 use Rattle.axi_trail.specs.Words.{number_of_read_data, number_of_response}
 use Rattle.manager_end.specs.ManagerTrail.{IsReadNote, IsWriteNote, shares_of}
 use Rattle.manager_end.specs.Script.{ScriptItem}
-use Rattle.memory_end.specs.Accesses.{accesses_of, allowed_before, beats_of_parts, filled_bytes}
+use Rattle.memory_end.specs.Accesses.{accesses_of, allowed_before, beats_of_parts}
 use Rattle.memory_end.specs.Events.{Access}
 use Rattle.memory_end.specs.declared.config.MemoryConfig.{MemoryConfig}
 use Rattle.net_rounds.proofs.BuiltInSchedule.{lower_trail, pair_at, schedule_of, upper_trail}
-use Rattle.net_rounds.proofs.DueLemmas.{beats-asked, due-response}
+use Rattle.net_rounds.proofs.DueLemmas.{beats-asked, due-response, is_allowed}
 use Rattle.net_rounds.proofs.ItemEvents.{accessed, item-filled, run_accesses}
 use Rattle.net_rounds.proofs.NotedLists.{all-answers, answers-rise}
 use Rattle.net_rounds.proofs.ScheduleLemmas.{share-own}
@@ -31,6 +30,7 @@ use Rattle.plain_lists.proofs.PrefixLemmas.{prefix_length, prefix_of_key, prefix
 use Rattle.plain_lists.specs.Prefixes.{IsPrefix}
 use Rattle.plain_lists.specs.Keys.{of_key}
 use Rattle.plain_lists.proofs.PlaceLemmas.{all-at, contains-at}
+use Rattle.burst_address.specs.Accesses.{answered_bytes}
 
 module _ {X : Type 0} where
   -- of elements in a strict order two different places have different ones
@@ -120,7 +120,7 @@ module _ (script : List ScriptItem) (run : RunFacts script) (n : ℕ) where
         let most = prefix_length ((run.keeps n).answered_below.read_responses_are_the_schedules item.txn.number) in
         prefix_whole _ _ (prefix_of_key number_of_read_data item.txn.number behind) (omega arith)
 
-    own-bytes : item.txn.write ≡ false → (note script n place).bytes ≡ answered_bytes (bytes_of ram item) (values_of item.txn.number (run_events script n))
+    own-bytes : item.txn.write ≡ false → (note script n place).bytes ≡ answered_bytes (map is_allowed (bytes_of ram item)) (values_of item.txn.number (run_events script n))
     own-bytes reads =
         let among = contains-at script place item at in
         let number = item.txn.number in
@@ -131,11 +131,11 @@ module _ (script : List ScriptItem) (run : RunFacts script) (n : ℕ) where
         let taken = all-taken reads in
         let count : length lower ≡ suc item.txn.request.len = ap length taken ∙ came in
         (read-note reads).bytes ∙ ap (λ (beats : List RBeat). bytes_on beats share.lanes) (sym taken) ∙ (accessed script run n).answered number
-        ∙ ap (λ (config : MemoryConfig). filled_bytes (allowed_before config share (length lower)) values) (run.config n) ∙ item-filled script run n item among reads (omega arith)
+        ∙ ap (λ (config : MemoryConfig). answered_bytes (allowed_before config share (length lower)) values) (run.config n) ∙ item-filled script run n item among reads (omega arith)
 
-    pub all-bytes : (note script n place).bytes ≡ cond item.txn.write [] (answered_bytes (bytes_of ram item) (values_of item.txn.number (run_events script n)))
+    pub all-bytes : (note script n place).bytes ≡ cond item.txn.write [] (answered_bytes (map is_allowed (bytes_of ram item)) (values_of item.txn.number (run_events script n)))
     all-bytes =
-        let other = answered_bytes (bytes_of ram item) (values_of item.txn.number (run_events script n)) in
+        let other = answered_bytes (map is_allowed (bytes_of ram item)) (values_of item.txn.number (run_events script n)) in
         elim (cases_Bool item.txn.write) [
           | inl writes ↦ (write-note writes).bytes ∙ sym (ap (λ (b : Bool). cond b [] other) writes)
           | inr reads ↦ own-bytes reads ∙ sym (ap (λ (b : Bool). cond b [] other) reads)
@@ -147,12 +147,12 @@ module _ (script : List ScriptItem) (run : RunFacts script) (n : ℕ) where
       (λ place item at answered. any-transaction (λ (t : Transaction). (t.number ≡ item.txn.number) × ((note script n place).resps ≡ t.response)) script place item at (refl, own-response place item at answered))
 
   pub run-bytes :
-      All (λ (t : Transaction). All (λ (a : Answer). a.number ≡ t.number → a.bytes ≡ cond t.write [] (answered_bytes t.bytes (values_of t.number (run_events script n)))) (run_answers script n)) (transactions_of script)
+      All (λ (t : Transaction). All (λ (a : Answer). a.number ≡ t.number → a.bytes ≡ cond t.write [] (answered_bytes (map is_allowed t.bytes) (values_of t.number (run_events script n)))) (run_answers script n)) (transactions_of script)
   run-bytes =
-      all-transactions (λ (t : Transaction). All (λ (a : Answer). a.number ≡ t.number → a.bytes ≡ cond t.write [] (answered_bytes t.bytes (values_of t.number (run_events script n)))) (run_answers script n)) script
+      all-transactions (λ (t : Transaction). All (λ (a : Answer). a.number ≡ t.number → a.bytes ≡ cond t.write [] (answered_bytes (map is_allowed t.bytes) (values_of t.number (run_events script n)))) (run_answers script n)) script
       (λ place item at.
-      all-answers script (pair_at script n).manager.state.answers (λ (a : Answer). a.number ≡ item.txn.number → a.bytes ≡ cond item.txn.write [] (answered_bytes (bytes_of ram item) (values_of item.txn.number (run_events script n))))
+      all-answers script (pair_at script n).manager.state.answers (λ (a : Answer). a.number ≡ item.txn.number → a.bytes ≡ cond item.txn.write [] (answered_bytes (map is_allowed (bytes_of ram item)) (values_of item.txn.number (run_events script n))))
       (λ other mine at_other answered same.
       let one = one-item script run.traffic.numbered other place mine item at_other at same in
       all-bytes other mine at_other answered
-      ∙ ap (λ (i : ScriptItem). cond i.txn.write [] (answered_bytes (bytes_of ram i) (values_of i.txn.number (run_events script n)))) one))
+      ∙ ap (λ (i : ScriptItem). cond i.txn.write [] (answered_bytes (map is_allowed (bytes_of ram i)) (values_of i.txn.number (run_events script n)))) one))

@@ -9,10 +9,10 @@ use Rattle.axi_trail.specs.Schedule.{Progress, Schedule, Share}
 use Rattle.axi_trail.specs.Trail.{Beats, trail_above, trail_below}
 use Rattle.axi_trail.specs.Words.{number_of_data}
 use Rattle.manager_end.specs.Answer.{AnswerView}
-use Rattle.manager_end.specs.Beats.{data_beats, request_of}
+use Rattle.manager_end.specs.Beats.{data_beats, item_request}
 use Rattle.manager_end.specs.ManagerTable.{manager_out}
 use Rattle.manager_end.specs.Script.{ScriptItem}
-use Rattle.memory_end.specs.Accesses.{BeatOf, accesses_of, allowed_before, beats_of_parts, burst_status, filled_bytes, span_of}
+use Rattle.memory_end.specs.Accesses.{BeatOf, accesses_of, allowed_before, beats_of_parts, burst_status, span_of}
 use Rattle.memory_end.specs.Beats.{valid_status}
 use Rattle.memory_end.specs.Events.{Access, memory_events}
 use Rattle.memory_end.specs.MemoryTable.{memory_out}
@@ -20,6 +20,7 @@ use Rattle.net_rounds.proofs.NetworkLemmas.{built_in_pair}
 use Rattle.net_rounds.proofs.Pair.{Pair, pair_after}
 use Rattle.net_rounds.specs.BuiltIn.{ram}
 use Rattle.plain_lists.specs.Keys.{of_key}
+use Rattle.burst_address.specs.Accesses.{answered_bytes}
 
 -- a transaction that doesn't come by
 abbrev pub no_share : Share
@@ -28,7 +29,7 @@ no_share = record { parts = []; write_data = []; lanes = []; responses = []; cha
 -- a write, and a read, as it leaves the manager
 abbrev pub write_share : ScriptItem → Share
 write_share item =
-    let part = without_id (request_of item) in
+    let part = without_id (item_request item) in
     record {
       parts = part ∷ [];
       write_data = data_beats item 4 ∷ [];
@@ -39,7 +40,7 @@ write_share item =
 
 abbrev pub read_share : ScriptItem → Share
 read_share item =
-    let part = without_id (request_of item) in
+    let part = without_id (item_request item) in
     record {
       parts = part ∷ [];
       write_data = [];
@@ -96,6 +97,6 @@ module _ (script : List ScriptItem) where
     issued = λ number. list_any (is_noted_issued number) (zip script (pair_at n).manager.state.answers);
     written = λ number. length (of_key number_of_data number (lower_trail n).w) == length (beats_of_parts ((schedule_of script).writes number).parts);
     filled = λ number.
-        filled_bytes (allowed_before ram ((schedule_of script).reads number) (length (beats_of_parts ((schedule_of script).reads number).parts)))
+        answered_bytes (allowed_before ram ((schedule_of script).reads number) (length (beats_of_parts ((schedule_of script).reads number).parts)))
         (map (λ (a : Access). a.byte.value) (accesses_of false number (accesses_at n)));
   }

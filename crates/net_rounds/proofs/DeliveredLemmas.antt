@@ -4,13 +4,14 @@ use Rattle.std.specs.Prelude.{All, map}
 use Rattle.std.proofs.lemmas.List.{get_or-map, length-map, map-append}
 use Rattle.std.proofs.lemmas.List.Elements.{All-append, All-contains_itself, All-cons, All-head, All-map, All-nil, All-tail, All-weaker}
 use Rattle.std.proofs.lemmas.Option.{get_or_from_slice_get, slice_get_within}
-use Rattle.axi_history.specs.Delivered.{Delivered, IsAnswered, IsBeginningOf, IsOf, value_after, shown, wanted}
+use Rattle.axi_history.specs.Delivered.{Delivered, IsAnswered, IsBeginningOf, IsOf, is_write_at, shown, wanted}
 use Rattle.axi_history.specs.Records.{Answer, Event, Transaction, due, events_of}
 use Rattle.manager_end.specs.Script.{ScriptItem}
-use Rattle.memory_end.specs.Accesses.{left_at}
+use Rattle.burst_address.specs.Accesses.{value_after}
+use Rattle.memory_end.specs.Accesses.{writes_at}
 use Rattle.memory_end.specs.Events.{Access}
 use Rattle.memory_end.specs.declared.config.MemoryConfig.{MemoryConfig}
-use Rattle.net_rounds.proofs.EventLemmas.{held-left}
+use Rattle.net_rounds.proofs.EventLemmas.{event_value, held-left}
 use Rattle.net_rounds.proofs.ItemEvents.{accessed, item-answered, item-begins, run_accesses}
 use Rattle.net_rounds.proofs.RunFacts.{IsAskedFor, RunFacts}
 use Rattle.net_rounds.proofs.RunHistory.{access_of_event, answers-are, events-are, round_accesses, run_answers, run_events}
@@ -60,15 +61,15 @@ module _ (script : List ScriptItem) (facts : RunFacts script) where
       (All-weaker (IsAskedFor script n) (λ (a : Access). IsOf (transactions_of script) (event_of (suc n) 1 a)) (asked-of n) (round_accesses script n) (facts.asked n)))
 
   -- a read sees the latest write
-  run-latest : (n : ℕ) (earlier later : List Event) (e : Event) → run_events script n ≡ earlier ++ e ∷ later → e.write ≡ false → e.value ≡ value_after e.node e.address ram.fill earlier
+  run-latest : (n : ℕ) (earlier later : List Event) (e : Event) → run_events script n ≡ earlier ++ e ∷ later → e.write ≡ false → e.value ≡ value_after (is_write_at e.node e.address) event_value ram.fill earlier
   run-latest n earlier later e split reads =
       let nodes : All (λ (x : Event). x.node ≡ 1) (earlier ++ e ∷ later) = subst (All (λ (x : Event). x.node ≡ 1)) split (at-memory n) in
       let here : e.node ≡ 1 = all-between (λ (x : Event). x.node ≡ 1) earlier e later nodes in
       let accesses : run_accesses script facts n ≡ map access_of_event earlier ++ access_of_event e ∷ map access_of_event later =
       ap (map access_of_event) split ∙ map-append access_of_event earlier (e ∷ later) in
       (accessed script facts n).latest (map access_of_event earlier) (map access_of_event later) (access_of_event e) accesses reads
-      ∙ ap (λ (config : MemoryConfig). left_at e.address config.fill (map access_of_event earlier)) (facts.config n)
-      ∙ sym (ap (λ node. value_after node e.address ram.fill earlier) here
+      ∙ ap (λ (config : MemoryConfig). value_after (writes_at e.address) (λ (a : Access). a.byte.value) config.fill (map access_of_event earlier)) (facts.config n)
+      ∙ sym (ap (λ node. value_after (is_write_at node e.address) event_value ram.fill earlier) here
       ∙ held-left 1 e.address ram.fill earlier (all-before (λ (x : Event). x.node ≡ 1) earlier (e ∷ later) nodes))
 
   run-delivered : (n : ℕ) → Delivered (transactions_of script) (run_events script n) (run_answers script n)
@@ -79,7 +80,7 @@ module _ (script : List ScriptItem) (facts : RunFacts script) where
     whole = All-map (λ (t : Transaction). IsAnswered t (run_answers script n) → map shown (events_of t.number (run_events script n)) ≡ map wanted (due t)) transaction script
         (λ k d lt. item-answered script facts n (get_or script k d) (All-contains_itself script k d lt));
     reads_latest =
-        All-map (λ (t : Transaction). (earlier later : List Event) (e : Event) → run_events script n ≡ earlier ++ e ∷ later → e.number ≡ t.number → e.write ≡ false → e.value ≡ value_after e.node e.address t.fill earlier)
+        All-map (λ (t : Transaction). (earlier later : List Event) (e : Event) → run_events script n ≡ earlier ++ e ∷ later → e.number ≡ t.number → e.write ≡ false → e.value ≡ value_after (is_write_at e.node e.address) event_value t.fill earlier)
         transaction script (λ k d lt earlier later e split same reads. run-latest n earlier later e split reads);
   }
 

@@ -10,22 +10,20 @@ use Rattle.std.proofs.lemmas.Simd.{map-map}
 use Rattle.axi_beats.specs.declared.beat.WBeat.{WBeat}
 use Rattle.axi_beats.specs.declared.response.Resp.{Resp}
 use Rattle.axi_beats.specs.declared.response.Resp.TheVariants.{DecErr, Okay}
-use Rattle.axi_history.specs.Answered.{answered_bytes}
 use Rattle.axi_history.specs.Delivered.{IsBeginningOf, wanted}
-use Rattle.axi_history.specs.Records.{Byte, due}
+use Rattle.axi_history.specs.Records.{due, NamedByte}
 use Rattle.axi_trail.specs.Schedule.{Share}
-use Rattle.burst_address.specs.Bytes.{beat_bytes, burst_bytes, bytes_before}
+use Rattle.burst_address.specs.Bytes.{beat_bytes, burst_bytes, bytes_before, Byte}
 use Rattle.burst_address.specs.Formulas.{beats_of}
 use Rattle.burst_address.specs.Legal.{IsLegal}
 use Rattle.manager_end.specs.Beats.{data_beats as data_of_item}
 use Rattle.manager_end.specs.ManagerTrail.{shares_of}
 use Rattle.manager_end.specs.Script.{ScriptItem}
-use Rattle.memory_end.proofs.BurstFacts.{lanes-are_bytes, status-of_burst_bytes}
 use Rattle.memory_end.proofs.DueFacts.{due-reads, due-writes}
-use Rattle.memory_end.specs.Accesses.{BeatOf, allowed_before, allowed_bytes, beats_of_parts, data_beats, due_reads, due_writes, filled_bytes, read_addresses}
-use Rattle.memory_end.specs.Beats.{Byte as MemoryByte, lane_address, valid_lanes, valid_status, written_bytes}
-use Rattle.memory_end.specs.BurstBytes.{all_written_bytes, inside_of}
-use Rattle.memory_end.specs.Status.{is_inside, is_okay, read_status, worst_among, write_status}
+use Rattle.memory_end.specs.Accesses.{BeatOf, allowed_before, allowed_bytes, beats_of_parts, due_reads, due_writes, read_addresses, beats_with_data}
+use Rattle.memory_end.specs.Beats.{valid_status, stored_bytes}
+use Rattle.memory_end.specs.BurstBytes.{inside_of, all_stored_bytes}
+use Rattle.memory_end.specs.Status.{is_inside, is_okay, read_status, write_status}
 use Rattle.net_rounds.proofs.BuiltInSchedule.{schedule_of, read_share, write_share}
 use Rattle.net_rounds.proofs.DataLemmas.{data-inside, data-status, part-bytes, ram-memory}
 use Rattle.net_rounds.proofs.NodeLaws.{NodeLaws}
@@ -35,6 +33,11 @@ use Rattle.net_rounds.specs.Due.{IsNumberedTraffic, bytes_of, response_of, strob
 use Rattle.plain_lists.proofs.KeyLemmas.{filter_map}
 use Rattle.plain_lists.proofs.PlaceLemmas.{filter-same}
 use Rattle.plain_lists.proofs.RangeLemmas.{range-more}
+use Rattle.burst_address.specs.Accesses.{answered_bytes}
+use Rattle.burst_address.specs.Lanes.{lane_address, valid_lanes}
+use Rattle.burst_address.specs.Status.{worst_among}
+use Rattle.burst_address.proofs.LaneBytes.{lanes-are_bytes}
+use Rattle.burst_address.proofs.Statuses.{valid-status}
 
 module _ {X Y Z : Type 0} where
   -- what the first elements give is the beginning of what all give
@@ -51,26 +54,26 @@ module _ {X Y Z : Type 0} where
   filter-between test g f xs = ap (map g) (filter_map test f xs) ∙ map-map g f (filter (λ x. test (f x)) xs)
 
 -- the bytes of a beat on its lanes, as due bytes
-abbrev pub shown_write : MemoryByte → ℕ × Option ℕ
+abbrev pub shown_write : Byte → ℕ × Option ℕ
 shown_write byte = (byte.address, Some byte.value)
 
 abbrev pub shown_read : ℕ → ℕ × Option ℕ
 shown_read address = (address, None)
 
-abbrev pub beat_writes : BeatOf × WBeat → List MemoryByte
-beat_writes b = written_bytes ram b.0.request b.0.beat b.1
+abbrev pub beat_writes : BeatOf × WBeat → List Byte
+beat_writes b = stored_bytes ram b.0.request b.0.beat b.1
 
-abbrev write_byte : ℕ × ℕ → Byte
-write_byte byte = record { address = byte.0; value = Some byte.1; allowed = is_okay (write_status ram byte.0) }
+abbrev write_byte : Byte → NamedByte
+write_byte byte = record { address = byte.address; value = Some byte.value; allowed = is_okay (write_status ram byte.address) }
 
-abbrev read_byte : ℕ → Byte
+abbrev read_byte : ℕ → NamedByte
 read_byte address = record { address = address; value = None; allowed = is_okay (read_status ram address) }
 
-abbrev is_allowed : Byte → Bool
+abbrev pub is_allowed : NamedByte → Bool
 is_allowed byte = byte.allowed
 
 abbrev write_response : ScriptItem → List Resp
-write_response item = worst_among (map (λ (byte : ℕ × ℕ). write_status ram byte.0) (strobed_bytes item)) ∷ []
+write_response item = worst_among (map (λ (byte : Byte). write_status ram byte.address) (strobed_bytes item)) ∷ []
 
 abbrev read_response : ScriptItem → List Resp
 read_response item = map (λ (n : ℕ). worst_among (map (read_status ram) (beat_bytes item.txn.request n))) (range_with_len 0 (beats_of item.txn.request))
@@ -132,7 +135,7 @@ module _ (item : ScriptItem) (known : IsTrafficItem item) where
   beat-allowed n =
       let allowed : ℕ → Bool = λ address. is_okay (read_status ram address) in
       sym (map-map allowed (λ lane. lane_address (part_of item) n 4 lane) (valid_lanes (part_of item) n 4))
-      ∙ ap (map allowed) (lanes-are_bytes (part_of item) 4 n refl known.legal)
+      ∙ ap (map allowed) (lanes-are_bytes (part_of item) n 4 refl known.legal)
 
   pub allowed-reads : item.txn.write ≡ false → (count : ℕ) → length (beats_of_parts (read_share item).parts) ≤ count → allowed_before ram (read_share item) count ≡ map is_allowed (bytes_of ram item)
   allowed-reads direction count all =
@@ -143,7 +146,7 @@ module _ (item : ScriptItem) (known : IsTrafficItem item) where
   -- each beat's response is the worst status of its bytes
   beat-statuses : (numbers : List ℕ) → map (λ n. valid_status ram (part_of item) n) numbers ≡ map (λ n. worst_among (map (read_status ram) (beat_bytes item.txn.request n))) numbers
   beat-statuses [] = refl
-  beat-statuses (n ∷ numbers) = ap₂ (λ (own : Resp) (more : List Resp). own ∷ more) (status-of_burst_bytes ram (part_of item) n ram-memory known.legal) (beat-statuses numbers)
+  beat-statuses (n ∷ numbers) = ap₂ (λ (own : Resp) (more : List Resp). own ∷ more) (valid-status (read_status ram) (part_of item) n 4 refl known.legal) (beat-statuses numbers)
 
   read-responses : item.txn.write ≡ false → (read_share item).responses ≡ response_of ram item
   read-responses direction =
@@ -159,60 +162,39 @@ module _ (laws : NodeLaws) (item : ScriptItem) (known : IsTrafficItem item) (dir
   write-bytes = ap (λ b. cond b (map write_byte (strobed_bytes item)) (map read_byte (burst_bytes item.txn.request))) direction
 
   -- there is no beat of data but for the beats of the request
-  few-data : length (data_beats (write_share item)) ≤ length (beats_of_parts (write_share item).parts)
+  few-data : length (beats_with_data (write_share item)) ≤ length (beats_of_parts (write_share item).parts)
   few-data = omega (arith, length-zip (beats_of_parts (write_share item).parts) (flat_map (λ beats. beats) (write_share item).write_data))
 
   -- what all beats of a write write is what is due of it
-  all-writes : map shown_write (flat_map beat_writes (data_beats (write_share item))) ≡ map wanted (due (transaction_of ram 0 1 item))
+  all-writes : map shown_write (flat_map beat_writes (beats_with_data (write_share item))) ≡ map wanted (due (transaction_of ram 0 1 item))
   all-writes =
       let share = write_share item in
       let bytes = strobed_bytes item in
-      let inside : ℕ × ℕ → Bool = λ (byte : ℕ × ℕ). is_inside ram byte.0 in
-      let kept : ℕ × ℕ → Bool = λ (byte : ℕ × ℕ). is_okay (write_status ram byte.0) in
-      let written : flat_map beat_writes (data_beats share) ≡ inside_of ram bytes =
-      ap (flat_map beat_writes) (sym (take_all (length (beats_of_parts share.parts)) (data_beats share) few-data))
+      let inside : Byte → Bool = λ (byte : Byte). is_inside ram byte.address in
+      let kept : Byte → Bool = λ (byte : Byte). is_okay (write_status ram byte.address) in
+      let written : flat_map beat_writes (beats_with_data share) ≡ inside_of ram bytes =
+      ap (flat_map beat_writes) (sym (take_all (length (beats_of_parts share.parts)) (beats_with_data share) few-data))
       ∙ due-writes ram share (ap (λ count. count ∷ []) (data-count item))
-      ∙ append-nil (all_written_bytes ram (part_of item) 0 (data_of_item item 4))
+      ∙ append-nil (all_stored_bytes ram (part_of item) 0 (data_of_item item 4))
       ∙ data-inside laws item known direction in
       ap (map shown_write) written
-      ∙ map-map shown_write (λ (byte : ℕ × ℕ). record { address = byte.0; value = byte.1 }) (filter inside bytes)
-      ∙ ap (map (λ (byte : ℕ × ℕ). (byte.0, Some byte.1))) (filter-same inside kept bytes (λ k byte at. sym (okay-inside (is_inside ram byte.0))))
+      ∙ ap (map shown_write) (filter-same inside kept bytes (λ k byte at. sym (okay-inside (is_inside ram byte.address))))
       ∙ sym (ap (λ all. map wanted (filter is_allowed all)) write-bytes ∙ filter-between is_allowed wanted write_byte bytes)
 
   -- the first data beats write the first bytes that are due, and all beats write all
   pub writes-begin : (count : ℕ) → IsBeginningOf (map shown_write (due_writes ram (write_share item) count)) (map wanted (due (transaction_of ram 0 1 item)))
   writes-begin count =
-      let front = flat-begins shown_write beat_writes count (data_beats (write_share item)) in
+      let front = flat-begins shown_write beat_writes count (beats_with_data (write_share item)) in
       (front.0, sym all-writes ∙ front.1)
 
   pub writes-whole : (count : ℕ) → length (beats_of_parts (write_share item).parts) ≤ count → map shown_write (due_writes ram (write_share item) count) ≡ map wanted (due (transaction_of ram 0 1 item))
-  writes-whole count all = ap (λ beats. map shown_write (flat_map beat_writes beats)) (take_all count (data_beats (write_share item)) (omega (arith, all, few-data))) ∙ all-writes
+  writes-whole count all = ap (λ beats. map shown_write (flat_map beat_writes beats)) (take_all count (beats_with_data (write_share item)) (omega (arith, all, few-data))) ∙ all-writes
 
   -- its response is the worst status of what the script strobes
   write-responses : (write_share item).responses ≡ response_of ram item
   write-responses = ap (λ resp. resp ∷ []) (data-status laws item known direction) ∙ sym (ap (λ b. cond b (write_response item) (read_response item)) direction)
 
 -- ---- answers
-
--- the bytes of an answer, where all values are there that are due
-pub filled-answered : (bytes : List Byte) (values : List ℕ) → length (filter is_allowed bytes) ≤ length values → filled_bytes (map is_allowed bytes) values ≡ answered_bytes bytes values
-filled-answered [] values enough = refl
-filled-answered (byte ∷ bytes) [] enough =
-    let go : (allowed : Bool) → length (cond allowed (byte ∷ filter is_allowed bytes) (filter is_allowed bytes)) ≤ 0 → filled_bytes (allowed ∷ map is_allowed bytes) [] ≡ 0 ∷ answered_bytes bytes [] =
-    elim [
-      | true ↦ λ enough. absurd (omega (arith, enough))
-      | false ↦ λ enough. ap (λ rest. 0 ∷ rest) (filled-answered bytes [] enough)
-    ]
-    in go byte.allowed enough
-filled-answered (byte ∷ bytes) (value ∷ values) enough =
-    let go :
-    (allowed : Bool) → length (cond allowed (byte ∷ filter is_allowed bytes) (filter is_allowed bytes)) ≤ suc (length values) →
-    filled_bytes (allowed ∷ map is_allowed bytes) (value ∷ values) ≡ cond allowed (value ∷ answered_bytes bytes values) (0 ∷ answered_bytes bytes (value ∷ values)) =
-    elim [
-      | true ↦ λ enough. ap (λ rest. value ∷ rest) (filled-answered bytes values (omega (arith, enough)))
-      | false ↦ λ enough. ap (λ rest. 0 ∷ rest) (filled-answered bytes (value ∷ values) enough)
-    ]
-    in go byte.allowed enough
 
 module _ (script : List ScriptItem) (t : IsNumberedTraffic script) (item : ScriptItem) (among : Contains script item) where
   -- a transaction's responses in the schedule are its own
@@ -232,18 +214,13 @@ module _ (script : List ScriptItem) (t : IsNumberedTraffic script) (item : Scrip
   pub beats-asked : item.txn.write ≡ false → length (beats_of_parts ((schedule_of script).reads item.txn.number).parts) ≡ suc item.txn.request.len
   beats-asked direction = ap (λ (s : Share). length (beats_of_parts s.parts)) (share-own script t item among false direction) ∙ beat-count item
 
-  -- what is answered for a read of which all values are there
+  -- what is answered for a read of which all beats have come
   pub due-bytes-read :
-      item.txn.write ≡ false → (count : ℕ) → item.txn.request.len < count → (values : List ℕ) → length values ≡ length (due_reads ram ((schedule_of script).reads item.txn.number) count) →
-      filled_bytes (allowed_before ram ((schedule_of script).reads item.txn.number) count) values ≡ answered_bytes (bytes_of ram item) values
-  due-bytes-read direction count enough values all =
+      item.txn.write ≡ false → (count : ℕ) → item.txn.request.len < count → (values : List ℕ) →
+      answered_bytes (allowed_before ram ((schedule_of script).reads item.txn.number) count) values ≡ answered_bytes (map is_allowed (bytes_of ram item)) values
+  due-bytes-read direction count enough values =
       let known = traffic-item script t item among in
       let own = share-own script t item among false direction in
       let beats : length (beats_of_parts (read_share item).parts) ≤ count = omega (arith, enough, beat-count item) in
-      let due_now = due_reads ram (read_share item) count in
-      let read : length due_now ≡ length (filter is_allowed (bytes_of ram item)) =
-      sym (length-map due_now shown_read) ∙ ap (λ xs. length xs) (reads-whole item known direction count beats) ∙ length-map (filter is_allowed (bytes_of ram item)) wanted in
-      let values_all : length values ≡ length due_now = all ∙ ap (λ (s : Share). length (due_reads ram s count)) own in
-      ap (λ (s : Share). filled_bytes (allowed_before ram s count) values) own
-      ∙ ap (λ allowed. filled_bytes allowed values) (allowed-reads item known direction count beats)
-      ∙ filled-answered (bytes_of ram item) values (omega (arith, values_all, read))
+      ap (λ (s : Share). answered_bytes (allowed_before ram s count) values) own
+      ∙ ap (λ allowed. answered_bytes allowed values) (allowed-reads item known direction count beats)

@@ -6,14 +6,15 @@ use Rattle.std.proofs.lemmas.Bool.{and_parts}
 use Rattle.std.proofs.lemmas.List.Elements.{All-head, All-tail, All-weaker, filter_passes}
 use Rattle.std.proofs.lemmas.Simd.{map-map}
 use Rattle.axi_history.specs.Answered.{values_of}
-use Rattle.axi_history.specs.Delivered.{value_after, is_write_at, shown}
+use Rattle.axi_history.specs.Delivered.{is_write_at, shown}
 use Rattle.axi_history.specs.Records.{Event, events_of}
-use Rattle.memory_end.specs.Accesses.{accesses_of, left_at}
+use Rattle.memory_end.specs.Accesses.{accesses_of, writes_at}
 use Rattle.memory_end.specs.Events.{Access}
 use Rattle.net_rounds.proofs.DueLemmas.{shown_read, shown_write}
 use Rattle.net_rounds.proofs.ScheduleLemmas.{beq-true}
 use Rattle.net_rounds.proofs.RunHistory.{access_of_event}
 use Rattle.plain_lists.proofs.KeyLemmas.{filter_map}
+use Rattle.burst_address.specs.Accesses.{value_after}
 
 -- an access, as the byte that it does
 abbrev pub shown_access : Access → ℕ × Option ℕ
@@ -90,16 +91,19 @@ events-values number events none =
     ∙ sym (ap (map value) (filter_map (λ (a : Access). a.number == number) access_of_event events))
     ∙ ap (map value) (one-direction false number (map access_of_event events) none)
 
--- what events at one node leave at an address is what their accesses leave there
 here-or-not : (writes there : Bool) → (writes && true && there) ≡ (writes && there)
 here-or-not true there = refl
 here-or-not false there = refl
 
-pub held-left : (node address before : ℕ) (events : List Event) → All (λ (e : Event). e.node ≡ node) events → value_after node address before events ≡ left_at address before (map access_of_event events)
+-- what events at one node leave at an address is what their accesses leave there
+abbrev pub event_value : Event → ℕ
+event_value e = e.value
+
+pub held-left : (node address before : ℕ) (events : List Event) → All (λ (e : Event). e.node ≡ node) events → value_after (is_write_at node address) event_value before events ≡ value_after (writes_at address) (λ (a : Access). a.byte.value) before (map access_of_event events)
 held-left node address before [] each = refl
 held-left node address before (e ∷ events) each =
     let here : e.node ≡ node = All-head (λ (e : Event). e.node ≡ node) e events each in
     let test : is_write_at node address e ≡ (e.write && e.address == address) =
     ap (λ b. e.write && b && (e.address == address)) (eq-eqb e.node node here) ∙ here-or-not e.write (e.address == address) in
-    ap (λ b. value_after node address (cond b e.value before) events) test
+    ap (λ b. value_after (is_write_at node address) event_value (cond b e.value before) events) test
     ∙ held-left node address (cond (e.write && e.address == address) e.value before) events (All-tail (λ (e : Event). e.node ≡ node) e events each)

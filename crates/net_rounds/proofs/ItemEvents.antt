@@ -5,20 +5,20 @@ use Rattle.std.proofs.lemmas.Bool.{cases_Bool, eqb-true}
 use Rattle.std.proofs.lemmas.List.{length-map}
 use Rattle.std.proofs.lemmas.List.Elements.{All-contains}
 use Rattle.axi_beats.specs.declared.beat.RBeat.{RBeat}
-use Rattle.axi_history.specs.Answered.{answered_bytes, values_of}
+use Rattle.axi_history.specs.Answered.{values_of}
 use Rattle.axi_history.specs.Delivered.{IsAnswered, IsBeginningOf, shown, wanted}
 use Rattle.axi_history.specs.Records.{Answer, due, events_of}
 use Rattle.axi_trail.specs.Schedule.{Share}
 use Rattle.axi_trail.specs.Words.{number_of_data, number_of_read_data, number_of_response}
 use Rattle.manager_end.specs.ManagerOrder.{IsAt}
 use Rattle.manager_end.specs.Script.{ScriptItem}
-use Rattle.memory_end.specs.Accesses.{accesses_of, allowed_before, beats_of_parts, due_reads, due_writes, filled_bytes}
+use Rattle.memory_end.specs.Accesses.{accesses_of, allowed_before, beats_of_parts, due_reads, due_writes}
 use Rattle.memory_end.specs.Events.{Access}
 use Rattle.memory_end.specs.MemoryTrail.{HasAccessed}
 use Rattle.memory_end.specs.declared.config.MemoryConfig.{MemoryConfig}
 use Rattle.memory_end.proofs.Accessed.{nil-of_map}
 use Rattle.net_rounds.proofs.BuiltInSchedule.{lower_trail, no_share, pair_at, schedule_of, progress_at, read_share, upper_trail, write_share}
-use Rattle.net_rounds.proofs.DueLemmas.{beats-asked, due-bytes-read, reads-begin, reads-whole, shown_read, shown_write, writes-begin, writes-whole}
+use Rattle.net_rounds.proofs.DueLemmas.{beats-asked, due-bytes-read, reads-begin, reads-whole, shown_read, shown_write, writes-begin, writes-whole, is_allowed}
 use Rattle.net_rounds.proofs.EventLemmas.{events-read, events-values, events-written}
 use Rattle.net_rounds.proofs.NotedLists.{all-answers}
 use Rattle.net_rounds.proofs.ScheduleLemmas.{IsTrafficItem, one-number, share-other, share-own, traffic-item}
@@ -29,6 +29,7 @@ use Rattle.net_rounds.specs.Due.{bytes_of, transaction_of}
 use Rattle.plain_lists.proofs.KeyLemmas.{of_key-append}
 use Rattle.plain_lists.specs.Keys.{of_key}
 use Rattle.plain_lists.proofs.PlaceLemmas.{contains-at}
+use Rattle.burst_address.specs.Accesses.{answered_bytes}
 
 -- of no beats nothing is due
 nothing-written : (count : ℕ) → due_writes ram no_share count ≡ []
@@ -102,15 +103,11 @@ module _ (script : List ScriptItem) (facts : RunFacts script) (n : ℕ) where
     -- what the memory has filled in of a read that it has wholly answered is what is due
     pub item-filled :
         item.txn.write ≡ false → item.txn.request.len < read_beats item.txn.number →
-        filled_bytes (allowed_before ram ((schedule_of script).reads item.txn.number) (read_beats item.txn.number)) (map (λ (a : Access). a.byte.value) (accesses_of false item.txn.number run_accesses))
-        ≡ answered_bytes (bytes_of ram item) (values_of item.txn.number (run_events script n))
+        answered_bytes (allowed_before ram ((schedule_of script).reads item.txn.number) (read_beats item.txn.number)) (map (λ (a : Access). a.byte.value) (accesses_of false item.txn.number run_accesses))
+        ≡ answered_bytes (map is_allowed (bytes_of ram item)) (values_of item.txn.number (run_events script n))
     item-filled direction enough =
-        let mine = accesses_of false item.txn.number run_accesses in
-        let values = map (λ (a : Access). a.byte.value) mine in
-        let due_now = due_reads ram ((schedule_of script).reads item.txn.number) (read_beats item.txn.number) in
-        let all : length values ≡ length due_now =
-        length-map mine (λ (a : Access). a.byte.value) ∙ sym (length-map mine (λ (a : Access). a.byte.address)) ∙ ap (λ (addresses : List ℕ). length addresses) (read item.txn.number) in
-        due-bytes-read script facts.traffic item among direction (read_beats item.txn.number) enough values all ∙ ap (answered_bytes (bytes_of ram item)) (sym (item-values direction))
+        due-bytes-read script facts.traffic item among direction (read_beats item.txn.number) enough (map (λ (a : Access). a.byte.value) (accesses_of false item.txn.number run_accesses))
+        ∙ ap (answered_bytes (map is_allowed (bytes_of ram item))) (sym (item-values direction))
 
     -- a write whose one response has come has all its data written
     write-all : (place : ℕ) → IsAt (pair_at script n).manager.state place item → item.txn.write ≡ true → 0 < (note script n place).answered → length (beats_of_parts (write_share item).parts) ≤ written_beats item.txn.number

@@ -14,7 +14,8 @@ use Rattle.burst_address.specs.Bytes.{burst_bytes}
 use Rattle.burst_address.specs.Formulas.{beats_of}
 use Rattle.burst_address.specs.Legal.{IsLegal}
 use Rattle.link_ports.specs.LegalSchedule.{IsDataOf}
-use Rattle.manager_end.specs.Beats.{data_beat, data_beats, high_lane, low_lane, request_of}
+use Rattle.burst_address.specs.Lanes.{last_lane, first_lane}
+use Rattle.manager_end.specs.Beats.{data_beat, data_beats, item_request}
 use Rattle.manager_end.specs.BurstLaws.{DataStrobesAreWithin, SendsItsBytes}
 use Rattle.manager_end.specs.Script.{ScriptItem, sent_bytes}
 use Rattle.net_rounds.proofs.BuiltInSchedule.{no_share, share_of, write_share}
@@ -36,8 +37,8 @@ none-data = tt
 
 -- a request is as legal without its ID and with another tag
 pub legal-parts : (write : Bool) (item : ScriptItem) → IsLegal item.txn.request 4 → HasLegalParts (share_of write item)
-legal-parts true item legal = All-from_recursion (λ part. IsLegal part 4) (without_id (request_of item) ∷ []) (legal, tt)
-legal-parts false item legal = All-from_recursion (λ part. IsLegal part 4) (without_id (request_of item) ∷ []) (legal, tt)
+legal-parts true item legal = All-from_recursion (λ part. IsLegal part 4) (without_id (item_request item) ∷ []) (legal, tt)
+legal-parts false item legal = All-from_recursion (λ part. IsLegal part 4) (without_id (item_request item) ∷ []) (legal, tt)
 
 -- a write sends a byte for each valid one of its burst
 sends-bytes : (item : ScriptItem) → IsLegal item.txn.request 4 → item.txn.write ≡ true → length item.bytes ≡ sent_bytes item.txn → SendsItsBytes 4 item
@@ -52,11 +53,11 @@ within-lanes : (low high strobe : ℕ) → strobe % 2 ^ low ≡ 0 → strobe < 2
 within-lanes low high strobe from up_to = and_from (strobe % 2 ^ low == 0) (nat_lt strobe (2 ^ (high + 1))) (eq-eqb (strobe % 2 ^ low) 0 from) (lt-ltb strobe (2 ^ (high + 1)) up_to)
 
 -- the data of a write is that of its request
-pub item-data : DataStrobesAreWithin → (item : ScriptItem) → SendsItsBytes 4 item → IsDataOf 4 (without_id (request_of item)) (data_beats item 4)
+pub item-data : DataStrobesAreWithin → (item : ScriptItem) → SendsItsBytes 4 item → IsDataOf 4 (without_id (item_request item)) (data_beats item 4)
 item-data within item sends =
     let beats = beats_of item.txn.request in
     let many : length (data_beats item 4) ≡ beats = length-map-range_with_len (data_beat item 4) 0 beats in
-    let IsWithin : ℕ → WBeat → Type 0 = λ n beat. IsTrue (strobes_within (low_lane 4 item.txn.request n) (high_lane 4 item.txn.request n) beat.strobe) in
+    let IsWithin : ℕ → WBeat → Type 0 = λ n beat. IsTrue (strobes_within (first_lane item.txn.request n 4) (last_lane item.txn.request n 4) beat.strobe) in
     record {
       whole = many;
       strobes = λ n past below.
@@ -64,7 +65,7 @@ item-data within item sends =
           let lanes = within item 4 n sends here in
           let same : 0 + n ≡ n = omega arith in
           let beat : get_or (data_beats item 4) n past ≡ data_beat item 4 n = get_or-map-range_with_len (data_beat item 4) 0 beats n n past here same in
-          subst (IsWithin n) (sym beat) (within-lanes (low_lane 4 item.txn.request n) (high_lane 4 item.txn.request n) (data_beat item 4 n).strobe lanes.0 lanes.1);
+          subst (IsWithin n) (sym beat) (within-lanes (first_lane item.txn.request n 4) (last_lane item.txn.request n 4) (data_beat item 4 n).strobe lanes.0 lanes.1);
     }
 
 pub write-data :

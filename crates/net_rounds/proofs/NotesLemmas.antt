@@ -20,7 +20,7 @@ use Rattle.burst_address.specs.Bytes.{beat_bytes, burst_bytes, bytes_before}
 use Rattle.burst_address.specs.Formulas.{aligned, beats_of, size_of}
 use Rattle.burst_address.specs.Legal.{IsLegal, is_in_page, is_length_of}
 use Rattle.manager_end.specs.Answer.{AnswerView, answered_in, awaited_of, unanswered}
-use Rattle.manager_end.specs.Beats.{high_lane, low_lane, bytes_on_valid_lanes}
+use Rattle.manager_end.specs.Beats.{bytes_on_valid_lanes}
 use Rattle.manager_end.specs.ManagerOrder.{note_at}
 use Rattle.manager_end.specs.ManagerState.{IsDue, IsManager, ManagerState, due_bytes, due_resps, is_answered, is_done, new_manager}
 use Rattle.manager_end.specs.ManagerTable.{manager_next}
@@ -31,6 +31,7 @@ use Rattle.manager_end.proofs.NoteLemmas.Change.{Issued, Kept, Read, Wrote}
 use Rattle.manager_end.proofs.ScriptLemmas.{script-item}
 use Rattle.net_rounds.specs.Notes.{AreNotes}
 use Rattle.plain_lists.proofs.PlaceLemmas.{at-all}
+use Rattle.burst_address.specs.Lanes.{last_lane, first_lane}
 
 -- ---- counting: where as many pass as there are, all pass
 
@@ -94,7 +95,7 @@ lanes-most : (bus n : ℕ) (request : Addr) (lanes : List ℕ) → IsBusWidth bu
 lanes-most bus n request lanes wide legal =
     let count = lane-count request bus n wide legal in
     let order = lane-order request bus n wide legal in
-    let taken = length-take (high_lane bus request n + 1 - low_lane bus request n) (drop (low_lane bus request n) lanes) in
+    let taken = length-take (last_lane request n bus + 1 - first_lane request n bus) (drop (first_lane request n bus) lanes) in
     omega (arith, count, order, taken)
 
 -- a beat of a read

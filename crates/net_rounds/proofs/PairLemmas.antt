@@ -14,7 +14,7 @@ use Rattle.burst_address.specs.Legal.{IsLegal}
 use Rattle.manager_end.proofs.DataLaws.{data-strobes_within}
 use Rattle.manager_end.proofs.ManagerLaws.{manager-stays}
 use Rattle.manager_end.proofs.ScriptLemmas.{script-item}
-use Rattle.manager_end.specs.Beats.{request_of, data_beat, high_lane}
+use Rattle.manager_end.specs.Beats.{data_beat, item_request}
 use Rattle.manager_end.specs.BurstLaws.{SendsItsBytes}
 use Rattle.manager_end.specs.ManagerState.{ManagerState, IsManager, CanManager, of_direction, writes_of, reads_of}
 use Rattle.manager_end.specs.ManagerTable.{manager_aw, manager_ar, manager_w, manager_out, ready}
@@ -28,6 +28,7 @@ use Rattle.net_rounds.proofs.Pair.{Pair, decided, moved, pair_after}
 use Rattle.net_rounds.proofs.ScriptPlaces.{placed-of}
 use Rattle.net_rounds.proofs.StoreStays.{lines-stay}
 use Rattle.plain_lists.proofs.PlaceLemmas.{at-all, contains-at, All-slice_get, IfSome-both, IfSome-map}
+use Rattle.burst_address.specs.Lanes.{last_lane}
 
 -- what is put on a link
 put-has : {X : Type 0} (P : X → Type 0) (number : ℕ) (o : Option X) → IfSome o P → IfSome (put_of number o) (λ (p : ℕ × X). P p.1)
@@ -58,7 +59,7 @@ chosen-of s m write k d within =
     }
 
 -- the request that is put is the script's with its tag
-tagged-request : (bus : ℕ) (item : ScriptItem) → IsRequest bus item.txn.request → IsRequest bus (request_of item)
+tagged-request : (bus : ℕ) (item : ScriptItem) → IsRequest bus item.txn.request → IsRequest bus (item_request item)
 tagged-request bus item is = record { legal = is.legal; small = is.small }
 
 -- the strobes of a write's data are on lanes of the bus
@@ -72,24 +73,24 @@ strobe-small script bus n item wide chosen some =
     } in
     let within = data-strobes_within item bus n sends (omega (arith, some)) in
     let high = (beat-count request bus n wide chosen.request.legal).3 in
-    let most = pow-le-pow_right {n = 2} (omega arith) {i = high_lane bus request n + 1} {j = bus} (omega (arith, high)) in
+    let most = pow-le-pow_right {n = 2} (omega arith) {i = last_lane request n bus + 1} {j = bus} (omega (arith, high)) in
     omega (arith, within.1, most)
 
 -- what the manager puts has what its script has
 aw-puts :
-    (P : Addr → Type 0) (links : List LinkView) (s : ManagerState) → All (λ (p : ℕ × ScriptItem). P (request_of p.1)) (writes_of s.script) →
+    (P : Addr → Type 0) (links : List LinkView) (s : ManagerState) → All (λ (p : ℕ × ScriptItem). P (item_request p.1)) (writes_of s.script) →
     IfSome (manager_out links s).aw_put (λ (p : ℕ × Addr). P p.1)
 aw-puts P links s all =
-    let Has : ℕ × ScriptItem → Type 0 = λ p. P (request_of p.1) in
-    put-has P s.lower _ (IfSome-map (λ (next : ℕ × ScriptItem). request_of next.1) P (manager_aw links s)
+    let Has : ℕ × ScriptItem → Type 0 = λ p. P (item_request p.1) in
+    put-has P s.lower _ (IfSome-map (λ (next : ℕ × ScriptItem). item_request next.1) P (manager_aw links s)
     (passing-has Has _ _ (ready-has Has s.answered _ (All-slice_get Has (writes_of s.script) s.issued_writes all))))
 
 ar-puts :
-    (P : Addr → Type 0) (links : List LinkView) (s : ManagerState) → All (λ (p : ℕ × ScriptItem). P (request_of p.1)) (reads_of s.script) →
+    (P : Addr → Type 0) (links : List LinkView) (s : ManagerState) → All (λ (p : ℕ × ScriptItem). P (item_request p.1)) (reads_of s.script) →
     IfSome (manager_out links s).ar_put (λ (p : ℕ × Addr). P p.1)
 ar-puts P links s all =
-    let Has : ℕ × ScriptItem → Type 0 = λ p. P (request_of p.1) in
-    put-has P s.lower _ (IfSome-map (λ (next : ℕ × ScriptItem). request_of next.1) P (manager_ar links s)
+    let Has : ℕ × ScriptItem → Type 0 = λ p. P (item_request p.1) in
+    put-has P s.lower _ (IfSome-map (λ (next : ℕ × ScriptItem). item_request next.1) P (manager_ar links s)
     (passing-has Has _ _ (ready-has Has s.answered _ (All-slice_get Has (reads_of s.script) s.issued_reads all))))
 
 w-puts :
@@ -113,7 +114,7 @@ pub record LinkHolds (config : MemoryConfig) (lines : List ℕ) (l : LinkView) :
 
 -- the memory keeps the lines of each write of the script
 pub record KeepsLines (config : MemoryConfig) (lines : List ℕ) (script : List ScriptItem) : Type 0 where
-  pub kept : All (λ (p : ℕ × ScriptItem). AreLinesAmong config lines (request_of p.1)) (writes_of script)
+  pub kept : All (λ (p : ℕ × ScriptItem). AreLinesAmong config lines (item_request p.1)) (writes_of script)
 
 -- what holds of the pair after every round
 pub record PairHolds (p : Pair) : Type 0 where
@@ -163,12 +164,12 @@ link-keeps p n holds =
       aw = All-moved Request 0 takes.aw_take puts.aw_put p.link.aw holds.link.aw
           (aw-puts Request links s (λ k d lt.
           let item = (get_or (writes_of s.script) k d).1 in
-          subst (λ (bus : ℕ). IsRequest bus (request_of item)) holds.bus (tagged-request s.bus item (writes k d lt).request)));
+          subst (λ (bus : ℕ). IsRequest bus (item_request item)) holds.bus (tagged-request s.bus item (writes k d lt).request)));
       aw_lines = All-moved (AreLinesAmong config lines) 0 takes.aw_take puts.aw_put p.link.aw holds.link.aw_lines (aw-puts (AreLinesAmong config lines) links s holds.lines.kept);
       ar = All-moved Request 0 takes.ar_take puts.ar_put p.link.ar holds.link.ar
           (ar-puts Request links s (λ k d lt.
           let item = (get_or (reads_of s.script) k d).1 in
-          subst (λ (bus : ℕ). IsRequest bus (request_of item)) holds.bus (tagged-request s.bus item (reads k d lt).request)));
+          subst (λ (bus : ℕ). IsRequest bus (item_request item)) holds.bus (tagged-request s.bus item (reads k d lt).request)));
       w = All-moved Strobe 0 takes.w_take puts.w_put p.link.w holds.link.w
           (w-puts Strobe links s holds.manager (λ k d lt n some.
           let item = (get_or (writes_of s.script) k d).1 in

@@ -8,7 +8,7 @@ use Rattle.axi_trail.specs.LinkContracts.{Asks}
 use Rattle.axi_trail.specs.Trail.{Beats, IsLinkRun}
 use Rattle.axi_trail.specs.Words.{number_of_address}
 use Rattle.manager_end.specs.Answer.{AnswerView}
-use Rattle.manager_end.specs.Beats.{request_of}
+use Rattle.manager_end.specs.Beats.{item_request}
 use Rattle.manager_end.specs.ManagerOrder.{Notes, note_at}
 use Rattle.manager_end.specs.ManagerState.{of_direction, reads_of, writes_of}
 use Rattle.manager_end.specs.Script.{ScriptItem}
@@ -59,13 +59,13 @@ module _ (script : List ScriptItem) (write : Bool) where
     pub direction : item.txn.write ≡ write
     pub same_number : item.txn.number ≡ number
 
-  pub put-of : (count : ℕ) (addresses : List Addr) (number : ℕ) → addresses ≡ map (λ (p : ℕ × ScriptItem). request_of p.1) (take count (of_direction write script)) →
+  pub put-of : (count : ℕ) (addresses : List Addr) (number : ℕ) → addresses ≡ map (λ (p : ℕ × ScriptItem). item_request p.1) (take count (of_direction write script)) →
       Contains (map number_of_address addresses) number → IsPut number
   put-of count addresses number are among =
       let Put : ℕ → Type 0 = IsPut in
-      let requests = map (λ (p : ℕ × ScriptItem). request_of p.1) (take count (of_direction write script)) in
+      let requests = map (λ (p : ℕ × ScriptItem). item_request p.1) (take count (of_direction write script)) in
       let each : All (λ (a : Addr). IsPut a.tag.txn) requests =
-      All-map (λ (a : Addr). IsPut a.tag.txn) (λ (p : ℕ × ScriptItem). request_of p.1) (take count (of_direction write script))
+      All-map (λ (a : Addr). IsPut a.tag.txn) (λ (p : ℕ × ScriptItem). item_request p.1) (take count (of_direction write script))
       (All-take (λ (p : ℕ × ScriptItem). IsPut p.1.txn.number) count (of_direction write script)
       (λ k d lt. let placed = placed-of script write k d lt in record { place = _; item = _; at = placed.at; direction = placed.direction; same_number = refl })) in
       All-contains Put (map number_of_address addresses) number (All-map Put number_of_address addresses (subst (All (λ (a : Addr). IsPut a.tag.txn)) (sym are) each)) among
@@ -94,7 +94,7 @@ module _ (laws : NodeLaws) (script : List ScriptItem) (traffic : IsNumberedTraff
       (subst (λ (numbers : List ℕ). Contains numbers a.number) (sym (map-append number_of_address (lower_trail script n).aw (pair_at script n).link.aw))
       (Contains-append_left (map number_of_address (lower_trail script n).aw) (map number_of_address (pair_at script n).link.aw) a.number among)) in
       let put = put-of script true (pair_at script n).manager.state.issued_writes (upper_trail script n).aw a.number
-      ((keeps-of n).manager.passed.aw ∙ ap (λ (items : List ScriptItem). map (λ (p : ℕ × ScriptItem). request_of p.1) (take (pair_at script n).manager.state.issued_writes (writes_of items))) (script-at n)) upper in
+      ((keeps-of n).manager.passed.aw ∙ ap (λ (items : List ScriptItem). map (λ (p : ℕ × ScriptItem). item_request p.1) (take (pair_at script n).manager.state.issued_writes (writes_of items))) (script-at n)) upper in
       record {
         place = put.place;
         item = put.item;
@@ -113,7 +113,7 @@ module _ (laws : NodeLaws) (script : List ScriptItem) (traffic : IsNumberedTraff
       (subst (λ (numbers : List ℕ). Contains numbers a.number) (sym (map-append number_of_address (lower_trail script n).ar (pair_at script n).link.ar))
       (Contains-append_left (map number_of_address (lower_trail script n).ar) (map number_of_address (pair_at script n).link.ar) a.number among)) in
       let put = put-of script false (pair_at script n).manager.state.issued_reads (upper_trail script n).ar a.number
-      ((keeps-of n).manager.passed.ar ∙ ap (λ (items : List ScriptItem). map (λ (p : ℕ × ScriptItem). request_of p.1) (take (pair_at script n).manager.state.issued_reads (reads_of items))) (script-at n)) upper in
+      ((keeps-of n).manager.passed.ar ∙ ap (λ (items : List ScriptItem). map (λ (p : ℕ × ScriptItem). item_request p.1) (take (pair_at script n).manager.state.issued_reads (reads_of items))) (script-at n)) upper in
       record {
         place = put.place;
         item = put.item;

@@ -10,10 +10,12 @@ use Rattle.std.proofs.lemmas.List.FromFn.{length-range_with_len}
 use Rattle.axi_beats.specs.declared.beat.Addr.{Addr}
 use Rattle.axi_beats.specs.declared.beat.WBeat.{WBeat}
 use Rattle.axi_trail.specs.LinkContracts.{without_id}
-use Rattle.axi_trail.specs.Schedule.{SameChain, Share, Span}
+use Rattle.axi_beats.specs.Lanes.{Span}
+use Rattle.axi_trail.specs.Schedule.{SameChain, Share}
 use Rattle.burst_address.specs.Formulas.{beats_of}
 use Rattle.burst_address.specs.Legal.{IsLegal}
-use Rattle.manager_end.specs.Beats.{data_beat, data_beats, high_lane, low_lane, request_of}
+use Rattle.burst_address.specs.Lanes.{last_lane, first_lane}
+use Rattle.manager_end.specs.Beats.{data_beat, data_beats, item_request}
 use Rattle.manager_end.specs.ManagerTrail.{HasItem, IsItsOwn, IsScheduleOf, shares_of}
 use Rattle.manager_end.specs.Script.{ScriptItem, sent_bytes}
 use Rattle.memory_end.proofs.BeatLemmas.{lanes-ordered}
@@ -123,8 +125,8 @@ not-itself false same = true≢false same
 
 -- a transaction's share isn't empty
 some-share : (write : Bool) (item : ScriptItem) → share_of write item ≢ no_share
-some-share true item none = let parts : without_id (request_of item) ∷ [] ≡ [] = ap (λ (s : Share). s.parts) none in absurd (cc)
-some-share false item none = let parts : without_id (request_of item) ∷ [] ≡ [] = ap (λ (s : Share). s.parts) none in absurd (cc)
+some-share true item none = let parts : without_id (item_request item) ∷ [] ≡ [] = ap (λ (s : Share). s.parts) none in absurd (cc)
+some-share false item none = let parts : without_id (item_request item) ∷ [] ≡ [] = ap (λ (s : Share). s.parts) none in absurd (cc)
 
 -- a transaction that the first one isn't, by direction or number, is one of the others
 among-later :
@@ -172,7 +174,7 @@ module _ (script : List ScriptItem) (t : IsNumberedTraffic script) (item : Scrip
 
 -- the request of a transaction, as it is in its share
 abbrev pub part_of : ScriptItem → Addr
-part_of item = without_id (request_of item)
+part_of item = without_id (item_request item)
 
 -- and a beat of it
 abbrev pub beat_of : ScriptItem → ℕ → BeatOf
@@ -196,16 +198,16 @@ data-count item =
 abbrev span : ℕ → ℕ → Span
 span low high = record { low = low; high = high }
 
-beat-span : (item : ScriptItem) → IsTrafficItem item → (n : ℕ) → span_of ram (beat_of item n) ≡ span (low_lane 4 item.txn.request n) (high_lane 4 item.txn.request n)
+beat-span : (item : ScriptItem) → IsTrafficItem item → (n : ℕ) → span_of ram (beat_of item n) ≡ span (first_lane item.txn.request n 4) (last_lane item.txn.request n 4)
 beat-span item known n =
-    counted (low_lane 4 item.txn.request n) (high_lane 4 item.txn.request n) (lanes-ordered item.txn.request n 4 refl known.legal)
+    counted (first_lane item.txn.request n 4) (last_lane item.txn.request n 4) (lanes-ordered item.txn.request n 4 refl known.legal)
   where
     counted : (low high : ℕ) → low ≤ high → span low (low + (high - low + 1) - 1) ≡ span low high
     counted low high ordered = let last : low + (high - low + 1) - 1 ≡ high = omega arith in ap (span low) last
 
 beat-spans :
     (item : ScriptItem) → IsTrafficItem item → (numbers : List ℕ) →
-    map (span_of ram) (map (beat_of item) numbers) ≡ map (λ n. span (low_lane 4 item.txn.request n) (high_lane 4 item.txn.request n)) numbers
+    map (span_of ram) (map (beat_of item) numbers) ≡ map (λ n. span (first_lane item.txn.request n 4) (last_lane item.txn.request n 4)) numbers
 beat-spans item known [] = refl
 beat-spans item known (n ∷ numbers) = ap₂ (λ (one : Span) (more : List Span). one ∷ more) (beat-span item known n) (beat-spans item known numbers)
 

@@ -8,7 +8,7 @@ use Rattle.std.proofs.lemmas.List.FromFn.{get_or-range_with_len, length-range_wi
 use Rattle.std.proofs.lemmas.List.Kept.{AllPairs-filter}
 use Rattle.axi_beats.specs.declared.beat.Addr.{Addr}
 use Rattle.burst_address.specs.Formulas.{beat_at, beats_of}
-use Rattle.manager_end.specs.Beats.{request_of}
+use Rattle.manager_end.specs.Beats.{item_request}
 use Rattle.manager_end.specs.ManagerState.{ManagerState, IsManager, writes_of}
 use Rattle.manager_end.specs.Script.{ScriptItem}
 use Rattle.memory_end.specs.MemoryState.{AreLinesAmong}
@@ -57,7 +57,7 @@ inside-low a inside = grind (arith, nat_tests)
 line-low : (a : ℕ) → a < 8192 → line_of a < 64
 line-low a low = omega arith
 
-touched-item : (script : List ScriptItem) (item : ScriptItem) → Contains script item → item.txn.write ≡ true → AreLinesAmong ram (touched_lines script) (request_of item)
+touched-item : (script : List ScriptItem) (item : ScriptItem) → Contains script item → item.txn.write ≡ true → AreLinesAmong ram (touched_lines script) (item_request item)
 unfolding touched_lines
 touched-item script item among writes beat some inside =
     let address = beat_at item.txn.request beat in

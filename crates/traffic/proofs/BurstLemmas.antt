@@ -10,7 +10,7 @@ use Rattle.axi_beats.specs.declared.beat.Addr.{Addr}
 use Rattle.axi_beats.specs.declared.beat.Burst.{Burst}
 use Rattle.axi_beats.specs.declared.beat.Burst.TheVariants.{Fixed, Incr, Wrap}
 use Rattle.burst_address.specs.Bytes.{beat_bytes, burst_bytes, bytes_before, valid_bytes}
-use Rattle.burst_address.specs.Formulas.{address_of, aligned, beats_of, size_of, wrap_boundary}
+use Rattle.burst_address.specs.Formulas.{address_by_kind, aligned, beats_of, size_of, wrap_boundary}
 use Rattle.burst_address.specs.Legal.{is_start_of, IsLegal}
 use Rattle.burst_address.proofs.Beats.{incr-bytes, wrap-bytes}
 use Rattle.burst_address.proofs.Legality.{legal-start}
@@ -37,7 +37,7 @@ fixed-before a zero e = let none : 0 ≡ 0 * first_of a = omega arith in none
 fixed-before a (suc n) e =
     let rest : length (bytes_before a n) ≡ n * first_of a = fixed-before a n e in
     let beat : length (beat_bytes a n) ≡ first_of a =
-    ap (λ b. length (valid_bytes (size_of a) (address_of b (size_of a) (beats_of a) a.addr n))) e
+    ap (λ b. length (valid_bytes (size_of a) (address_by_kind b (size_of a) (beats_of a) a.addr n))) e
     ∙ length-range_with_len a.addr (aligned (size_of a) a.addr + size_of a - a.addr)
     ∙ (block-rest (size_of a) a.addr (pow_pos a.size)).0 in
     let sum : length (bytes_before a n ++ beat_bytes a n) ≡ length (bytes_before a n) + length (beat_bytes a n) = length-append (bytes_before a n) (beat_bytes a n) in

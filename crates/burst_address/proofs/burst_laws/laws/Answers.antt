@@ -1,3 +1,4 @@
+use Rattle.burst_address.proofs.Alone.{burst-alone, written-alone}
 use Rattle.burst_address.proofs.Beats.{incr-bytes, wrap-bytes, burst-page, burst-limit, beat-line, beat-count, beat-follow, strobes-below}
 use Rattle.burst_address.proofs.Written.{written-more}
 use Rattle.burst_address.proofs.burst_laws.laws.Goals as goal
@@ -28,3 +29,6 @@ returns-clause-wrap c = wrap-bytes
 
 pub returns-clause-written : goal.returns-clause-written
 returns-clause-written c = written-more
+
+pub returns-clause-id : goal.returns-clause-id
+returns-clause-id c bus a id tag ws = (burst-alone a id tag, written-alone bus a id tag ws)

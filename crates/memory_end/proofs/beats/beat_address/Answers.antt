@@ -1,4 +1,5 @@
-use Rattle.memory_end.proofs.BeatLemmas.{legal-wider, width-bounds}
+use Rattle.burst_address.proofs.Legality.{legal-wider}
+use Rattle.burst_address.proofs.Widths.{width-bounds}
 use Rattle.memory_end.proofs.beats.beat_address.Goals as goal
 
 pub beat_address-requires-clause-legal : goal.beat_address-requires-clause-legal

@@ -1,11 +1,12 @@
 use Rattle.std.proofs.Common.{◌≡◌, ◌+◌, ◌-◌, ◌∙◌, ℕ, sym, ap, arith}
 use Rattle.std.proofs.lemmas.Nat.{div-add-mod'}
 use Rattle.axi_beats.specs.declared.beat.Addr.{Addr}
+use Rattle.burst_address.proofs.LaneBytes.{lanes-ordered}
 use Rattle.burst_address.specs.Formulas.{beat_at, size_of, upper_lane}
-use Rattle.memory_end.specs.Beats.{first_lane, lane_count, word_address}
+use Rattle.burst_address.specs.Lanes.{first_lane, lane_count, word_address}
 use Rattle.memory_end.specs.Status.{is_inside}
 use Rattle.memory_end.specs.Store.{lanes_between}
-use Rattle.memory_end.proofs.BeatLemmas.{answered-inside, answered-outside, inside-beat, lanes-ordered}
+use Rattle.memory_end.proofs.BeatLemmas.{answered-inside, answered-outside, inside-beat}
 use Rattle.memory_end.proofs.beats.read_lanes.Goals as goal
 
 pub returns-then-not-is_inside : goal.returns-then-not-is_inside

@@ -1,4 +1,4 @@
-use Rattle.memory_end.proofs.BurstFacts.{beats-in_lines, lanes-are_bytes, lines-of_burst, reads-burst_bytes, status-of_burst_bytes, status-of_written_bytes, writes-beat_bytes, writes-burst_bytes}
+use Rattle.memory_end.proofs.BurstFacts.{lines-of_burst, reads-burst_bytes, writes-beat_bytes, writes-burst_bytes}
 use Rattle.memory_end.proofs.DueFacts.{due-reads, due-writes}
 use Rattle.memory_end.proofs.FitLemmas.{memory-fits}
 use Rattle.memory_end.proofs.ReadLemmas.{reads-written, reads-others}
@@ -24,29 +24,17 @@ returns-clause-stays c = memory-stays
 pub returns-clause-keeps : goal.returns-clause-keeps
 returns-clause-keeps c = memory-keeps
 
-pub returns-clause-bytes : goal.returns-clause-bytes
-returns-clause-bytes c = lanes-are_bytes
-
-pub returns-clause-lines : goal.returns-clause-lines
-returns-clause-lines c = beats-in_lines
-
 pub returns-clause-burst_lines : goal.returns-clause-burst_lines
 returns-clause-burst_lines c = lines-of_burst
 
 pub returns-clause-reads : goal.returns-clause-reads
 returns-clause-reads c = reads-burst_bytes
 
-pub returns-clause-read_status : goal.returns-clause-read_status
-returns-clause-read_status c = status-of_burst_bytes
-
 pub returns-clause-writes : goal.returns-clause-writes
 returns-clause-writes c = writes-burst_bytes
 
 pub returns-clause-beat_writes : goal.returns-clause-beat_writes
 returns-clause-beat_writes c = writes-beat_bytes
-
-pub returns-clause-write_status : goal.returns-clause-write_status
-returns-clause-write_status c = status-of_written_bytes
 
 pub returns-clause-due_reads : goal.returns-clause-due_reads
 returns-clause-due_reads c = due-reads

@@ -1,6 +1,6 @@
 use Rattle.std.specs.Prelude.{◌≡◌, ◌+◌, fold, filter, slice_index, slice_set}
 use Rattle.std.specs.List.{range_with_len}
-use Rattle.memory_end.specs.Beats.{is_strobed}
+use Rattle.burst_address.specs.Lanes.{is_strobed}
 use Rattle.memory_end.proofs.store.write_lanes.Given as goal
 
 abbrev pub invariant-loop-lane : goal.invariant-loop-lane

@@ -2,7 +2,8 @@ use Rattle.std.proofs.Common.{◌≡◌, ◌≤◌, ◌+◌, ◌-◌, ◌++◌, 
 use Rattle.std.specs.Prelude.{drop}
 use Rattle.std.proofs.lemmas.List.{take_at}
 use Rattle.manager_end.specs.Answer.{answered_in}
-use Rattle.manager_end.specs.Beats.{high_lane, low_lane, bytes_on_valid_lanes}
+use Rattle.burst_address.specs.Lanes.{last_lane, first_lane}
+use Rattle.manager_end.specs.Beats.{bytes_on_valid_lanes}
 use Rattle.manager_end.proofs.AnswerLemmas.{beat-fits, came-is, noted-after}
 use Rattle.manager_end.proofs.BurstLemmas.{lane-order}
 use Rattle.manager_end.proofs.answer.Answer.note_data.Goals as goal
@@ -30,8 +31,8 @@ returns-clause-note c =
     in let back : take c.self.inside.bytes.len (c.put_lanes.new.bytes ++ drop (length c.put_lanes.new.bytes) c.self.inside.bytes.items) ≡ c.put_lanes.new.bytes = take_at c.put_lanes.new.bytes (drop (length c.put_lanes.new.bytes) c.self.inside.bytes.items) c.self.inside.bytes.len (c.put_lanes.ensures.length ∙ c.deref_mut.ensures.len)
     in c.note_response.ensures.note
     ∙ ap (λ (bytes : List ℕ). answered_in c.args.round c.args.beat.now.resp [] (record { issued = c.self.inside.issued; answered = c.self.inside.answered; resps = take c.self.inside.came c.self.inside.resps.items; bytes = take (c.self.inside.read + c.from.result + 1) bytes; due_resps = length c.self.inside.resps.items; due_bytes = length bytes })) back
-    ∙ noted-after c.args.round c.args.beat.now.resp c.self.inside c.args.self.now c.put_lanes.new.bytes c.args.beat.now.lanes (low_lane c.args.bus c.args.request.now c.self.inside.came) (high_lane c.args.bus c.args.request.now c.self.inside.came) c.from.result _ _ c.self.view_is
-    (c.from.ensures ∙ ap (λ (k : ℕ). k - c.lanes-low.result.0) c.lanes-low.ensures.upper ∙ ap (λ (k : ℕ). high_lane c.args.bus c.args.request.now c.self.inside.came - k) c.lanes-low.ensures.lower)
+    ∙ noted-after c.args.round c.args.beat.now.resp c.self.inside c.args.self.now c.put_lanes.new.bytes c.args.beat.now.lanes (first_lane c.args.request.now c.self.inside.came c.args.bus) (last_lane c.args.request.now c.self.inside.came c.args.bus) c.from.result _ _ c.self.view_is
+    (c.from.ensures ∙ ap (λ (k : ℕ). k - c.lanes-low.result.0) c.lanes-low.ensures.upper ∙ ap (λ (k : ℕ). last_lane c.args.request.now c.self.inside.came c.args.bus - k) c.lanes-low.ensures.lower)
     (lane-order c.args.request.now c.args.bus c.self.inside.came c.requires.bus c.requires.legal)
     c.lanes-low.ensures.lower refl
     (c.put_lanes.ensures.put ∙ ap (λ (bytes : List ℕ). take c.self.inside.read bytes ++ take (c.self.inside.read + c.from.result + 1 - c.self.inside.read) (drop c.lanes-low.result.0 c.args.beat.now.lanes)) c.deref_mut.ensures.value)

@@ -5,7 +5,7 @@ use Rattle.axi_link.specs.Acted.{Acted}
 use Rattle.axi_link.specs.LinkView.{LinkView}
 use Rattle.axi_link.specs.Table.{put_of, take_of}
 use Rattle.axi_link.specs.declared.out.Out.{Out}
-use Rattle.manager_end.specs.Beats.{data_beat, request_of}
+use Rattle.manager_end.specs.Beats.{data_beat, item_request}
 use Rattle.manager_end.specs.ManagerInside.{IsWithin, manager_state, sent_after}
 use Rattle.manager_end.specs.ManagerState.{ManagerState, IsManager, writes_of}
 use Rattle.manager_end.specs.ManagerTable.{answering, ending, left_waiting, with_issued, manager_aw, manager_w, manager_ar, manager_b, manager_r, manager_r_last, manager_next, manager_out, manager_table, more, note_write, note_read, note_issue}
@@ -131,12 +131,12 @@ out-after c =
     in let b = b-is links s link (option_copied c.head_b.result) c.link_at-link.ensures c.head_b.ensures
     in let r = r-is links s link (option_copied c.head_r.result) c.link_at-link.ensures c.head_r.ensures
     in out-same _ _ _ _ _ _ _ _ _ _ _ _ _ _ _ c.self.invariant.above.aw_take
-    (c.put_request.ensures ∙ ap (λ (next : Option (ℕ × ScriptItem)). put_of s.lower (option_map (λ (n : ℕ × ScriptItem). request_of n.1) next)) aw)
+    (c.put_request.ensures ∙ ap (λ (next : Option (ℕ × ScriptItem)). put_of s.lower (option_map (λ (n : ℕ × ScriptItem). item_request n.1) next)) aw)
     c.self.invariant.above.w_take
     (c.put_data.ensures ∙ ap (λ (next : Option (ℕ × ScriptItem)). put_of s.lower (option_map (λ (n : ℕ × ScriptItem). data_beat n.1 s.bus s.sent_beats) next)) w)
     (c.set_take.ensures ∙ ap (take_of s.lower) (c.take_response-written.ensures.taken ∙ ap is_some b))
     c.self.invariant.above.b_put c.self.invariant.above.ar_take
-    (c.put_request-2.ensures ∙ ap (λ (next : Option (ℕ × ScriptItem)). put_of s.lower (option_map (λ (n : ℕ × ScriptItem). request_of n.1) next)) ar)
+    (c.put_request-2.ensures ∙ ap (λ (next : Option (ℕ × ScriptItem)). put_of s.lower (option_map (λ (n : ℕ × ScriptItem). item_request n.1) next)) ar)
     (c.set_take-2.ensures ∙ ap (take_of s.lower) (c.is_some.ensures ∙ got-some _ _ c.take_data-got.result c.take_data-got.ensures.taken ∙ ap is_some r))
     c.self.invariant.above.r_put
 

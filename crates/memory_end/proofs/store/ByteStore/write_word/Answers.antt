@@ -6,10 +6,11 @@ use Rattle.std.proofs.lemmas.List.{with_items_is}
 use Rattle.flight.specs.Entries.{place_of}
 use Rattle.memory_end.specs.Store.{Store, line_of}
 use Rattle.memory_end.specs.StoreInside.{store_view}
-use Rattle.memory_end.specs.Beats.{is_strobed, strobed_lanes, bytes_on, all_written}
+use Rattle.memory_end.specs.Beats.{with_bytes}
 use Rattle.memory_end.proofs.StoreLemmas.{all_written-kept, all_written-lost}
-use Rattle.memory_end.proofs.store.ByteStore.write_word.Goals as goal
 use Rattle.plain_lists.proofs.RangeLemmas.{filter-range-below}
+use Rattle.burst_address.specs.Lanes.{is_strobed, lane_bytes, strobed_lanes}
+use Rattle.memory_end.proofs.store.ByteStore.write_word.Goals as goal
 
 pub returns-in-Some : goal.returns-in-Some
 returns-in-Some c =
@@ -23,10 +24,10 @@ returns-in-Some c =
     let step : List ℕ → ℕ → List ℕ = λ written lane. slice_set written (128 * c.in-Some.place + c.args.word % 128 + lane) (slice_index c.args.beat.now.lanes lane) in
     let bytes : (with_items c.self.inside.bytes c.write_lanes.new.bytes).items ≡ fold step view.bytes lanes =
     new ∙ c.write_lanes.ensures ∙ ap (λ bs. fold step bs lanes) c.deref_mut.ensures.value in
-    let done : record { lines = view.lines; bytes = (with_items c.self.inside.bytes c.write_lanes.new.bytes).items; fill = view.fill } ≡ all_written view (bytes_on c.args.word c.args.beat.now lanes) =
+    let done : record { lines = view.lines; bytes = (with_items c.self.inside.bytes c.write_lanes.new.bytes).items; fill = view.fill } ≡ with_bytes view (lane_bytes c.args.word c.args.beat.now lanes) =
     ap (λ bs. record { lines = view.lines; bytes = bs; fill = view.fill }) bytes
     ∙ sym (all_written-kept view c.args.word c.args.bus c.in-Some.place c.args.beat.now lanes c.requires place below) in
-    done ∙ ap (λ s. all_written s (bytes_on c.args.word c.args.beat.now lanes)) c.self.view_is
+    done ∙ ap (λ s. with_bytes s (lane_bytes c.args.word c.args.beat.now lanes)) c.self.view_is
 
 pub returns-in_default : goal.returns-in_default
 returns-in_default c =
@@ -35,6 +36,6 @@ returns-in_default c =
     let place : place_of (line_of c.args.word) view.lines ≡ None =
     sym (ap (place_of (line_of c.args.word)) c.deref.ensures.value) ∙ sym c.line_place.ensures.place ∙ c.in_default.is in
     let below : AllByRecursion (λ k. k < c.args.bus) lanes = filter-range-below (is_strobed c.args.beat.now) 0 c.args.bus c.args.bus (omega arith) in
-    let done : view ≡ all_written view (bytes_on c.args.word c.args.beat.now lanes) =
+    let done : view ≡ with_bytes view (lane_bytes c.args.word c.args.beat.now lanes) =
     sym (all_written-lost view c.args.word c.args.bus c.args.beat.now lanes c.requires place below) in
-    subst (λ (s : Store). s ≡ all_written s (bytes_on c.args.word c.args.beat.now lanes)) c.self.view_is done
+    subst (λ (s : Store). s ≡ with_bytes s (lane_bytes c.args.word c.args.beat.now lanes)) c.self.view_is done

@@ -8,8 +8,8 @@ use Rattle.axi_beats.specs.declared.beat.WBeat.{WBeat}
 use Rattle.axi_link.specs.Acted.{Acted}
 use Rattle.axi_link.specs.LinkView.{LinkView}
 use Rattle.axi_link.specs.Table.{head_of, link_of}
+use Rattle.burst_address.specs.Lanes.{word_address}
 use Rattle.memory_end.specs.declared.config.MemoryConfig.{MemoryConfig}
-use Rattle.memory_end.specs.Beats.{word_address}
 use Rattle.memory_end.specs.Laws.{HasSameArguments}
 use Rattle.memory_end.specs.MemoryState.{AreLinesAmong, IsRequest, MemoryState, new_memory}
 use Rattle.memory_end.specs.MemoryTable.{CanMemory, memory_link, memory_next}
