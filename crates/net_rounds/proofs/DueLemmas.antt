@@ -11,8 +11,8 @@ use Rattle.axi_beats.specs.declared.beat.WBeat.{WBeat}
 use Rattle.axi_beats.specs.declared.response.Resp.{Resp}
 use Rattle.axi_beats.specs.declared.response.Resp.TheVariants.{DecErr, Okay}
 use Rattle.axi_history.specs.Answered.{answered_bytes}
-use Rattle.axi_history.specs.Delivered.{IsBeginningOf, wanted}
-use Rattle.axi_history.specs.Records.{Byte, due}
+use Rattle.axi_history.specs.Delivered.{IsBeginningOf, access_due}
+use Rattle.axi_history.specs.Records.{Byte, bytes_due}
 use Rattle.axi_trail.proofs.FilterFacts.{filter_map}
 use Rattle.axi_trail.specs.Schedule.{Share}
 use Rattle.burst_address.specs.Bytes.{beat_bytes, burst_bytes, bytes_before}
@@ -105,7 +105,7 @@ module _ (item : ScriptItem) (known : IsTrafficItem item) where
   part-legal (suc k) d within = absurd (omega (arith, within))
 
   -- what all beats of a read read is what is due of it
-  all-reads : item.txn.write ≡ false → map shown_read (flat_map (read_addresses ram) (beats_of_parts (read_share item).parts)) ≡ map wanted (due (transaction_of ram 0 1 item))
+  all-reads : item.txn.write ≡ false → map shown_read (flat_map (read_addresses ram) (beats_of_parts (read_share item).parts)) ≡ map access_due (bytes_due (transaction_of ram 0 1 item))
   all-reads direction =
       let beats = beats_of_parts (read_share item).parts in
       let bytes = burst_bytes item.txn.request in
@@ -115,15 +115,15 @@ module _ (item : ScriptItem) (known : IsTrafficItem item) where
       ∙ append-nil (filter (is_inside ram) (burst_bytes (part_of item)))
       ∙ ap (filter (is_inside ram)) (part-bytes item) in
       ap (map shown_read) (inside ∙ filter-same (is_inside ram) (λ address. is_okay (read_status ram address)) bytes (λ k address at. sym (okay-inside (is_inside ram address))))
-      ∙ sym (ap (λ all. map wanted (filter is_allowed all)) (read-bytes direction) ∙ filter-between is_allowed wanted read_byte bytes)
+      ∙ sym (ap (λ all. map access_due (filter is_allowed all)) (read-bytes direction) ∙ filter-between is_allowed access_due read_byte bytes)
 
   -- the first beats of a read read the first bytes that are due, and all beats read all
-  pub reads-begin : item.txn.write ≡ false → (count : ℕ) → IsBeginningOf (map shown_read (due_reads ram (read_share item) count)) (map wanted (due (transaction_of ram 0 1 item)))
+  pub reads-begin : item.txn.write ≡ false → (count : ℕ) → IsBeginningOf (map shown_read (due_reads ram (read_share item) count)) (map access_due (bytes_due (transaction_of ram 0 1 item)))
   reads-begin direction count =
       let front = flat-begins shown_read (read_addresses ram) count (beats_of_parts (read_share item).parts) in
       (front.0, sym (all-reads direction) ∙ front.1)
 
-  pub reads-whole : item.txn.write ≡ false → (count : ℕ) → length (beats_of_parts (read_share item).parts) ≤ count → map shown_read (due_reads ram (read_share item) count) ≡ map wanted (due (transaction_of ram 0 1 item))
+  pub reads-whole : item.txn.write ≡ false → (count : ℕ) → length (beats_of_parts (read_share item).parts) ≤ count → map shown_read (due_reads ram (read_share item) count) ≡ map access_due (bytes_due (transaction_of ram 0 1 item))
   reads-whole direction count all =
       ap (λ beats. map shown_read (flat_map (read_addresses ram) beats)) (take_all count (beats_of_parts (read_share item).parts) all) ∙ all-reads direction
 
@@ -163,7 +163,7 @@ module _ (laws : NodeLaws) (item : ScriptItem) (known : IsTrafficItem item) (dir
   few-data = omega (arith, length-zip (beats_of_parts (write_share item).parts) (flat_map (λ beats. beats) (write_share item).write_data))
 
   -- what all beats of a write write is what is due of it
-  all-writes : map shown_write (flat_map beat_writes (data_beats (write_share item))) ≡ map wanted (due (transaction_of ram 0 1 item))
+  all-writes : map shown_write (flat_map beat_writes (data_beats (write_share item))) ≡ map access_due (bytes_due (transaction_of ram 0 1 item))
   all-writes =
       let share = write_share item in
       let bytes = strobed_bytes item in
@@ -177,15 +177,15 @@ module _ (laws : NodeLaws) (item : ScriptItem) (known : IsTrafficItem item) (dir
       ap (map shown_write) written
       ∙ map-map shown_write (λ (byte : ℕ × ℕ). record { address = byte.0; value = byte.1 }) (filter inside bytes)
       ∙ ap (map (λ (byte : ℕ × ℕ). (byte.0, Some byte.1))) (filter-same inside kept bytes (λ k byte at. sym (okay-inside (is_inside ram byte.0))))
-      ∙ sym (ap (λ all. map wanted (filter is_allowed all)) write-bytes ∙ filter-between is_allowed wanted write_byte bytes)
+      ∙ sym (ap (λ all. map access_due (filter is_allowed all)) write-bytes ∙ filter-between is_allowed access_due write_byte bytes)
 
   -- the first data beats write the first bytes that are due, and all beats write all
-  pub writes-begin : (count : ℕ) → IsBeginningOf (map shown_write (due_writes ram (write_share item) count)) (map wanted (due (transaction_of ram 0 1 item)))
+  pub writes-begin : (count : ℕ) → IsBeginningOf (map shown_write (due_writes ram (write_share item) count)) (map access_due (bytes_due (transaction_of ram 0 1 item)))
   writes-begin count =
       let front = flat-begins shown_write beat_writes count (data_beats (write_share item)) in
       (front.0, sym all-writes ∙ front.1)
 
-  pub writes-whole : (count : ℕ) → length (beats_of_parts (write_share item).parts) ≤ count → map shown_write (due_writes ram (write_share item) count) ≡ map wanted (due (transaction_of ram 0 1 item))
+  pub writes-whole : (count : ℕ) → length (beats_of_parts (write_share item).parts) ≤ count → map shown_write (due_writes ram (write_share item) count) ≡ map access_due (bytes_due (transaction_of ram 0 1 item))
   writes-whole count all = ap (λ beats. map shown_write (flat_map beat_writes beats)) (take_all count (data_beats (write_share item)) (omega (arith, all, few-data))) ∙ all-writes
 
   -- its response is the worst status of what the script strobes
@@ -242,7 +242,7 @@ module _ (script : List ScriptItem) (t : IsNumberedTraffic script) (item : Scrip
       let beats : length (beats_of_parts (read_share item).parts) ≤ count = omega (arith, enough, beat-count item) in
       let due_now = due_reads ram (read_share item) count in
       let read : length due_now ≡ length (filter is_allowed (bytes_of ram item)) =
-      sym (length-map due_now shown_read) ∙ ap (λ xs. length xs) (reads-whole item known direction count beats) ∙ length-map (filter is_allowed (bytes_of ram item)) wanted in
+      sym (length-map due_now shown_read) ∙ ap (λ xs. length xs) (reads-whole item known direction count beats) ∙ length-map (filter is_allowed (bytes_of ram item)) access_due in
       let values_all : length values ≡ length due_now = all ∙ ap (λ (s : Share). length (due_reads ram s count)) own in
       ap (λ (s : Share). filled_bytes (allowed_before ram s count) values) own
       ∙ ap (λ allowed. filled_bytes allowed values) (allowed-reads item known direction count beats)

@@ -13,11 +13,12 @@ pub fn runs_are_least()
 
 /// A run of the built-in network is right after every number of rounds. The memory accessed the bytes
 /// that are due of a transaction from the first on, each once, in burst order, and all of them where it
-/// is answered; a read saw what the latest write before it wrote, else 0. Each transaction was answered
-/// at most once, after its accesses, which came after its issue; with its response and the bytes that
-/// were read. Transactions of one ID and direction kept their order, and each waited for what it was to
-/// wait for. Issues and answers name the rounds in which they were noted, and once the network is
-/// finished every transaction is answered. (Arm IHI 0022, ordering model.)
+/// is answered; a read saw what the latest write before it wrote, else 0. Each transaction was issued at
+/// most once and answered at most once, after its accesses, which came after its issue; with its response
+/// and the bytes that were read. No issue was of anything else. Transactions of one ID and direction kept
+/// their order, and each waited for what it was to wait for. Issues and answers name the rounds in which
+/// they were noted, and once the network is finished every transaction is answered. (Arm IHI 0022,
+/// ordering model.)
 pub fn runs_are_right()
     ensures { RunsAreRight }
 {}
