@@ -1,9 +1,9 @@
 -- The issues and answers of the run: one for each transaction at most, an answer with its response and its bytes.
-use Rattle.std.proofs.Common.{◌≡◌, ◌<◌, ◌+◌, ◌∷◌, [], ◌++◌, ℕ, suc, List, Bool, true, false, Some, cond, length, refl, sym, ap, ◌∙◌, subst, arith, length-append}
-use Rattle.std.specs.Prelude.{◌≢◌, All, AllPairs, Any, get_or, map, option_map, slice_get}
+use Rattle.std.proofs.Common.{◌≡◌, ◌<◌, [], ℕ, suc, List, Bool, true, false, Some, cond, length, refl, sym, ap, ◌∙◌, arith}
+use Rattle.std.specs.Prelude.{◌≢◌, All, AllPairs, Any, map, option_map, slice_get}
 use Rattle.std.proofs.Common.{inl, inr}
 use Rattle.std.proofs.lemmas.Bool.{cases_Bool}
-use Rattle.std.proofs.lemmas.List.{get_or-append-add, length-map}
+use Rattle.std.proofs.lemmas.List.{length-map}
 use Rattle.std.proofs.lemmas.List.Elements.{All-map}
 use Rattle.std.proofs.lemmas.Option.{get_or_from_slice_get, slice_get-map, slice_get_within}
 use Rattle.axi_beats.specs.declared.beat.RBeat.{RBeat}

@@ -2,6 +2,7 @@ pub mod AccessLists
 pub mod AnswerRounds
 pub mod AnsweredContent
 pub mod AnsweredOrder
+pub mod BeatRanges
 pub mod BoundLemmas
 pub mod BuiltInSchedule
 pub mod Choosing
@@ -11,6 +12,7 @@ pub mod DueLemmas
 pub mod EventLemmas
 pub mod ItemEvents
 pub mod KnownFacts
+pub mod LaneRanges
 pub mod LegalSchedule
 pub mod NetLemmas
 pub mod NetworkLemmas
@@ -22,6 +24,7 @@ pub mod Numbers
 pub mod Pair
 pub mod PairLemmas
 pub mod ScheduleLemmas
+pub mod PortsInRange
 pub mod PortsLegal
 pub mod PushedItems
 pub mod RunAnswered

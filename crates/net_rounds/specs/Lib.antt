@@ -7,6 +7,7 @@ pub mod NetView
 pub mod Network
 pub mod Notes
 pub mod Numbered
+pub mod PortRanges
 pub mod Ports
 pub mod Right
 pub mod Run

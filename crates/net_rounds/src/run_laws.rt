@@ -1,6 +1,7 @@
 //! What holds of runs by their definition.
 
 ghost use Rattle.net_rounds.specs.KnownRun.{KnownRun};
+ghost use Rattle.net_rounds.specs.PortRanges.{PortsAreInRange};
 ghost use Rattle.net_rounds.specs.Ports.{PortsAreLegal};
 ghost use Rattle.net_rounds.specs.Right.{RunsAreRight};
 ghost use Rattle.net_rounds.specs.Run.{RunsAreLeast};
@@ -27,6 +28,12 @@ pub fn runs_are_right()
 /// of rounds of any run. (Arm IHI 0022, handshake process, and the sections of the single rules.)
 pub fn ports_are_legal()
     ensures { PortsAreLegal }
+{}
+
+/// What a port of the built-in network shows in any of the rounds that have numbers is within the
+/// ranges of a trace line, so that it has one. (Arm IHI 0022, channel signals.)
+pub fn ports_are_in_range()
+    ensures { PortsAreInRange }
 {}
 
 /// The history of a short run is what the decision tables give by hand: a write of one word, and a
