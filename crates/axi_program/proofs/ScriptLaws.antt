@@ -14,6 +14,7 @@ use Rattle.manager_end.specs.declared.script.Txn.{Txn}
 use Rattle.manager_end.specs.declared.script.WriteByte.{WriteByte}
 use Rattle.memory_end.proofs.BeatLemmas.{legal-wider}
 use Rattle.net_rounds.specs.Due.{IsNumberedTraffic}
+use Rattle.net_rounds.specs.PortRanges.{FitsBeats}
 use Rattle.traffic.specs.Accepted.{AreInOrder, Follows, IsTraffic, Suits, last_after, of_manager}
 use Rattle.traffic.specs.Traffic.{TrafficItem}
 use Rattle.traffic.specs.declared.port.ManagerPort.{ManagerPort}
@@ -129,6 +130,16 @@ module _ (port : ManagerPort) (is : IsBuiltIn port) (items : List TrafficItem) (
         let second = number-at j d within in
         omega (arith, before);
     ids = All-map (λ (item : ScriptItem). item.txn.request.id < 2 ^ 4) script_item items (λ k d within. id-by (get_or items k d) (known.suit k d within));
+  }
+
+  -- its numbers fit the fields of beats
+  pub fits-beats : FitsBeats (script_of items)
+  fits-beats = record {
+    numbers = λ k d within.
+        let number = number-at k d within in
+        let count = length-map items script_item in
+        omega (arith, number, within, count, known.transactions);
+    bytes = All-map (λ (item : ScriptItem). All (λ (byte : WriteByte). byte.value < 256) item.bytes) script_item items (λ k d within. (known.suit k d within).values);
   }
 
 -- ---- pushed one by one

@@ -1,5 +1,5 @@
 -- What the two nodes of the built-in network put on their link is within the ranges of a trace line.
-use Rattle.std.proofs.Common.{◌≡◌, ◌<◌, ◌≤◌, ◌+◌, ◌-◌, ◌^◌, ◌∷◌, [], ◌++◌, ◌&&◌, ℕ, zero, suc, List, Option, Some, None, Bool, true, false, cond, length, drop, take, map, replicate, get_or, refl, sym, ap, ◌∙◌, subst, arith}
+use Rattle.std.proofs.Common.{◌≡◌, ◌<◌, ◌≤◌, ◌+◌, ◌-◌, ◌^◌, ◌∷◌, [], ◌++◌, ◌&&◌, ℕ, zero, suc, List, Option, Some, None, Bool, true, false, cond, length, drop, map, replicate, get_or, refl, ap, ◌∙◌, subst, arith}
 use Rattle.std.specs.Prelude.{All, IfSome, nat_le, nat_lt, option_and_then, slice_get, unwrap_or}
 use Rattle.std.proofs.Math.Nat.{pow-le-pow_right}
 use Rattle.std.proofs.lemmas.Bool.{cond_both, le-ltb, ltb-true}
@@ -199,6 +199,7 @@ byte-in_range store all fill address = by (byte_place store address)
     held-by : (o : Option ℕ) → IfSome o IsByte → unwrap_or o store.fill < 256
     held-by None has = fill
     held-by (Some value) has = has
+
     by : (place : Option ℕ) → unwrap_or (option_and_then (slice_get store.bytes) place) store.fill < 256
     by None = fill
     by (Some place) = held-by (slice_get store.bytes place) (All-slice_get IsByte store.bytes place all)

@@ -1,10 +1,10 @@
 -- Lists of a beat's 128 lanes: each a byte, and 0 from the bus upwards.
-use Rattle.std.proofs.Common.{◌≡◌, ◌<◌, ◌≤◌, ◌+◌, ◌-◌, ◌∷◌, [], ◌++◌, ℕ, zero, suc, List, length, drop, replicate, map, refl, sym, ap, ap₂, ◌∙◌, subst, arith, append_assoc}
+use Rattle.std.proofs.Common.{◌≡◌, ◌<◌, ◌≤◌, ◌+◌, ◌-◌, ◌∷◌, ◌++◌, ℕ, zero, suc, List, length, drop, replicate, map, refl, sym, ap, ap₂, ◌∙◌, arith, append_assoc}
 use Rattle.std.specs.Prelude.{All}
-use Rattle.std.specs.List.{AllByRecursion, range_with_len}
+use Rattle.std.specs.List.{range_with_len}
 use Rattle.std.proofs.Math.Seq.{drop-append-add}
-use Rattle.std.proofs.lemmas.List.{drop-replicate, length-append, length-map, length-replicate}
-use Rattle.std.proofs.lemmas.List.Elements.{All-append, All-map, All-replicate, recursion_from_All}
+use Rattle.std.proofs.lemmas.List.{drop-replicate, length-append, length-replicate}
+use Rattle.std.proofs.lemmas.List.Elements.{All-append, All-replicate, recursion_from_All}
 use Rattle.std.proofs.lemmas.List.FromFn.{length-map-range_with_len}
 use Rattle.plain_text.specs.ExactLaws.{AreBytes}
 use Rattle.trace_text.specs.Ranges.{IsOnBus}

@@ -1,13 +1,8 @@
 -- The ports of the built-in network are within the ranges of a trace line: every beat on its link is, and each round
 -- keeps it so.
-use Rattle.std.proofs.Common.{◌≡◌, ◌<◌, ◌≤◌, ◌*◌, ◌^◌, ◌∷◌, [], ℕ, zero, suc, List, Bool, true, false, length, get_or, refl, sym, ap, ◌∙◌, subst, arith}
-use Rattle.std.specs.Prelude.{All, Contains, IfSome}
+use Rattle.std.proofs.Common.{◌≡◌, ◌<◌, ◌≤◌, ◌*◌, ◌^◌, ◌∷◌, [], ℕ, zero, suc, List, Bool, true, false, length, get_or, refl, sym, subst, arith}
+use Rattle.std.specs.Prelude.{All, IfSome}
 use Rattle.std.proofs.lemmas.List.Elements.{All-contains, All-head, All-nil, All-push, All-replicate, All-weaker}
-use Rattle.axi_beats.specs.declared.beat.Addr.{Addr}
-use Rattle.axi_beats.specs.declared.beat.BBeat.{BBeat}
-use Rattle.axi_beats.specs.declared.beat.RBeat.{RBeat}
-use Rattle.axi_beats.specs.declared.beat.WBeat.{WBeat}
-use Rattle.axi_history.specs.declared.port.PortRound.{PortRound}
 use Rattle.axi_history.specs.declared.port.Seen.{Seen}
 use Rattle.axi_link.proofs.KeepLemmas.{All-moved, passing-has}
 use Rattle.axi_link.specs.LinkView.{LinkView}
@@ -19,19 +14,19 @@ use Rattle.manager_end.specs.ManagerState.{reads_of, writes_of}
 use Rattle.manager_end.specs.ManagerTable.{manager_out}
 use Rattle.manager_end.specs.Script.{ScriptItem}
 use Rattle.manager_end.specs.declared.script.WriteByte.{WriteByte}
-use Rattle.memory_end.specs.MemoryTable.{fits, memory_ar, memory_aw, memory_b, memory_link, memory_out, memory_r, memory_w, oldest_lacking}
+use Rattle.memory_end.specs.MemoryTable.{fits, memory_ar, memory_aw, memory_b, memory_link, memory_out, memory_r, memory_w}
 use Rattle.memory_end.specs.declared.config.MemoryConfig.{MemoryConfig}
 use Rattle.memory_end.specs.declared.entry.ReadEntry.{ReadEntry}
 use Rattle.memory_end.specs.declared.entry.WriteEntry.{WriteEntry}
 use Rattle.trace_text.specs.Ranges.{IsTraceRound, IsTraceWriteData}
 use Rattle.net_rounds.proofs.BeatRanges.{IsAddressInRange, IsReadDataInRange, IsResponseInRange, MemoryInRange, bytes-stay, data-in_range, read-in_range, reads-stay, request-in_range, response-in_range, writes-stay}
-use Rattle.net_rounds.proofs.BuiltInSchedule.{links_at, lower_out, pair_at, upper_out}
+use Rattle.net_rounds.proofs.BuiltInSchedule.{lower_out, pair_at, upper_out}
 use Rattle.net_rounds.proofs.NetLemmas.{rounds-hold}
 use Rattle.net_rounds.proofs.NetworkLemmas.{built_in_pair}
-use Rattle.net_rounds.proofs.Pair.{Pair, decided, moved, pair_after}
+use Rattle.net_rounds.proofs.Pair.{Pair, decided, moved}
 use Rattle.net_rounds.proofs.PairLemmas.{IsChosen, PairHolds, ar-puts, at-head, aw-puts, chosen-of, put-has, strobe-small, w-puts}
 use Rattle.net_rounds.proofs.PortsLegal.{one-link, round-is}
-use Rattle.net_rounds.specs.BuiltIn.{IsTraffic, built_in, ram, touched_lines}
+use Rattle.net_rounds.specs.BuiltIn.{built_in, ram, touched_lines}
 use Rattle.net_rounds.specs.Due.{IsNumberedTraffic}
 use Rattle.net_rounds.specs.Network.{after_decide, after_rounds}
 use Rattle.net_rounds.specs.PortRanges.{FitsBeats, PortsAreInRange}
