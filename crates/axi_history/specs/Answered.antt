@@ -1,7 +1,7 @@
--- Answers: once, with the defined response and the bytes that were read, after what they answer,
--- and in order for each manager, ID and direction. (Arm IHI 0022, transaction ordering, read and write
--- response structure.)
-use Rattle.std.specs.Prelude.{◌≡◌, ◌≢◌, ◌==◌, ◌<◌, ◌++◌, ◌∷◌, [], ℕ, List, All, Any, filter, map, take, if◌then◌else◌}
+-- Issues and answers: each once at most, an answer with the defined response and the bytes that were read, issue,
+-- accesses and answer one after the other, and in order for each manager, ID and direction. (Arm IHI 0022, transaction
+-- ordering, read and write response structure.)
+use Rattle.std.specs.Prelude.{◌≡◌, ◌≢◌, ◌==◌, ◌<◌, ◌++◌, ◌∷◌, [], ℕ, List, All, Any, filter, map, take, if◌then◌else◌, AllPairs}
 use Rattle.burst_address.specs.Accesses.{answered_bytes}
 use Rattle.axi_history.specs.Records.{NamedByte, Transaction, Event, Issue, Answer, events_of}
 
@@ -25,8 +25,8 @@ pub record AreInOrder (earlier later : Transaction) : Type 0 where
   pub number : earlier.number < later.number
 
 -- the transactions of one manager, in the order of the list
-abbrev pub of_manager : ℕ → List Transaction → List Transaction
-of_manager manager transactions = filter (λ (t : Transaction). t.manager == manager) transactions
+abbrev pub transactions_by : ℕ → List Transaction → List Transaction
+transactions_by manager transactions = filter (λ (t : Transaction). t.manager == manager) transactions
 
 -- a sentence on each two transactions, in both orders
 abbrev pub OfEachTwo : List Transaction → (Transaction → Transaction → Type 0) → Type 0
@@ -53,11 +53,14 @@ HasItsBytes events t a = a.number ≡ t.number → a.bytes ≡ (if t.write then 
 -- each issue of the transaction comes after the answers to those that it waits for: the first ones of its manager
 abbrev pub WaitsForAnswers : List Transaction → List Issue → List Answer → Transaction → Type 0
 WaitsForAnswers transactions issues answers t =
-    All (λ (i : Issue). i.number ≡ t.number → All (λ (u : Transaction). IsAnsweredBefore answers u.number i.round) (take t.after (of_manager t.manager transactions))) issues
+    All (λ (i : Issue). i.number ≡ t.number → All (λ (u : Transaction). IsAnsweredBefore answers u.number i.round) (take t.after (transactions_by t.manager transactions))) issues
 
 pub record Answered (transactions : List Transaction) (issues : List Issue) (events : List Event) (answers : List Answer) : Type 0 where
+  -- no issue is of nobody, and no transaction is issued twice
+  pub issues_belong : All (λ (i : Issue). Any (λ (t : Transaction). t.number ≡ i.number) transactions) issues
+  pub issued_once : AllPairs (λ (i j : Issue). i.number ≢ j.number) issues
   -- no transaction has two answers
-  pub once : (front middle back : List Answer) (a b : Answer) → answers ≡ front ++ a ∷ (middle ++ b ∷ back) → a.number ≢ b.number
+  pub answered_once : AllPairs (λ (a b : Answer). a.number ≢ b.number) answers
   -- an answer carries its transaction's response and, for a read, the bytes of its accesses
   pub response : All (λ (a : Answer). Any (λ (t : Transaction). (t.number ≡ a.number) × (a.responses ≡ t.response)) transactions) answers
   pub bytes : All (λ (t : Transaction). All (HasItsBytes events t) answers) transactions

@@ -3,7 +3,7 @@
 -- (Arm IHI 0022, transaction ordering.)
 use Rattle.std.specs.Prelude.{◌≡◌, ◌==◌, ◌&&◌, ◌++◌, ◌∷◌, [], ℕ, List, Bool, false, Option, Some, None, All, Any, map, if◌then◌else◌}
 use Rattle.burst_address.specs.Accesses.{value_after}
-use Rattle.axi_history.specs.Records.{NamedByte, Transaction, Event, Answer, due, events_of}
+use Rattle.axi_history.specs.Records.{NamedByte, Transaction, Event, Answer, events_of, bytes_due}
 
 module _ {X : Type 0} where
   -- the list begins with these
@@ -11,16 +11,16 @@ module _ {X : Type 0} where
   IsBeginningOf front whole = (rest : List X) × (whole ≡ front ++ rest)
 
 -- the transaction has its answer
-abbrev pub IsAnswered : Transaction → List Answer → Type 0
-IsAnswered t answers = Any (λ (a : Answer). a.number ≡ t.number) answers
+abbrev pub HasAnswer : Transaction → List Answer → Type 0
+HasAnswer t answers = Any (λ (a : Answer). a.number ≡ t.number) answers
 
--- an access, as the byte that it reads or writes: its address, and what it writes
-abbrev pub shown : Event → ℕ × Option ℕ
-shown e = (e.address, (if e.write then Some e.value else None))
+-- an access that was made: its address, and the value that it writes there
+abbrev pub access_made : Event → ℕ × Option ℕ
+access_made e = (e.address, (if e.write then Some e.value else None))
 
--- a byte of a transaction, as the access that it asks for, in the same form
-abbrev pub wanted : NamedByte → ℕ × Option ℕ
-wanted b = (b.address, b.value)
+-- the access that a byte of a transaction asks for, in the same form
+abbrev pub access_due : NamedByte → ℕ × Option ℕ
+access_due b = (b.address, b.value)
 
 -- an access writes this place
 abbrev pub is_write_at : ℕ → ℕ → Event → Bool
@@ -35,9 +35,9 @@ pub record Delivered (transactions : List Transaction) (events : List Event) (an
   -- no access is of nobody, of the wrong direction or at the wrong place
   pub belongs : All (IsOf transactions) events
   -- the accesses of a transaction are its due bytes from the first on, each once, in burst order
-  pub in_burst_order : All (λ (t : Transaction). IsBeginningOf (map shown (events_of t.number events)) (map wanted (due t))) transactions
+  pub in_burst_order : All (λ (t : Transaction). IsBeginningOf (map access_made (events_of t.number events)) (map access_due (bytes_due t))) transactions
   -- and all of them once it is answered
-  pub whole : All (λ (t : Transaction). IsAnswered t answers → map shown (events_of t.number events) ≡ map wanted (due t)) transactions
+  pub whole : All (λ (t : Transaction). HasAnswer t answers → map access_made (events_of t.number events) ≡ map access_due (bytes_due t)) transactions
   -- a read sees what the latest write before it wrote there, and else the subordinate's fill byte
   pub reads_latest :
       All (λ (t : Transaction). (earlier later : List Event) (e : Event) → events ≡ earlier ++ e ∷ later → e.number ≡ t.number → e.write ≡ false → e.value ≡ value_after (is_write_at e.node e.address) (λ (x : Event). x.value) t.fill earlier) transactions

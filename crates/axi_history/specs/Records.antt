@@ -47,9 +47,9 @@ pub record Answer : Type 0 where
   pub responses : List Resp
   pub bytes : List ℕ
 
--- the bytes that are to be accessed
-abbrev pub due : Transaction → List NamedByte
-due t = filter (λ (b : NamedByte). b.allowed) t.bytes
+-- the bytes that are to be accessed: those that may be
+abbrev pub bytes_due : Transaction → List NamedByte
+bytes_due t = filter (λ (b : NamedByte). b.allowed) t.bytes
 
 -- the accesses of one transaction
 abbrev pub events_of : ℕ → List Event → List Event

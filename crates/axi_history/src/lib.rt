@@ -9,5 +9,5 @@
 mod known;
 mod port;
 
-pub use known::known_traces;
+pub use known::{known_histories, known_traces};
 pub use port::{PortKind, PortRound, RawAddr, RawB, RawR, Seen};

@@ -1,12 +1,18 @@
 -- The run of every document that isn't refused is right.
-use Rattle.std.proofs.Common.{◌≡◌, ℕ, Bool, true, false, cond, not, List, Option, Some, None, nat_lt, length, refl, sym, ◌∙◌}
+use Rattle.std.proofs.Common.{◌≡◌, ℕ, Bool, true, false, cond, not, List, Option, Some, None, nat_lt, length, refl, sym, ◌∙◌, arith}
 use Rattle.std.specs.Option.{option_and_then}
 use Rattle.std.specs.Str.{is_utf8}
 use Rattle.manager_end.specs.Script.{ScriptItem}
+use Rattle.net_rounds.proofs.BoundLemmas.{bound-little}
 use Rattle.net_rounds.proofs.NodeLawsHold.{node-laws}
+use Rattle.net_rounds.proofs.PortsInRange.{ports-are-in-range}
 use Rattle.net_rounds.proofs.PortsLegal.{ports-are-legal}
+use Rattle.net_rounds.proofs.RunLemmas.{run_length-is}
 use Rattle.net_rounds.proofs.RunsRight.{runs-are-right}
+use Rattle.net_rounds.specs.BuiltIn.{bound, built_in}
 use Rattle.net_rounds.specs.Due.{IsNumberedTraffic}
+use Rattle.net_rounds.specs.PortRanges.{FitsBeats}
+use Rattle.net_rounds.specs.Run.{run_length}
 use Rattle.plain_text.specs.Lines.{lines}
 use Rattle.plain_text.specs.Separator.{begins_with_separator, has_separator}
 use Rattle.traffic.proofs.KnownLemmas.{accepted_suits_all}
@@ -14,15 +20,25 @@ use Rattle.traffic.proofs.RefusalLemmas.{refused}
 use Rattle.traffic.specs.Traffic.{traffic_of}
 use Rattle.traffic.specs.declared.fault.TrafficFault.{TrafficFault}
 use Rattle.traffic.specs.declared.fault.TrafficFault.TheVariants.{BadLine, UnknownManager, BadId, IllegalBurst, TooMuchTraffic, NoMemory}
-use Rattle.axi_program.proofs.ScriptLaws.{numbered-traffic}
+use Rattle.axi_program.proofs.ScriptLaws.{fits-beats, numbered-traffic}
 use Rattle.axi_program.specs.Call.{DocumentsRunRight, RunIsRight}
 use Rattle.axi_program.specs.Document.{input_limit, refusal_of, script_of_input, traffic_lines}
 use Rattle.axi_program.specs.Refusals.{input_too_long, no_separator, not_built, not_text, traffic_refusal}
-use Rattle.axi_program.specs.Traffic.{built_in_manager, built_in_managers, fault_of}
+use Rattle.axi_program.specs.Outcome.{run_rounds}
+use Rattle.axi_program.specs.Traffic.{IsBuiltIn, built_in_manager, built_in_managers, fault_of}
 use Rattle.axi_program.specs.declared.status.Refusal.{Refusal}
 
-run-is-right : (script : List ScriptItem) → IsNumberedTraffic script → RunIsRight script
-run-is-right script traffic rounds = (runs-are-right node-laws script traffic rounds, ports-are-legal node-laws script traffic rounds)
+run-is-right : (script : List ScriptItem) → IsNumberedTraffic script → FitsBeats script → RunIsRight script
+unfolding run_rounds
+run-is-right script traffic fits =
+    let length_is = run_length-is (built_in script) (bound script) in
+    let little = bound-little script traffic.traffic in
+    record {
+      right = runs-are-right node-laws script traffic;
+      legal = ports-are-legal node-laws script traffic;
+      ends = length_is;
+      traced = ports-are-in-range script traffic fits (run_length (built_in script) (bound script)) (omega (arith, little, length_is.within));
+    }
 
 -- an input that isn't refused passes each test before its traffic
 passed : (over text some first : Bool) (o : Option Refusal) →
@@ -52,5 +68,7 @@ accepted-traffic input accepted =
 pub documents-run-right : DocumentsRunRight
 documents-run-right input accepted =
     let traffic = traffic_lines input in
-    run-is-right (script_of_input input)
-    (numbered-traffic built_in_manager (record { name = refl; bus = refl; id_width = refl }) (traffic_of built_in_managers traffic) (accepted_suits_all built_in_managers traffic (accepted-traffic input accepted)))
+    let items = traffic_of built_in_managers traffic in
+    let is : IsBuiltIn built_in_manager = record { name = refl; bus = refl; id_width = refl } in
+    let suits = accepted_suits_all built_in_managers traffic (accepted-traffic input accepted) in
+    run-is-right (script_of_input input) (numbered-traffic built_in_manager is items suits) (fits-beats built_in_manager is items suits)

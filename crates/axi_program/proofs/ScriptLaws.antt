@@ -17,6 +17,7 @@ use Rattle.traffic.specs.Traffic.{TrafficItem}
 use Rattle.traffic.specs.declared.port.ManagerPort.{ManagerPort}
 use Rattle.axi_program.specs.Traffic.{IsBuiltIn, script_item, script_of}
 use Rattle.plain_lists.proofs.PlaceLemmas.{filter-all, at-all}
+use Rattle.net_rounds.specs.PortRanges.{FitsBeats}
 
 -- ---- one manager
 
@@ -128,6 +129,16 @@ module _ (port : ManagerPort) (is : IsBuiltIn port) (items : List TrafficItem) (
         let second = number-at j d within in
         omega (arith, before);
     ids = All-map (λ (item : ScriptItem). item.txn.request.id < 2 ^ 4) script_item items (λ k d within. id-by (get_or items k d) (known.suit k d within));
+  }
+
+  -- its numbers fit the fields of beats
+  pub fits-beats : FitsBeats (script_of items)
+  fits-beats = record {
+    numbers = λ k d within.
+        let number = number-at k d within in
+        let count = length-map items script_item in
+        omega (arith, number, within, count, known.transactions);
+    bytes = All-map (λ (item : ScriptItem). All (λ (byte : WriteByte). byte.value < 256) item.bytes) script_item items (λ k d within. (known.suit k d within).values);
   }
 
 -- ---- pushed one by one

@@ -1,11 +1,14 @@
 -- What the top call says by its status.
 use Rattle.std.specs.Prelude.{◌≡◌, ◌<◌, ℕ, [], List, Option, Some, None, ◌⊎◌, IfSome, length}
 use Rattle.manager_end.specs.Script.{ScriptItem}
+use Rattle.net_rounds.specs.BuiltIn.{bound, built_in}
+use Rattle.net_rounds.specs.PortRanges.{PortsInRange}
 use Rattle.net_rounds.specs.Ports.{PortsLegal}
 use Rattle.net_rounds.specs.Right.{IsRight}
+use Rattle.net_rounds.specs.Run.{IsRunLength}
 use Rattle.axi_program.specs.Document.{input_limit, refusal_of, script_of_input}
 use Rattle.axi_program.specs.Faults.{Rose}
-use Rattle.axi_program.specs.Outcome.{Concludes, input_outcome, status_of}
+use Rattle.axi_program.specs.Outcome.{Concludes, input_outcome, run_rounds, status_of}
 use Rattle.axi_program.specs.Refusals.{input_too_long}
 use Rattle.axi_program.specs.declared.status.Status.{Status}
 use Rattle.axi_program.specs.declared.words.Command.{Command}
@@ -53,10 +56,17 @@ module _ {S : Type 0} (left : S → Option (List ℕ)) (source source' : S) wher
 abbrev pub IsComplete : Option Command → Option (List ℕ) → Status → Type 0
 IsComplete command left status = (status ≡ NoMemory) ⊎ IfSome command (λ asked. IfSome left (λ input. status ≡ status_of (input_outcome asked input)))
 
--- The run of a script is right after any number of rounds: what was done of what was asked was done once and in order,
--- and answered with the right bytes, and all of it once the network is finished; and every port kept the rules of AXI4.
-abbrev pub RunIsRight : List ScriptItem → Type 0
-RunIsRight script = (rounds : ℕ) → IsRight script rounds × PortsLegal script rounds
+-- The run of a script is right.
+pub record RunIsRight (script : List ScriptItem) : Type 0 where
+  -- After any number of rounds, what was done of what was asked was done once and in order, and answered with the right
+  -- bytes, and all of it once the network is finished; and every port kept the rules of AXI4.
+  pub right : (rounds : ℕ) → IsRight script rounds
+  pub legal : (rounds : ℕ) → PortsLegal script rounds
+  -- It ends after the least number of rounds after which all is answered, or where there is none up to the bound, after
+  -- the bound's.
+  pub ends : IsRunLength (built_in script) (bound script) (run_rounds script)
+  -- What each port shows in each of its rounds is within the ranges of a trace line, so that its line is one.
+  pub traced : PortsInRange script (run_rounds script)
 
 -- so is the run of every document that isn't refused
 abbrev pub DocumentsRunRight : Type 0

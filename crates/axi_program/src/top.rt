@@ -45,10 +45,12 @@ pub fn axinet<S: Source, K: Sink, G: Gate>(
 
     // The run of every document that isn't refused is right, after any number of rounds: the bytes that
     // may be accessed are accessed at the memory from the first on, each once, in burst order, and all
-    // of them where their transaction is answered; it is answered at most once, with the bytes that
-    // were read and the defined response, in order, and in the round that is told; all transactions are
-    // answered once the network is finished; and every port keeps the rules of AXI4. `tells` says that
-    // what is written is the text of that run.
+    // of them where their transaction is answered; it is issued at most once and answered at most once,
+    // with the bytes that were read and the defined response, in order, and in the round that is told;
+    // all transactions are answered once the network is finished; and every port keeps the rules of
+    // AXI4. The run ends in the least round after which all is answered, or at its bound; and what a
+    // port shows in a round of it is within the ranges of a trace line. `tells` says that what is
+    // written is the text of that run.
     ensures right { DocumentsRunRight }
 
     // Where the words name a command and no count of faults rises, the status is that of the

@@ -1,13 +1,13 @@
--- The answers of the run: one for each transaction, with its response and its bytes.
-use Rattle.std.proofs.Common.{◌≡◌, ◌<◌, ◌+◌, ◌∷◌, [], ◌++◌, ℕ, suc, List, Bool, true, false, Some, cond, length, refl, sym, ap, ◌∙◌, subst, arith, length-append, inl, inr}
-use Rattle.std.specs.Prelude.{◌≢◌, All, AllPairs, Any, get_or, map, option_map, slice_get}
+-- The issues and answers of the run: one for each transaction at most, an answer with its response and its bytes.
+use Rattle.std.proofs.Common.{◌≡◌, ◌<◌, [], ℕ, suc, List, Bool, true, false, Some, cond, length, refl, sym, ap, ◌∙◌, arith, inl, inr}
+use Rattle.std.specs.Prelude.{◌≢◌, All, AllPairs, Any, map, option_map, slice_get}
 use Rattle.std.proofs.lemmas.Bool.{cases_Bool}
-use Rattle.std.proofs.lemmas.List.{get_or-append-add, length-map}
+use Rattle.std.proofs.lemmas.List.{length-map}
 use Rattle.std.proofs.lemmas.List.Elements.{All-map}
 use Rattle.std.proofs.lemmas.Option.{get_or_from_slice_get, slice_get-map, slice_get_within}
 use Rattle.axi_beats.specs.declared.beat.RBeat.{RBeat}
 use Rattle.axi_history.specs.Answered.{values_of}
-use Rattle.axi_history.specs.Records.{Answer, Transaction}
+use Rattle.axi_history.specs.Records.{Answer, Transaction, Issue}
 use Rattle.axi_trail.specs.Schedule.{Share, bytes_on}
 use Rattle.axi_trail.specs.Words.{number_of_read_data, number_of_response}
 use Rattle.manager_end.specs.ManagerTrail.{IsReadNote, IsWriteNote, shares_of}
@@ -18,10 +18,10 @@ use Rattle.memory_end.specs.declared.config.MemoryConfig.{MemoryConfig}
 use Rattle.net_rounds.proofs.BuiltInSchedule.{lower_trail, pair_at, schedule_of, upper_trail}
 use Rattle.net_rounds.proofs.DueLemmas.{beats-asked, due-response, is_allowed}
 use Rattle.net_rounds.proofs.ItemEvents.{accessed, item-filled, run_accesses}
-use Rattle.net_rounds.proofs.NotedLists.{all-answers, answers-rise}
+use Rattle.net_rounds.proofs.NotedLists.{all-answers, answers-rise, all-issues, issues-rise}
 use Rattle.net_rounds.proofs.ScheduleLemmas.{share-own}
 use Rattle.net_rounds.proofs.RunFacts.{RunFacts, note}
-use Rattle.net_rounds.proofs.RunHistory.{run_answers, run_events}
+use Rattle.net_rounds.proofs.RunHistory.{run_answers, run_events, run_issues}
 use Rattle.net_rounds.proofs.RunRounds.{at-run}
 use Rattle.net_rounds.proofs.ScriptPlaces.{one-item}
 use Rattle.net_rounds.specs.BuiltIn.{ram}
@@ -32,20 +32,9 @@ use Rattle.plain_lists.specs.Keys.{of_key}
 use Rattle.plain_lists.proofs.PlaceLemmas.{all-at, contains-at}
 use Rattle.burst_address.specs.Accesses.{answered_bytes}
 
-module _ {X : Type 0} where
-  -- of elements in a strict order two different places have different ones
-  pub apart : (f : X → ℕ) (xs front middle back : List X) (a b : X) → AllPairs (λ x y. f x < f y) xs → xs ≡ front ++ a ∷ (middle ++ b ∷ back) → f a ≢ f b
-  apart f xs front middle back a b rising are same =
-      let all : AllPairs (λ x y. f x < f y) (front ++ a ∷ (middle ++ b ∷ back)) = subst (AllPairs (λ x y. f x < f y)) are rising in
-      let long = length-append front (a ∷ (middle ++ b ∷ back)) in
-      let rest = length-append middle (b ∷ back) in
-      let first : get_or (front ++ a ∷ (middle ++ b ∷ back)) (length front + 0) a ≡ a = get_or-append-add front (a ∷ (middle ++ b ∷ back)) 0 a in
-      let second : get_or (front ++ a ∷ (middle ++ b ∷ back)) (length front + suc (length middle + 0)) a ≡ b =
-      get_or-append-add front (a ∷ (middle ++ b ∷ back)) (suc (length middle + 0)) a ∙ get_or-append-add middle (b ∷ back) 0 a in
-      let less = all (length front + 0) (length front + suc (length middle + 0)) a (omega arith) (omega arith) in
-      let low = ap f first in
-      let high = ap f second in
-      omega arith
+-- elements in a strict order are all different
+apart : {X : Type 0} (f : X → ℕ) (xs : List X) → AllPairs (λ x y. f x < f y) xs → AllPairs (λ x y. f x ≢ f y) xs
+apart f xs rising i j d less within same = let below = rising i j d less within in omega (arith, below, same)
 
 -- a transaction of the script, among the transactions
 pub any-transaction : (P : Transaction → Type 0) (script : List ScriptItem) (place : ℕ) (item : ScriptItem) → slice_get script place ≡ Some item → P (transaction_of ram 0 1 item) → Any P (transactions_of script)
@@ -58,11 +47,18 @@ pub all-transactions : (P : Transaction → Type 0) (script : List ScriptItem) �
 all-transactions P script each = All-map P (transaction_of ram 0 1) script (all-at (λ (item : ScriptItem). P (transaction_of ram 0 1 item)) script each)
 
 module _ (script : List ScriptItem) (run : RunFacts script) (n : ℕ) where
-  -- ---- no transaction has two answers
+  -- ---- no transaction is issued or answered twice, and no issue is of nobody
 
-  pub run-once : (front middle back : List Answer) (a b : Answer) → run_answers script n ≡ front ++ a ∷ (middle ++ b ∷ back) → a.number ≢ b.number
-  run-once front middle back a b are =
-      apart (λ (x : Answer). x.number) (run_answers script n) front middle back a b (answers-rise script (pair_at script n).manager.state.answers run.traffic.numbered) are
+  pub run-issues_belong : All (λ (i : Issue). Any (λ (t : Transaction). t.number ≡ i.number) (transactions_of script)) (run_issues script n)
+  run-issues_belong =
+      all-issues script (pair_at script n).manager.state.answers (λ (i : Issue). Any (λ (t : Transaction). t.number ≡ i.number) (transactions_of script))
+      (λ place item at issued. any-transaction (λ (t : Transaction). t.number ≡ item.txn.number) script place item at refl)
+
+  pub run-issued_once : AllPairs (λ (i j : Issue). i.number ≢ j.number) (run_issues script n)
+  run-issued_once = apart (λ (i : Issue). i.number) (run_issues script n) (issues-rise script (pair_at script n).manager.state.answers run.traffic.numbered)
+
+  pub run-answered_once : AllPairs (λ (a b : Answer). a.number ≢ b.number) (run_answers script n)
+  run-answered_once = apart (λ (a : Answer). a.number) (run_answers script n) (answers-rise script (pair_at script n).manager.state.answers run.traffic.numbered)
 
   module _ (place : ℕ) (item : ScriptItem) (at : slice_get script place ≡ Some item) (answered : 0 < (note script n place).answered) where
     write-note : item.txn.write ≡ true → IsWriteNote (pair_at script n).manager.state (upper_trail script n) place item

@@ -1,11 +1,10 @@
 -- The order of issues, accesses and answers in the run.
-use Rattle.std.proofs.Common.{◌≡◌, ◌<◌, ◌∷◌, [], ◌++◌, ℕ, zero, suc, List, Bool, true, false, Some, refl, sym, ap, ◌∙◌, subst, arith}
+use Rattle.std.proofs.Common.{◌≡◌, ◌<◌, ◌∷◌, [], ◌++◌, ℕ, zero, suc, List, Bool, true, false, Some, refl, sym, ap, ◌∙◌, subst, arith, inl, inr}
 use Rattle.std.specs.Prelude.{◌≢◌, All, Any, get_or, map, slice_get, take}
-use Rattle.std.proofs.Common.{inl, inr}
 use Rattle.std.proofs.lemmas.Bool.{cases_Bool}
 use Rattle.std.proofs.lemmas.List.{map-append, take-map}
 use Rattle.std.proofs.lemmas.List.Elements.{All-cons, All-map, All-nil}
-use Rattle.axi_history.specs.Answered.{AreInOrder, of_manager}
+use Rattle.axi_history.specs.Answered.{AreInOrder, transactions_by}
 use Rattle.axi_history.specs.Records.{Answer, Event, Issue, Transaction}
 use Rattle.axi_trail.specs.Schedule.{ComesBefore, Share}
 use Rattle.manager_end.specs.ManagerOrder.{AreOfDirection, AreOfId}
@@ -33,7 +32,7 @@ All-mapped P f [] all = All-nil (λ x. P (f x))
 All-mapped P f (x ∷ xs) all = All-cons (λ y. P (f y)) x xs (all 0 (f x) (omega arith)) (All-mapped P f xs (λ k d lt. all (suc k) d (omega arith)))
 
 -- all transactions are of the one manager
-one-manager : (script : List ScriptItem) → of_manager 0 (transactions_of script) ≡ transactions_of script
+one-manager : (script : List ScriptItem) → transactions_by 0 (transactions_of script) ≡ transactions_of script
 one-manager [] = refl
 one-manager (item ∷ script) = ap (λ (rest : List Transaction). transaction_of ram 0 1 item ∷ rest) (one-manager script)
 
@@ -166,7 +165,7 @@ module _ (script : List ScriptItem) (run : RunFacts script) (n : ℕ) where
 
   -- ---- what a transaction waits for
 
-  waits-for : (r : ℕ) (v : ScriptItem) → slice_get script r ≡ Some v → 0 < (note script n r).issued → All (λ (u : Transaction). Any (λ (a : Answer). (a.number ≡ u.number) × (a.round < (note script n r).issued)) (run_answers script n)) (take v.txn.after (of_manager 0 (transactions_of script)))
+  waits-for : (r : ℕ) (v : ScriptItem) → slice_get script r ≡ Some v → 0 < (note script n r).issued → All (λ (u : Transaction). Any (λ (a : Answer). (a.number ≡ u.number) × (a.round < (note script n r).issued)) (run_answers script n)) (take v.txn.after (transactions_by 0 (transactions_of script)))
   waits-for r v at_v issued =
       let Before : Transaction → Type 0 = λ u. Any (λ (a : Answer). (a.number ≡ u.number) × (a.round < (note script n r).issued)) (run_answers script n) in
       subst (All Before) (sym (ap (take v.txn.after) (one-manager script) ∙ take-map (transaction_of ram 0 1) v.txn.after script))
@@ -176,12 +175,12 @@ module _ (script : List ScriptItem) (run : RunFacts script) (n : ℕ) where
       any-answer script (pair_at script n).manager.state.answers (λ (a : Answer). (a.number ≡ u.txn.number) × (a.round < (note script n r).issued)) q u at_u (note-within script run n q u at_u) answered.0 (refl, answered.1))))
 
   abbrev Waits : Transaction → Type 0
-  Waits t = All (λ (i : Issue). i.number ≡ t.number → All (λ (u : Transaction). Any (λ (a : Answer). (a.number ≡ u.number) × (a.round < i.round)) (run_answers script n)) (take t.after (of_manager t.manager (transactions_of script)))) (run_issues script n)
+  Waits t = All (λ (i : Issue). i.number ≡ t.number → All (λ (u : Transaction). Any (λ (a : Answer). (a.number ≡ u.number) × (a.round < i.round)) (run_answers script n)) (take t.after (transactions_by t.manager (transactions_of script)))) (run_issues script n)
 
   pub run-waits : All (λ (t : Transaction). Waits t) (transactions_of script)
   run-waits =
       all-transactions (λ (t : Transaction). Waits t) script (λ p t at_t.
-      all-issues script (pair_at script n).manager.state.answers (λ (i : Issue). i.number ≡ t.txn.number → All (λ (u : Transaction). Any (λ (a : Answer). (a.number ≡ u.number) × (a.round < i.round)) (run_answers script n)) (take t.txn.after (of_manager 0 (transactions_of script))))
+      all-issues script (pair_at script n).manager.state.answers (λ (i : Issue). i.number ≡ t.txn.number → All (λ (u : Transaction). Any (λ (a : Answer). (a.number ≡ u.number) × (a.round < i.round)) (run_answers script n)) (take t.txn.after (transactions_by 0 (transactions_of script))))
       (λ r v at_v issued same.
       let one = one-item script run.traffic.numbered r p v t at_v at_t same in
-      subst (λ (i : ScriptItem). All (λ (u : Transaction). Any (λ (a : Answer). (a.number ≡ u.number) × (a.round < (note script n r).issued)) (run_answers script n)) (take i.txn.after (of_manager 0 (transactions_of script)))) one (waits-for r v at_v issued)))
+      subst (λ (i : ScriptItem). All (λ (u : Transaction). Any (λ (a : Answer). (a.number ≡ u.number) × (a.round < (note script n r).issued)) (run_answers script n)) (take i.txn.after (transactions_by 0 (transactions_of script)))) one (waits-for r v at_v issued)))

@@ -4,8 +4,8 @@ use Rattle.std.specs.Prelude.{All, map}
 use Rattle.std.proofs.lemmas.List.{get_or-map, length-map, map-append}
 use Rattle.std.proofs.lemmas.List.Elements.{All-append, All-contains_itself, All-cons, All-head, All-map, All-nil, All-tail, All-weaker}
 use Rattle.std.proofs.lemmas.Option.{get_or_from_slice_get, slice_get_within}
-use Rattle.axi_history.specs.Delivered.{Delivered, IsAnswered, IsBeginningOf, IsOf, is_write_at, shown, wanted}
-use Rattle.axi_history.specs.Records.{Answer, Event, Transaction, due, events_of}
+use Rattle.axi_history.specs.Delivered.{Delivered, IsBeginningOf, IsOf, is_write_at, HasAnswer, access_made, access_due}
+use Rattle.axi_history.specs.Records.{Answer, Event, Transaction, events_of, bytes_due}
 use Rattle.manager_end.specs.Script.{ScriptItem}
 use Rattle.burst_address.specs.Accesses.{value_after}
 use Rattle.memory_end.specs.Accesses.{writes_at}
@@ -75,9 +75,9 @@ module _ (script : List ScriptItem) (facts : RunFacts script) where
   run-delivered : (n : ℕ) → Delivered (transactions_of script) (run_events script n) (run_answers script n)
   run-delivered n = record {
     belongs = run-belongs n;
-    in_burst_order = All-map (λ (t : Transaction). IsBeginningOf (map shown (events_of t.number (run_events script n))) (map wanted (due t))) transaction script
+    in_burst_order = All-map (λ (t : Transaction). IsBeginningOf (map access_made (events_of t.number (run_events script n))) (map access_due (bytes_due t))) transaction script
         (λ k d lt. item-begins script facts n (get_or script k d) (All-contains_itself script k d lt));
-    whole = All-map (λ (t : Transaction). IsAnswered t (run_answers script n) → map shown (events_of t.number (run_events script n)) ≡ map wanted (due t)) transaction script
+    whole = All-map (λ (t : Transaction). HasAnswer t (run_answers script n) → map access_made (events_of t.number (run_events script n)) ≡ map access_due (bytes_due t)) transaction script
         (λ k d lt. item-answered script facts n (get_or script k d) (All-contains_itself script k d lt));
     reads_latest =
         All-map (λ (t : Transaction). (earlier later : List Event) (e : Event) → run_events script n ≡ earlier ++ e ∷ later → e.number ≡ t.number → e.write ≡ false → e.value ≡ value_after (is_write_at e.node e.address) event_value t.fill earlier)

@@ -10,8 +10,8 @@ use Rattle.std.proofs.lemmas.Simd.{map-map}
 use Rattle.axi_beats.specs.declared.beat.WBeat.{WBeat}
 use Rattle.axi_beats.specs.declared.response.Resp.{Resp}
 use Rattle.axi_beats.specs.declared.response.Resp.TheVariants.{DecErr, Okay}
-use Rattle.axi_history.specs.Delivered.{IsBeginningOf, wanted}
-use Rattle.axi_history.specs.Records.{due, NamedByte}
+use Rattle.axi_history.specs.Delivered.{IsBeginningOf, access_due}
+use Rattle.axi_history.specs.Records.{NamedByte, bytes_due}
 use Rattle.axi_trail.specs.Schedule.{Share}
 use Rattle.burst_address.specs.Bytes.{beat_bytes, burst_bytes, bytes_before, Byte}
 use Rattle.burst_address.specs.Formulas.{beats_of}
@@ -108,7 +108,7 @@ module _ (item : ScriptItem) (known : IsTrafficItem item) where
   part-legal (suc k) d within = absurd (omega (arith, within))
 
   -- what all beats of a read read is what is due of it
-  all-reads : item.txn.write ≡ false → map shown_read (flat_map (read_addresses ram) (beats_of_parts (read_share item).parts)) ≡ map wanted (due (transaction_of ram 0 1 item))
+  all-reads : item.txn.write ≡ false → map shown_read (flat_map (read_addresses ram) (beats_of_parts (read_share item).parts)) ≡ map access_due (bytes_due (transaction_of ram 0 1 item))
   all-reads direction =
       let beats = beats_of_parts (read_share item).parts in
       let bytes = burst_bytes item.txn.request in
@@ -118,15 +118,15 @@ module _ (item : ScriptItem) (known : IsTrafficItem item) where
       ∙ append-nil (filter (is_inside ram) (burst_bytes (part_of item)))
       ∙ ap (filter (is_inside ram)) (part-bytes item) in
       ap (map shown_read) (inside ∙ filter-same (is_inside ram) (λ address. is_okay (read_status ram address)) bytes (λ k address at. sym (okay-inside (is_inside ram address))))
-      ∙ sym (ap (λ all. map wanted (filter is_allowed all)) (read-bytes direction) ∙ filter-between is_allowed wanted read_byte bytes)
+      ∙ sym (ap (λ all. map access_due (filter is_allowed all)) (read-bytes direction) ∙ filter-between is_allowed access_due read_byte bytes)
 
   -- the first beats of a read read the first bytes that are due, and all beats read all
-  pub reads-begin : item.txn.write ≡ false → (count : ℕ) → IsBeginningOf (map shown_read (due_reads ram (read_share item) count)) (map wanted (due (transaction_of ram 0 1 item)))
+  pub reads-begin : item.txn.write ≡ false → (count : ℕ) → IsBeginningOf (map shown_read (due_reads ram (read_share item) count)) (map access_due (bytes_due (transaction_of ram 0 1 item)))
   reads-begin direction count =
       let front = flat-begins shown_read (read_addresses ram) count (beats_of_parts (read_share item).parts) in
       (front.0, sym (all-reads direction) ∙ front.1)
 
-  pub reads-whole : item.txn.write ≡ false → (count : ℕ) → length (beats_of_parts (read_share item).parts) ≤ count → map shown_read (due_reads ram (read_share item) count) ≡ map wanted (due (transaction_of ram 0 1 item))
+  pub reads-whole : item.txn.write ≡ false → (count : ℕ) → length (beats_of_parts (read_share item).parts) ≤ count → map shown_read (due_reads ram (read_share item) count) ≡ map access_due (bytes_due (transaction_of ram 0 1 item))
   reads-whole direction count all =
       ap (λ beats. map shown_read (flat_map (read_addresses ram) beats)) (take_all count (beats_of_parts (read_share item).parts) all) ∙ all-reads direction
 
@@ -166,7 +166,7 @@ module _ (laws : NodeLaws) (item : ScriptItem) (known : IsTrafficItem item) (dir
   few-data = omega (arith, length-zip (beats_of_parts (write_share item).parts) (flat_map (λ beats. beats) (write_share item).write_data))
 
   -- what all beats of a write write is what is due of it
-  all-writes : map shown_write (flat_map beat_writes (beats_with_data (write_share item))) ≡ map wanted (due (transaction_of ram 0 1 item))
+  all-writes : map shown_write (flat_map beat_writes (beats_with_data (write_share item))) ≡ map access_due (bytes_due (transaction_of ram 0 1 item))
   all-writes =
       let share = write_share item in
       let bytes = strobed_bytes item in
@@ -179,15 +179,15 @@ module _ (laws : NodeLaws) (item : ScriptItem) (known : IsTrafficItem item) (dir
       ∙ data-inside laws item known direction in
       ap (map shown_write) written
       ∙ ap (map shown_write) (filter-same inside kept bytes (λ k byte at. sym (okay-inside (is_inside ram byte.address))))
-      ∙ sym (ap (λ all. map wanted (filter is_allowed all)) write-bytes ∙ filter-between is_allowed wanted write_byte bytes)
+      ∙ sym (ap (λ all. map access_due (filter is_allowed all)) write-bytes ∙ filter-between is_allowed access_due write_byte bytes)
 
   -- the first data beats write the first bytes that are due, and all beats write all
-  pub writes-begin : (count : ℕ) → IsBeginningOf (map shown_write (due_writes ram (write_share item) count)) (map wanted (due (transaction_of ram 0 1 item)))
+  pub writes-begin : (count : ℕ) → IsBeginningOf (map shown_write (due_writes ram (write_share item) count)) (map access_due (bytes_due (transaction_of ram 0 1 item)))
   writes-begin count =
       let front = flat-begins shown_write beat_writes count (beats_with_data (write_share item)) in
       (front.0, sym all-writes ∙ front.1)
 
-  pub writes-whole : (count : ℕ) → length (beats_of_parts (write_share item).parts) ≤ count → map shown_write (due_writes ram (write_share item) count) ≡ map wanted (due (transaction_of ram 0 1 item))
+  pub writes-whole : (count : ℕ) → length (beats_of_parts (write_share item).parts) ≤ count → map shown_write (due_writes ram (write_share item) count) ≡ map access_due (bytes_due (transaction_of ram 0 1 item))
   writes-whole count all = ap (λ beats. map shown_write (flat_map beat_writes beats)) (take_all count (beats_with_data (write_share item)) (omega (arith, all, few-data))) ∙ all-writes
 
   -- its response is the worst status of what the script strobes

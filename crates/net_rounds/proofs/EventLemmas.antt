@@ -6,7 +6,7 @@ use Rattle.std.proofs.lemmas.Bool.{and_parts}
 use Rattle.std.proofs.lemmas.List.Elements.{All-head, All-tail, All-weaker, filter_passes}
 use Rattle.std.proofs.lemmas.Simd.{map-map}
 use Rattle.axi_history.specs.Answered.{values_of}
-use Rattle.axi_history.specs.Delivered.{is_write_at, shown}
+use Rattle.axi_history.specs.Delivered.{is_write_at, access_made}
 use Rattle.axi_history.specs.Records.{Event, events_of}
 use Rattle.memory_end.specs.Accesses.{accesses_of, writes_at}
 use Rattle.memory_end.specs.Events.{Access}
@@ -63,20 +63,20 @@ of-direction write number all =
     (filter_passes (λ (a : Access). beq a.write write && a.number == number) all)
 
 -- the events of a transaction, as the bytes that they do
-shown-events : (number : ℕ) (events : List Event) → map shown (events_of number events) ≡ map shown_access (of_number number (map access_of_event events))
+shown-events : (number : ℕ) (events : List Event) → map access_made (events_of number events) ≡ map shown_access (of_number number (map access_of_event events))
 shown-events number events =
     sym (map-map shown_access access_of_event (events_of number events)) ∙ sym (ap (map shown_access) (filter_map (λ (a : Access). a.number == number) access_of_event events))
 
 pub events-written :
     (number : ℕ) (events : List Event) → accesses_of false number (map access_of_event events) ≡ [] →
-    map shown (events_of number events) ≡ map shown_write (map (λ (a : Access). a.byte) (accesses_of true number (map access_of_event events)))
+    map access_made (events_of number events) ≡ map shown_write (map (λ (a : Access). a.byte) (accesses_of true number (map access_of_event events)))
 events-written number events none =
     let all = map access_of_event events in
     shown-events number events ∙ ap (map shown_access) (one-direction true number all none) ∙ shown-writes (accesses_of true number all) (of-direction true number all)
 
 pub events-read :
     (number : ℕ) (events : List Event) → accesses_of true number (map access_of_event events) ≡ [] →
-    map shown (events_of number events) ≡ map shown_read (map (λ (a : Access). a.byte.address) (accesses_of false number (map access_of_event events)))
+    map access_made (events_of number events) ≡ map shown_read (map (λ (a : Access). a.byte.address) (accesses_of false number (map access_of_event events)))
 events-read number events none =
     let all = map access_of_event events in
     shown-events number events ∙ ap (map shown_access) (one-direction false number all none) ∙ shown-reads (accesses_of false number all) (of-direction false number all)

@@ -6,8 +6,8 @@ use Rattle.std.proofs.lemmas.List.{length-map}
 use Rattle.std.proofs.lemmas.List.Elements.{All-contains}
 use Rattle.axi_beats.specs.declared.beat.RBeat.{RBeat}
 use Rattle.axi_history.specs.Answered.{values_of}
-use Rattle.axi_history.specs.Delivered.{IsAnswered, IsBeginningOf, shown, wanted}
-use Rattle.axi_history.specs.Records.{Answer, due, events_of}
+use Rattle.axi_history.specs.Delivered.{IsBeginningOf, HasAnswer, access_made, access_due}
+use Rattle.axi_history.specs.Records.{Answer, events_of, bytes_due}
 use Rattle.axi_trail.specs.Schedule.{Share}
 use Rattle.axi_trail.specs.Words.{number_of_data, number_of_read_data, number_of_response}
 use Rattle.manager_end.specs.ManagerOrder.{IsAt}
@@ -77,20 +77,20 @@ module _ (script : List ScriptItem) (facts : RunFacts script) (n : ℕ) where
     known = traffic-item script facts.traffic item among
 
     -- the events of a write are what its first beats of data write, and those of a read what its first beats read
-    pub item-writes : item.txn.write ≡ true → map shown (events_of item.txn.number (run_events script n)) ≡ map shown_write (due_writes ram (write_share item) (written_beats item.txn.number))
+    pub item-writes : item.txn.write ≡ true → map access_made (events_of item.txn.number (run_events script n)) ≡ map shown_write (due_writes ram (write_share item) (written_beats item.txn.number))
     item-writes direction =
         events-written item.txn.number (run_events script n) (none-read item.txn.number (share-other script facts.traffic item among true direction))
         ∙ ap (map shown_write) (written item.txn.number ∙ ap (λ (share : Share). due_writes ram share (written_beats item.txn.number)) (share-own script facts.traffic item among true direction))
 
-    pub item-reads : item.txn.write ≡ false → map shown (events_of item.txn.number (run_events script n)) ≡ map shown_read (due_reads ram (read_share item) (read_beats item.txn.number))
+    pub item-reads : item.txn.write ≡ false → map access_made (events_of item.txn.number (run_events script n)) ≡ map shown_read (due_reads ram (read_share item) (read_beats item.txn.number))
     item-reads direction =
         events-read item.txn.number (run_events script n) (none-written item.txn.number (share-other script facts.traffic item among false direction))
         ∙ ap (map shown_read) (read item.txn.number ∙ ap (λ (share : Share). due_reads ram share (read_beats item.txn.number)) (share-own script facts.traffic item among false direction))
 
     -- which are the first of those that are due
-    pub item-begins : IsBeginningOf (map shown (events_of item.txn.number (run_events script n))) (map wanted (due (transaction_of ram 0 1 item)))
+    pub item-begins : IsBeginningOf (map access_made (events_of item.txn.number (run_events script n))) (map access_due (bytes_due (transaction_of ram 0 1 item)))
     item-begins =
-        let Begins : List (ℕ × Option ℕ) → Type 0 = λ front. IsBeginningOf front (map wanted (due (transaction_of ram 0 1 item))) in
+        let Begins : List (ℕ × Option ℕ) → Type 0 = λ front. IsBeginningOf front (map access_due (bytes_due (transaction_of ram 0 1 item))) in
         elim (cases_Bool item.txn.write) [
           | inl direction ↦ subst Begins (sym (item-writes direction)) (writes-begin facts.laws item known direction (written_beats item.txn.number))
           | inr direction ↦ subst Begins (sym (item-reads direction)) (reads-begin item known direction (read_beats item.txn.number))
@@ -135,16 +135,16 @@ module _ (script : List ScriptItem) (facts : RunFacts script) (n : ℕ) where
         omega (arith, came, sent, asked, beats)
 
     -- where it is answered, its events are all that are due
-    item-whole : (place : ℕ) → IsAt (pair_at script n).manager.state place item → 0 < (note script n place).answered → map shown (events_of item.txn.number (run_events script n)) ≡ map wanted (due (transaction_of ram 0 1 item))
+    item-whole : (place : ℕ) → IsAt (pair_at script n).manager.state place item → 0 < (note script n place).answered → map access_made (events_of item.txn.number (run_events script n)) ≡ map access_due (bytes_due (transaction_of ram 0 1 item))
     item-whole place at answered =
         elim (cases_Bool item.txn.write) [
           | inl direction ↦ item-writes direction ∙ writes-whole facts.laws item known direction (written_beats item.txn.number) (write-all place at direction answered)
           | inr direction ↦ item-reads direction ∙ reads-whole item known direction (read_beats item.txn.number) (read-all place at direction answered)
         ]
 
-    pub item-answered : IsAnswered (transaction_of ram 0 1 item) (run_answers script n) → map shown (events_of item.txn.number (run_events script n)) ≡ map wanted (due (transaction_of ram 0 1 item))
+    pub item-answered : HasAnswer (transaction_of ram 0 1 item) (run_answers script n) → map access_made (events_of item.txn.number (run_events script n)) ≡ map access_due (bytes_due (transaction_of ram 0 1 item))
     item-answered answer =
-        let Whole : Type 0 = map shown (events_of item.txn.number (run_events script n)) ≡ map wanted (due (transaction_of ram 0 1 item)) in
+        let Whole : Type 0 = map access_made (events_of item.txn.number (run_events script n)) ≡ map access_due (bytes_due (transaction_of ram 0 1 item)) in
         let each : All (λ (a : Answer). a.number ≡ item.txn.number → Whole) (run_answers script n) =
         all-answers script (pair_at script n).manager.state.answers (λ (a : Answer). a.number ≡ item.txn.number → Whole)
         (λ place other at answered same.

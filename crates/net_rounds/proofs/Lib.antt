@@ -2,6 +2,7 @@ pub mod AccessLists
 pub mod AnswerRounds
 pub mod AnsweredContent
 pub mod AnsweredOrder
+pub mod BeatRanges
 pub mod BoundLemmas
 pub mod BuiltInSchedule
 pub mod DataLemmas
@@ -10,6 +11,7 @@ pub mod DueLemmas
 pub mod EventLemmas
 pub mod ItemEvents
 pub mod KnownFacts
+pub mod LaneRanges
 pub mod LegalSchedule
 pub mod NetLemmas
 pub mod NetworkLemmas
@@ -20,6 +22,7 @@ pub mod NotesLemmas
 pub mod Pair
 pub mod PairLemmas
 pub mod ScheduleLemmas
+pub mod PortsInRange
 pub mod PortsLegal
 pub mod PushedItems
 pub mod RunAnswered

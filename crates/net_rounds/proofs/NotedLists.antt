@@ -124,3 +124,7 @@ module _ (script : List ScriptItem) (answers : List AnswerView) where
   -- the answers are in order of their numbers
   pub answers-rise : AllPairs (λ (a b : ScriptItem). a.txn.number < b.txn.number) script → AllPairs (λ (a b : Answer). a.number < b.number) (filter_map answer_noted (zip script answers))
   answers-rise numbered = made-rise answer_noted (λ (a : Answer). a.number) (λ p. chosen-one (λ (a : Answer). a.number ≡ p.0.txn.number) (is_answered p.1) (answer_at p.0 p.1) (λ is. refl)) script answers numbered
+
+  -- and so are the issues
+  pub issues-rise : AllPairs (λ (a b : ScriptItem). a.txn.number < b.txn.number) script → AllPairs (λ (i j : Issue). i.number < j.number) (filter_map issue_noted (zip script answers))
+  issues-rise numbered = made-rise issue_noted (λ (i : Issue). i.number) (λ p. chosen-one (λ (i : Issue). i.number ≡ p.0.txn.number) (nat_lt 0 p.1.issued) (issue_at p.0 p.1) (λ is. refl)) script answers numbered

@@ -31,7 +31,7 @@ use Rattle.plain_lists.proofs.PlaceLemmas.{at-all, contains-at, All-slice_get, I
 use Rattle.burst_address.specs.Lanes.{last_lane}
 
 -- what is put on a link
-put-has : {X : Type 0} (P : X → Type 0) (number : ℕ) (o : Option X) → IfSome o P → IfSome (put_of number o) (λ (p : ℕ × X). P p.1)
+pub put-has : {X : Type 0} (P : X → Type 0) (number : ℕ) (o : Option X) → IfSome o P → IfSome (put_of number o) (λ (p : ℕ × X). P p.1)
 put-has P number None has = tt
 put-has P number (Some x) has = has
 
@@ -63,7 +63,7 @@ tagged-request : (bus : ℕ) (item : ScriptItem) → IsRequest bus item.txn.requ
 tagged-request bus item is = record { legal = is.legal; small = is.small }
 
 -- the strobes of a write's data are on lanes of the bus
-strobe-small : (script : List ScriptItem) (bus n : ℕ) (item : ScriptItem) → IsBusWidth bus → IsChosen script bus true item → n ≤ item.txn.request.len → (data_beat item bus n).strobe < 2 ^ bus
+pub strobe-small : (script : List ScriptItem) (bus n : ℕ) (item : ScriptItem) → IsBusWidth bus → IsChosen script bus true item → n ≤ item.txn.request.len → (data_beat item bus n).strobe < 2 ^ bus
 strobe-small script bus n item wide chosen some =
     let request = item.txn.request in
     let sends : SendsItsBytes bus item = record {
@@ -77,7 +77,7 @@ strobe-small script bus n item wide chosen some =
     omega (arith, within.1, most)
 
 -- what the manager puts has what its script has
-aw-puts :
+pub aw-puts :
     (P : Addr → Type 0) (links : List LinkView) (s : ManagerState) → All (λ (p : ℕ × ScriptItem). P (item_request p.1)) (writes_of s.script) →
     IfSome (manager_out links s).aw_put (λ (p : ℕ × Addr). P p.1)
 aw-puts P links s all =
@@ -85,7 +85,7 @@ aw-puts P links s all =
     put-has P s.lower _ (IfSome-map (λ (next : ℕ × ScriptItem). item_request next.1) P (manager_aw links s)
     (passing-has Has _ _ (ready-has Has s.answered _ (All-slice_get Has (writes_of s.script) s.issued_writes all))))
 
-ar-puts :
+pub ar-puts :
     (P : Addr → Type 0) (links : List LinkView) (s : ManagerState) → All (λ (p : ℕ × ScriptItem). P (item_request p.1)) (reads_of s.script) →
     IfSome (manager_out links s).ar_put (λ (p : ℕ × Addr). P p.1)
 ar-puts P links s all =
@@ -93,7 +93,7 @@ ar-puts P links s all =
     put-has P s.lower _ (IfSome-map (λ (next : ℕ × ScriptItem). item_request next.1) P (manager_ar links s)
     (passing-has Has _ _ (ready-has Has s.answered _ (All-slice_get Has (reads_of s.script) s.issued_reads all))))
 
-w-puts :
+pub w-puts :
     (P : WBeat → Type 0) (links : List LinkView) (s : ManagerState) → IsManager s →
     All (λ (p : ℕ × ScriptItem). (n : ℕ) → n ≤ p.1.txn.request.len → P (data_beat p.1 s.bus n)) (writes_of s.script) →
     IfSome (manager_out links s).w_put (λ (p : ℕ × WBeat). P p.1)
@@ -131,7 +131,7 @@ pub record PairHolds (p : Pair) : Type 0 where
 pub can-manager : (p : Pair) (n : ℕ) → PairHolds p → CanManager (suc n) (p.link ∷ []) p.manager.state
 can-manager p n holds = record { counted = omega arith; linked = subst (λ (k : ℕ). k < 1) (sym holds.lower) (omega arith) }
 
-at-head : {X : Type 0} (P : X → Type 0) (queue : LinkView → List X) (link : LinkView) (upper : ℕ) → upper ≡ 0 → All P (queue link) → IfSome (head_of (queue (link_of (link ∷ []) upper))) P
+pub at-head : {X : Type 0} (P : X → Type 0) (queue : LinkView → List X) (link : LinkView) (upper : ℕ) → upper ≡ 0 → All P (queue link) → IfSome (head_of (queue (link_of (link ∷ []) upper))) P
 at-head P queue link upper is all = subst (λ (u : ℕ). IfSome (head_of (queue (link_of (link ∷ []) u))) P) (sym is) (All-slice_get P (queue link) 0 all)
 
 pub can-memory : (p : Pair) (n : ℕ) → PairHolds p → CanMemory (suc n) (p.link ∷ []) p.memory.state

@@ -23,7 +23,7 @@ pair-port : (p : Pair) (round : ℕ) → port_at round (network_of (decided roun
 pair-port p round = refl
 
 -- the history of the link is that of the pair's
-round-is : (script : List ScriptItem) (n : ℕ) → port_at (suc n) (after_decide (suc n) (after_rounds n (built_in script))) 0 ≡ port_round 0 link_kind (links_at script) (upper_out script) (lower_out script) n
+pub round-is : (script : List ScriptItem) (n : ℕ) → port_at (suc n) (after_decide (suc n) (after_rounds n (built_in script))) 0 ≡ port_round 0 link_kind (links_at script) (upper_out script) (lower_out script) n
 round-is script n =
     ap (λ (net : Network). port_at (suc n) (after_decide (suc n) net) 0) (after_rounds-built_in script n)
     ∙ ap (λ (net : Network). port_at (suc n) net 0) (decide-network_of (pair_at script n) (suc n)) ∙ pair-port (pair_at script n) (suc n)
@@ -53,7 +53,7 @@ schedule-legal laws script traffic =
     }
 
 -- one link
-one-link : (script : List ScriptItem) → length (built_in script).links ≡ 1
+pub one-link : (script : List ScriptItem) → length (built_in script).links ≡ 1
 unfolding built_in
 one-link script = refl
 

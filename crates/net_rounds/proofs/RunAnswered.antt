@@ -3,7 +3,7 @@ use Rattle.std.proofs.Common.{ℕ, List, sym, subst}
 use Rattle.axi_history.specs.Answered.{Answered}
 use Rattle.axi_history.specs.Records.{Answer, Event, Issue}
 use Rattle.manager_end.specs.Script.{ScriptItem}
-use Rattle.net_rounds.proofs.AnsweredContent.{run-bytes, run-once, run-response}
+use Rattle.net_rounds.proofs.AnsweredContent.{run-answered_once, run-bytes, run-issued_once, run-issues_belong, run-response}
 use Rattle.net_rounds.proofs.AnsweredOrder.{run-answers_in_order, run-event_before_answer, run-events_in_order, run-issue_before_answer, run-issue_before_event, run-issues_in_order, run-waits}
 use Rattle.net_rounds.proofs.RunFacts.{RunFacts}
 use Rattle.net_rounds.proofs.RunHistory.{answers-are, events-are, issues-are, run_answers, run_events, run_issues}
@@ -15,7 +15,9 @@ use Rattle.net_rounds.specs.Network.{after_rounds}
 -- of the pair's accesses and notes
 pair-answered : (script : List ScriptItem) → RunFacts script → (n : ℕ) → Answered (transactions_of script) (run_issues script n) (run_events script n) (run_answers script n)
 pair-answered script run n = record {
-  once = run-once script run n;
+  issues_belong = run-issues_belong script run n;
+  issued_once = run-issued_once script run n;
+  answered_once = run-answered_once script run n;
   response = run-response script run n;
   bytes = run-bytes script run n;
   issue_before_event = run-issue_before_event script run n;

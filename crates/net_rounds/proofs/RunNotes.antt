@@ -4,7 +4,7 @@ use Rattle.std.proofs.Common.{◌≡◌, ◌<◌, ℕ, true, List, Some, sym, ap
 use Rattle.std.specs.Prelude.{All, Any, slice_get}
 use Rattle.std.proofs.Math.Bool.{and-true}
 use Rattle.std.proofs.lemmas.Bool.{ltb-true}
-use Rattle.axi_history.specs.Delivered.{IsAnswered}
+use Rattle.axi_history.specs.Delivered.{HasAnswer}
 use Rattle.axi_history.specs.Records.{Answer, Issue, Transaction}
 use Rattle.manager_end.specs.Answer.{unanswered}
 use Rattle.manager_end.specs.ManagerState.{is_done}
@@ -62,11 +62,11 @@ module _ (script : List ScriptItem) (run : RunFacts script) (n : ℕ) where
       let all = done-answered (pair_at script n).manager.state (run.keeps n).manager.is_manager done in
       ltb-true 0 (note script n place).answered (all place (unanswered 0) (note-within script run n place item at))
 
-  all-answered : is_done (pair_at script n).manager.state ≡ true → All (λ (t : Transaction). IsAnswered t (run_answers script n)) (transactions_of script)
+  all-answered : is_done (pair_at script n).manager.state ≡ true → All (λ (t : Transaction). HasAnswer t (run_answers script n)) (transactions_of script)
   all-answered done =
-      all-transactions (λ (t : Transaction). IsAnswered t (run_answers script n)) script (λ place item at.
+      all-transactions (λ (t : Transaction). HasAnswer t (run_answers script n)) script (λ place item at.
       any-answer script (pair_at script n).manager.state.answers (λ (a : Answer). a.number ≡ item.txn.number) place item at (note-within script run n place item at) (answered-there done place item at) refl)
 
-  pub run-whole : is_finished (after_rounds n (built_in script)) ≡ true → All (λ (t : Transaction). IsAnswered t (answers_after script n)) (transactions_of script)
+  pub run-whole : is_finished (after_rounds n (built_in script)) ≡ true → All (λ (t : Transaction). HasAnswer t (answers_after script n)) (transactions_of script)
   run-whole finished =
-      subst (λ (answers : List Answer). All (λ (t : Transaction). IsAnswered t answers) (transactions_of script)) (sym (answers-are script n)) (all-answered (done-then finished))
+      subst (λ (answers : List Answer). All (λ (t : Transaction). HasAnswer t answers) (transactions_of script)) (sym (answers-are script n)) (all-answered (done-then finished))

@@ -6,6 +6,7 @@ pub mod NetInside
 pub mod NetView
 pub mod Network
 pub mod Notes
+pub mod PortRanges
 pub mod Ports
 pub mod Right
 pub mod Run

@@ -2,7 +2,7 @@
 -- (Arm IHI 0022, ordering model).
 use Rattle.std.specs.Prelude.{◌≡◌, ◌≤◌, ℕ, true, List, All, Any}
 use Rattle.axi_history.specs.Answered.{Answered}
-use Rattle.axi_history.specs.Delivered.{Delivered, IsAnswered}
+use Rattle.axi_history.specs.Delivered.{Delivered, HasAnswer}
 use Rattle.axi_history.specs.Records.{Answer, Issue, Transaction}
 use Rattle.manager_end.specs.Script.{ScriptItem}
 use Rattle.net_rounds.specs.BuiltIn.{built_in}
@@ -36,7 +36,7 @@ pub record IsRight (script : List ScriptItem) (rounds : ℕ) : Type 0 where
   pub issues_noted : All (IsNotedIssue script rounds) (issues_after script rounds)
   pub answers_noted : All (IsNotedAnswer script rounds) (answers_after script rounds)
   -- once the network is finished, every transaction is answered
-  pub whole : is_finished (after_rounds rounds (built_in script)) ≡ true → All (λ (t : Transaction). IsAnswered t (answers_after script rounds)) (transactions_of script)
+  pub whole : is_finished (after_rounds rounds (built_in script)) ≡ true → All (λ (t : Transaction). HasAnswer t (answers_after script rounds)) (transactions_of script)
 
 -- every run is, after any number of rounds
 abbrev pub RunsAreRight : Type 0

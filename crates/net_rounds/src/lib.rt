@@ -16,5 +16,7 @@ mod touched;
 pub use ends::Ends;
 pub use net::Net;
 pub use phase::{commit_each, decide_each};
-pub use run_laws::{history_is_known, ports_are_legal, runs_are_least, runs_are_right};
+pub use run_laws::{
+    history_is_known, ports_are_in_range, ports_are_legal, runs_are_least, runs_are_right,
+};
 pub use touched::touched_lines;

@@ -1,6 +1,6 @@
 -- What is known of a burst that a line asks for.
-use Rattle.std.proofs.Common.{◌≡◌, ℕ, ◌+◌, ◌-◌, ◌*◌, ◌^◌, ◌<◌, ◌==◌, ◌&&◌, Bool, true, false, cond, List, [], ◌∷◌, Option, Some, None, drop, length, zero, suc, nat_lt, nat_le, nat_eq, refl, ◌∙◌, ap, arith}
-use Rattle.std.specs.Prelude.{IfSome, codes}
+use Rattle.std.proofs.Common.{◌≡◌, ℕ, ◌+◌, ◌-◌, ◌*◌, ◌^◌, ◌<◌, ◌==◌, ◌&&◌, Bool, true, false, cond, List, [], ◌∷◌, Option, Some, None, drop, length, zero, suc, nat_lt, nat_le, nat_eq, refl, sym, ◌∙◌, ap, subst, arith}
+use Rattle.std.specs.Prelude.{All, IfSome, codes}
 use Rattle.std.specs.List.{list_all, starts_with}
 use Rattle.std.specs.Option.{option_and_then}
 use Rattle.std.specs.Str.{bytes_eq}
@@ -8,9 +8,11 @@ use Rattle.std.specs.Str.Parse.{digits_value}
 use Rattle.std.proofs.lemmas.Bool.{and_parts, eqb-true, eqb-false, ltb-true}
 use Rattle.std.proofs.lemmas.List.{length-append}
 use Rattle.std.proofs.lemmas.List.Concat.{flat_map-cons}
-use Rattle.plain_text.specs.Numbers.{is_numeral, number_in, read_decimal, read_hexadecimal}
+use Rattle.std.proofs.lemmas.List.Elements.{All-append, All-cons, All-nil}
+use Rattle.manager_end.specs.declared.script.WriteByte.{WriteByte}
+use Rattle.plain_text.specs.Numbers.{is_numeral, number_in, read_byte_pair, read_decimal, read_hexadecimal}
 use Rattle.plain_text.specs.Words.{words, next_word, has_no_word}
-use Rattle.traffic.specs.Data.{are_pairs, are_data_words, data_bytes, is_data_word, is_pair, word_bytes}
+use Rattle.traffic.specs.Data.{are_pairs, are_data_words, data_bytes, is_data_word, is_pair, lane_byte, pair_byte, word_bytes}
 use Rattle.traffic.specs.Line.{Access, Line, Passed, Waits, Asks, at_end, beats_named, burst_named, first_pairs, is_passed, line_of, form_by, form_of, other_pairs, read_of, said_by, size_named, start_of, wait_of, write_of, write_with}
 
 -- ---- optional values
@@ -96,6 +98,30 @@ words-length first other (word ∷ more) e =
     let scaled : (length (word ∷ more) - 1) * other ≡ length more * other = ap (λ n. n * other) fewer in
     (omega arith, omega arith)
 
+-- a pair says a byte
+pair-value : (o : Option ℕ) → IfSome o (λ n. n < 256) → (lane_byte o).value < 256
+pair-value None below = omega arith
+pair-value (Some value) below = below
+
+pair-below : (high low : ℕ) → IfSome (read_byte_pair (high ∷ low ∷ [])) (λ n. n < 256)
+unfolding read_byte_pair
+pair-below high low = number-below (high ∷ low ∷ []) 16 256
+
+pair-byte : (high low : ℕ) → (pair_byte high low).value < 256
+unfolding pair_byte
+pair-byte high low = pair-value (read_byte_pair (high ∷ low ∷ [])) (pair-below high low)
+
+word-values : (word : List ℕ) → All (λ (byte : WriteByte). byte.value < 256) (word_bytes word)
+word-values [] = All-nil (λ (byte : WriteByte). byte.value < 256)
+word-values (single ∷ []) = All-nil (λ (byte : WriteByte). byte.value < 256)
+word-values (high ∷ low ∷ more) = All-cons (λ (byte : WriteByte). byte.value < 256) (pair_byte high low) (word_bytes more) (pair-byte high low) (word-values more)
+
+data-values : (lanes : List (List ℕ)) → All (λ (byte : WriteByte). byte.value < 256) (data_bytes lanes)
+data-values [] = All-nil (λ (byte : WriteByte). byte.value < 256)
+data-values (word ∷ more) =
+    subst (All (λ (byte : WriteByte). byte.value < 256)) (sym (flat_map-cons word_bytes word more))
+    (All-append (λ (byte : WriteByte). byte.value < 256) (word_bytes word) (data_bytes more) (word-values word) (data-values more))
+
 -- ---- lines
 
 -- an address below 2 ^ 63, one beat or more, and for a write a byte for each pair of its data words
@@ -103,6 +129,7 @@ pub record IsForm (access : Access) : Type 0 where
   pub addr : access.start.addr < 2 ^ 63
   pub some : 0 < access.beats
   pub bytes : length access.bytes ≡ cond access.write (first_pairs access.start + (access.beats - 1) * other_pairs access.start) 0
+  pub values : All (λ (byte : WriteByte). byte.value < 256) access.bytes
 
 abbrev pub IsFormLine : Line → Type 0
 IsFormLine Passed = Unit {0}
@@ -128,7 +155,7 @@ write-form line =
     bind (start_of line) (λ start. write_with start.0 start.1) (λ found. found.0.addr < 2 ^ 63) IsFormLine (start-form line) (λ start below.
     where-true (are_data_words (first_pairs start.0) (other_pairs start.0) start.1) (Asks (record { start = start.0; write = true; beats = length start.1; bytes = data_bytes start.1 })) IsFormLine (λ e.
     let long = words-length (first_pairs start.0) (other_pairs start.0) start.1 e in
-    record { addr = below; some = long.0; bytes = long.1 }))
+    record { addr = below; some = long.0; bytes = long.1; values = data-values start.1 }))
 
 read-form : (line : List (List ℕ)) → IfSome (read_of line) IsFormLine
 unfolding read_of
@@ -137,7 +164,7 @@ read-form line =
     bind (next_word start.1) _ (λ _. Unit {0}) IsFormLine (free (next_word start.1)) (λ count_word _.
     bind (beats_named count_word.0) _ (λ beats. 0 < beats) IsFormLine (beats-some count_word.0) (λ beats some.
     where-true (has_no_word count_word.1) (Asks (record { start = start.0; write = false; beats = beats; bytes = [] })) IsFormLine (λ e.
-    record { addr = below; some = some; bytes = refl }))))
+    record { addr = below; some = some; bytes = refl; values = All-nil (λ (byte : WriteByte). byte.value < 256) }))))
 
 wait-form : (line : List (List ℕ)) → IfSome (wait_of line) IsFormLine
 unfolding wait_of

@@ -50,6 +50,7 @@ accepted-suits managers before place access a =
       addr = form.addr;
       untagged = refl;
       bytes = form.bytes ∙ ap (λ n. cond access.write n 0) (sym (write-bytes access a.port.bus a.legal));
+      values = form.values;
     }
 
 all-suit : (managers : List ManagerPort) (before orders : List Order) → AllByRecursion (IsAllowed managers) orders → AllByRecursion (Suits managers) (items_after before orders)

@@ -4,12 +4,13 @@ use Rattle.std.specs.List.{slice_get}
 use Rattle.burst_address.specs.Bytes.{burst_bytes}
 use Rattle.burst_address.specs.Formulas.{beats_of}
 use Rattle.burst_address.specs.Legal.{IsLegal}
+use Rattle.manager_end.specs.declared.script.WriteByte.{WriteByte}
 use Rattle.traffic.specs.Orders.{most_beats, most_transactions}
 use Rattle.traffic.specs.Traffic.{TrafficItem, refusal_of, traffic_of}
 use Rattle.traffic.specs.declared.port.ManagerPort.{ManagerPort}
 
 -- A transaction suits its manager: its ID has no more bits than the manager's, and its burst is legal on the manager's
--- bus. A write has a byte for each valid byte of its burst, and a read has none.
+-- bus. A write has a byte, that is a number below 256, for each valid byte of its burst, and a read has none.
 pub record Suits (managers : List ManagerPort) (item : TrafficItem) : Type 0 where
   pub port : ManagerPort
   pub is_manager : slice_get managers item.manager ≡ Some port
@@ -18,6 +19,7 @@ pub record Suits (managers : List ManagerPort) (item : TrafficItem) : Type 0 whe
   pub addr : item.txn.request.addr < 2 ^ 63
   pub untagged : item.txn.request.tag ≡ record { txn = 0; low = 0; high = 0 }
   pub bytes : length item.bytes ≡ (if item.txn.write then length (burst_bytes item.txn.request) else 0)
+  pub values : All (λ (byte : WriteByte). byte.value < 256) item.bytes
 
 -- the transactions of the manager at this place
 abbrev pub of_manager : ℕ → List TrafficItem → List TrafficItem
