@@ -10,7 +10,7 @@ use Rattle.axi_program.specs.Outcome.{Concludes, Outcome, Refuses, check_outcome
 use Rattle.axi_program.specs.Refusals.{input_too_long, not_text}
 use Rattle.std.proofs.lemmas.Bool.{le-ltb, lt-ltb}
 use Rattle.std.specs.Str.{is_utf8}
-use Rattle.trace_check.specs.Verdicts.{verdict_of}
+use Rattle.trace_judge.specs.Verdicts.{verdict_of}
 use Rattle.axi_program.specs.Transfers.{IsOver}
 use Rattle.axi_program.specs.declared.status.Refusal.{Refusal}
 use Rattle.axi_program.specs.declared.status.Status.{Status}

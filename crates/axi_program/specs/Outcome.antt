@@ -9,10 +9,10 @@ use Rattle.net_rounds.specs.Network.{Network, after_rounds, is_finished}
 use Rattle.net_rounds.specs.Run.{run_length}
 use Rattle.axi_program.specs.Document.{input_limit, refusal_of, script_of_input}
 use Rattle.axi_program.specs.Refusals.{bad_trace_line, input_too_long, not_built, not_text}
-use Rattle.trace_check.specs.Verdicts.{verdict_of}
-use Rattle.trace_check.specs.declared.verdict.PortFault.{PortFault}
-use Rattle.trace_check.specs.declared.verdict.Verdict.{Verdict}
-use Rattle.trace_check.specs.declared.verdict.Verdict.TheVariants.{BadTraceLine, Broken, Legal, NotBuilt}
+use Rattle.trace_judge.specs.Verdicts.{verdict_of}
+use Rattle.trace_judge.specs.declared.verdict.TraceFault.{TraceFault}
+use Rattle.trace_judge.specs.declared.verdict.Verdict.{Verdict}
+use Rattle.trace_judge.specs.declared.verdict.Verdict.TheVariants.{BadTraceLine, Broken, Legal, NotBuilt}
 use Rattle.std.specs.Str.{is_utf8}
 use Rattle.axi_program.specs.Faults.{Rose}
 use Rattle.axi_program.specs.Text.{broken_line, legal_line, refusal_line, run_text}
@@ -41,7 +41,7 @@ noted_answers net = option_map_or (λ state. state.answers) (first_manager net.n
 pub data Outcome : Type 0 where
   Refuses : Refusal → Outcome
   Answers : List ℕ → Outcome
-  Breaks : PortFault → Outcome
+  Breaks : TraceFault → Outcome
   Stalls : List ℕ → Outcome
 
 -- the lines of the run of a script, where a trace is asked for

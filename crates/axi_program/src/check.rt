@@ -12,7 +12,7 @@ use crate::status::{Refusal, Status};
 use crate::texts::{render_broken, render_legal};
 use plain_text::line_buffer::LineBuffer;
 use std::alloc::Global;
-use trace_check::{PortFault, Verdict, judge};
+use trace_judge::{TraceFault, Verdict, judge};
 
 /// Judges an input as a trace and writes the line of its verdict, or refuses it.
 pub fn check<K: Sink>(alloc: Global, input: &[u8], sink: &mut K) -> Status
@@ -60,7 +60,7 @@ fn tell_legal<K: Sink>(alloc: Global, lines: u32, sink: &mut K) -> Status
 }
 
 /// Writes the line of a broken rule.
-fn tell_broken<K: Sink>(alloc: Global, fault: PortFault, sink: &mut K) -> Status
+fn tell_broken<K: Sink>(alloc: Global, fault: TraceFault, sink: &mut K) -> Status
     ensures concludes { Concludes K.written K.faults (Breaks fault) sink.old sink.new result }
     ensures count { K.faults sink.old ≤ K.faults sink.new }
 {

@@ -29,6 +29,8 @@ use Rattle.memory_end.proofs.ReadSteps.{IsAfterR, ReadsAsked, ReadsStand, step-a
 use Rattle.memory_end.proofs.StayLemmas.{memory-stays, new-is_memory}
 use Rattle.memory_end.proofs.WriteSteps.{IsAfterW, WritesAsked, step-w}
 use Rattle.memory_end.proofs.WriteTracks.{one_of, tracks-aw, tracks-b, tracks-w, writes-are_held}
+use Rattle.std.proofs.lemmas.List.Elements.{All-nil}
+use Rattle.axi_beats.specs.declared.beat.RBeat.{RBeat}
 
 -- what was accessed, of its parts
 gathered : (schedule : Schedule) (s : MemoryState) (trail : Beats) (all : List Access) → TracksWrites s.config s.write_entries trail.aw trail.w trail.b → ReadsStand schedule s.read_entries trail.ar trail.r →
@@ -132,7 +134,7 @@ memory-opens schedule config upper touched is ascending suits = record {
     writes_held = refl;
     reads_held = refl;
     tracks_writes = record { open_writes = refl; answered_writes = refl; data_first = omega arith; addresses_first = omega arith };
-    tracks_reads = record { open_reads = refl; in_order = prefix_nil _; in_order_of_id = λ id. prefix_nil _; statuses = λ number. prefix_nil _ };
+    tracks_reads = record { open_reads = refl; in_order = prefix_nil _; in_order_of_id = λ id. prefix_nil _; lanes_are_whole = All-nil (λ (r : RBeat). length r.lanes ≡ 128); statuses = λ number. prefix_nil _ };
     written = λ number. refl;
     read = λ number. refl;
     answered = λ number. refl;

@@ -3,7 +3,7 @@ use Rattle.std.proofs.lemmas.Str.{is_utf8-from_IsUtf8}
 use Rattle.axi_program.proofs.CallLaws.{check-judges, check-refuses}
 use Rattle.axi_program.proofs.DocumentLaws.{no-text}
 use Rattle.axi_program.specs.Outcome.{Concludes, Outcome, Refuses, outcome_of}
-use Rattle.trace_check.specs.Verdicts.{verdict_of}
+use Rattle.trace_judge.specs.Verdicts.{verdict_of}
 use Rattle.axi_program.proofs.check.check.Goals as goal
 
 pub returns-in-Err-clause-concludes : goal.returns-in-Err-clause-concludes
