@@ -1,6 +1,6 @@
 pub mod Faults
-pub mod Transfers
-pub mod Memory
+pub mod DeviceBytes
+pub mod Devices
 pub mod Standard
 pub mod Status
 pub mod Refusals
@@ -9,6 +9,10 @@ pub mod Document
 pub mod Text
 pub mod Words
 pub mod Trace
+pub mod Opening
 pub mod Outcome
 pub mod Pieces
+pub mod Work
+pub mod Report
+pub mod Preparation
 pub mod Call

@@ -1,5 +1,5 @@
 -- What the program writes: the line of a refusal, the line of a verdict on a trace, and the lines of a run.
-use Rattle.std.specs.Prelude.{ℕ, ◌==◌, ◌||◌, Bool, List, [], ◌++◌, if◌then◌else◌, codes}
+use Rattle.std.specs.Prelude.{ℕ, ◌==◌, ◌||◌, Bool, true, false, List, [], ◌++◌, if◌then◌else◌, codes}
 use Rattle.std.specs.List.{flat_map, zip}
 use Rattle.std.specs.Fmt.{decimal}
 use Rattle.manager_end.specs.Answer.{AnswerView}
@@ -65,6 +65,15 @@ broken_line fault =
     ++ decimal fault.rule ++ codes "\n"
 
 -- ---- a run
+
+-- a text that stands only where it is asked for
+abbrev pub where_asked : Bool → List ℕ → List ℕ
+where_asked false text = []
+where_asked true text = text
+
+-- the line that parts a trace from the answers
+abbrev pub separator_line : List ℕ
+separator_line = codes "%%\n"
 
 -- `rounds <rounds>`
 unfoldable pub rounds_line : ℕ → List ℕ

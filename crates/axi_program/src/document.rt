@@ -1,10 +1,11 @@
 //! The whole input: a first line `%%`, and after it the traffic for the built-in network.
 
-ghost use Rattle.std.specs.Prelude.{◌≡◌, ◌≤◌, length, option_and_then, IfOk, IfErr, None, Some};
+ghost use Rattle.std.specs.Prelude.{◌≡◌, ◌≤◌, length, option_and_then, true, false, IfOk, IfErr, None, OnErr, OnOk, Some};
+ghost use Rattle.std.specs.Str.{is_utf8};
 ghost use Rattle.net_rounds.specs.Due.{IsNumberedTraffic};
 ghost use Rattle.plain_text.specs.Lines.{lines};
 ghost use Rattle.axi_program.specs.Document.{document_fault, refusal_of, script_of_input, traffic_lines, TellsRefusal};
-ghost use Rattle.axi_program.specs.Refusals.{traffic_refusal};
+ghost use Rattle.axi_program.specs.Refusals.{not_text, traffic_refusal};
 ghost use Rattle.axi_program.specs.Traffic.{fault_of};
 
 use crate::script::read_script;
@@ -52,6 +53,23 @@ pub fn read_document(alloc: Global, input: &[u8]) -> Result<Script, DocumentFaul
     }
 }
 
+/// The input as the text that it is.
+///
+/// # Errors
+///
+/// It isn't UTF-8.
+pub fn input_text(input: &[u8]) -> Result<&str, Refusal>
+    ensures text { IfOk result (λ text. text.now ≡ input.now) }
+    ensures utf8 { OnOk result (is_utf8 input.now ≡ true) }
+    ensures other { OnErr result (is_utf8 input.now ≡ false) }
+    ensures refused { IfErr result (λ refusal. refusal ≡ not_text) }
+{
+    match str::from_utf8(input) {
+        Ok(text) => Ok(text),
+        Err(_) => Err(Refusal::not_text()),
+    }
+}
+
 // The text of the traffic, or why the input is refused before its traffic is read.
 fn traffic_text(input: &[u8]) -> Result<&str, Refusal>
     requires { length input.now ≤ INPUT_LIMIT }
@@ -61,9 +79,9 @@ fn traffic_text(input: &[u8]) -> Result<&str, Refusal>
         refusal_of input.now ≡ option_and_then traffic_refusal (fault_of (traffic_lines input.now))) }
     ensures refused { IfErr result (λ refusal. refusal_of input.now ≡ Some refusal) }
 {
-    let text = match str::from_utf8(input) {
+    let text = match input_text(input) {
         Ok(text) => text,
-        Err(_) => return Err(Refusal::not_text()),
+        Err(refusal) => return Err(refusal),
     };
     match cut_text(text) {
         Some((before, traffic)) if before.is_empty() => Ok(traffic),

@@ -2,8 +2,9 @@
 
 ghost use Rattle.std.specs.Prelude.{◌≡◌};
 ghost use Rattle.axi_program.specs.Refusals.{bad_id, bad_line, bad_trace_line, illegal_burst, input_too_long, no_separator, not_built, not_text, rule_number, too_much_traffic, unknown_manager};
-ghost use Rattle.axi_program.specs.Status.{exit_code};
+ghost use Rattle.axi_program.specs.Status.{exit_code, status_of_ending, status_of_stop};
 
+use axi_beats::NoMemory;
 use burst_address::BurstRule;
 use trace_check::PortFault;
 
@@ -212,5 +213,64 @@ impl Status {
             Status::NoMemory => 7,
             Status::Unfinished => 8,
         }
+    }
+}
+
+/// How a command ends whose text was written whole.
+#[derive(Debug, Clone, Copy, PartialEq, Eq)]
+pub enum Ending {
+    /// What was asked is done.
+    Done,
+    /// The input is refused.
+    Refused(Refusal),
+    /// The trace breaks a rule of a port.
+    Broken(PortFault),
+    /// The rounds of the bound have passed and a transaction is unanswered.
+    Unfinished,
+}
+
+impl Ending {
+    /// The status of the top call.
+    pub fn status(self) -> Status
+        ensures { result ≡ status_of_ending self }
+    {
+        match self {
+            Ending::Done => Status::Done,
+            Ending::Refused(refusal) => Status::Refused(refusal),
+            Ending::Broken(fault) => Status::Broken(fault),
+            Ending::Unfinished => Status::Unfinished,
+        }
+    }
+}
+
+/// Why nothing is written.
+#[derive(Debug, Clone, Copy, PartialEq, Eq)]
+pub enum Stop {
+    /// The words of the command line are none that the program takes. Nothing was read.
+    Usage,
+    /// The source failed.
+    ReadFault,
+    /// Memory was wanting.
+    NoMemory,
+}
+
+impl Stop {
+    /// The status of the top call.
+    pub fn status(self) -> Status
+        ensures { result ≡ status_of_stop self }
+    {
+        match self {
+            Stop::Usage => Status::Usage,
+            Stop::ReadFault => Status::ReadFault,
+            Stop::NoMemory => Status::NoMemory,
+        }
+    }
+}
+
+impl From<NoMemory> for Stop {
+    ghost from_gives = { λ _ stop. stop ≡ NoMemory };
+
+    fn from(_error: NoMemory) -> Stop {
+        Stop::NoMemory
     }
 }

@@ -4,7 +4,7 @@ ghost use Rattle.std.specs.Prelude.{◌≡◌, ◌-◌, ◌<◌, ◌^◌, All, S
 ghost use Rattle.axi_beats.specs.Bus.{IsBusWidth};
 ghost use Rattle.burst_address.specs.Legal.{broken_rule};
 ghost use Rattle.plain_text.specs.Lines.{lines};
-ghost use Rattle.traffic.specs.Faults.{burst_fault, code_of, least, least_fault, line_fault, request_of};
+ghost use Rattle.traffic.specs.LineRefusals.{burst_refusal, least, least_refusal, line_refusal, request_of, rule_number};
 ghost use Rattle.traffic.specs.Ports.{IsPort, port_of};
 ghost use Rattle.traffic.specs.Seen.{access_seen};
 
@@ -13,70 +13,34 @@ use crate::port::{ManagerPort, port_of};
 use axi_beats::{Addr, Burst, Tag};
 use burst_address::{BurstRule, legal};
 use plain_text::lines::next_line;
+use refusals::{Cause, Refusal};
 
-/// Why a traffic is refused. Lines are numbered from 1.
-#[derive(Debug, Clone, Copy, PartialEq, Eq)]
-pub enum TrafficFault {
-    /// Code 17: the line is of none of the forms.
-    BadLine(u32),
-    /// Code 18: the line names a manager that isn't there.
-    UnknownManager(u32),
-    /// Code 19: the ID is too large for the manager's ID width.
-    BadId(u32),
-    /// Code 20: the burst isn't legal on the manager's bus. A burst of over 256 beats breaks the rule
-    /// of length. (Arm IHI 0022, burst length, burst size and burst type.)
-    IllegalBurst {
-        /// The number of the line.
-        line: u32,
-        /// The first rule that is broken.
-        rule: BurstRule,
-    },
-    /// Code 21: there are over 16,384 transactions or over 262,144 beats.
-    TooMuchTraffic,
-    /// Memory was wanting. This is no fault of the text and has no code.
-    NoMemory,
-}
-
-// The code of a refusal. Want of memory is no refusal, and 0 stands for its code.
-fn code_of(fault: TrafficFault) -> u8
-    ensures { result ≡ code_of fault }
-{
-    match fault {
-        TrafficFault::BadLine(_) => 17,
-        TrafficFault::UnknownManager(_) => 18,
-        TrafficFault::BadId(_) => 19,
-        TrafficFault::IllegalBurst { .. } => 20,
-        TrafficFault::TooMuchTraffic => 21,
-        TrafficFault::NoMemory => 0,
-    }
-}
-
-// The fault with the lesser code, and of two with one code the first.
-fn least(first: Option<TrafficFault>, other: Option<TrafficFault>) -> Option<TrafficFault>
+// The refusal with the lesser code, and of two with one code the first.
+fn least(first: Option<Refusal>, other: Option<Refusal>) -> Option<Refusal>
     ensures { result ≡ least first other }
 {
     match first {
         Some(earlier) => match other {
-            Some(later) if code_of(later) < code_of(earlier) => other,
+            Some(later) if later.code < earlier.code => other,
             _ => first,
         },
         None => other,
     }
 }
 
-/// Of the faults of all lines the one with the least code, and of those with one code the first.
-#[tactic(auto, using(crate::proofs::FaultLemmas::least_assoc, crate::proofs::FaultLemmas::least_none))]
-pub(crate) fn least_fault(text: &[u8], managers: &[ManagerPort<'_>]) -> Option<TrafficFault>
+/// Of the refusals of all lines the one with the least code, and of those with one code the first.
+#[tactic(auto, using(crate::proofs::LesserLemmas::least_assoc, crate::proofs::LesserLemmas::least_none))]
+pub(crate) fn least_refusal(text: &[u8], managers: &[ManagerPort<'_>]) -> Option<Refusal>
     requires short { length text.now < 2 ^ 32 - 1 }
     requires ports { All IsPort managers.now }
-    ensures { result ≡ least_fault managers.now 1 (lines text.now) }
+    ensures { result ≡ least_refusal managers.now 1 (lines text.now) }
 {
     let mut found = None;
     let mut number = 1;
     let mut rest = text;
     while !rest.is_empty() {
         let (line, more) = next_line(rest);
-        found = least(found, line_fault(line, number, managers));
+        found = least(found, line_refusal(line, number, managers));
         number += 1;
         rest = more;
     }
@@ -84,38 +48,50 @@ pub(crate) fn least_fault(text: &[u8], managers: &[ManagerPort<'_>]) -> Option<T
 }
 
 // Why the line with this number is refused.
-fn line_fault(line: &[u8], number: u32, managers: &[ManagerPort<'_>]) -> Option<TrafficFault>
+fn line_refusal(line: &[u8], number: u32, managers: &[ManagerPort<'_>]) -> Option<Refusal>
     requires { All IsPort managers.now }
-    ensures { result ≡ line_fault managers.now number line.now }
+    ensures { result ≡ line_refusal managers.now number line.now }
 {
     match read_line(line) {
-        None => Some(TrafficFault::BadLine(number)),
+        None => Some(Refusal::at(Cause::BadLine, number)),
         Some(TextLine::Nothing) => None,
         Some(TextLine::Wait(name)) => match port_of(managers, name) {
             Some(_) => None,
-            None => Some(TrafficFault::UnknownManager(number)),
+            None => Some(Refusal::at(Cause::UnknownManager, number)),
         },
         Some(TextLine::Burst(access)) => match port_of(managers, access.start.manager) {
-            Some(manager) => burst_fault(&access, number, &manager),
-            None => Some(TrafficFault::UnknownManager(number)),
+            Some(manager) => burst_refusal(&access, number, &manager),
+            None => Some(Refusal::at(Cause::UnknownManager, number)),
         },
     }
 }
 
 // Why a burst is refused, where the line with this number asks it of this manager.
-fn burst_fault(
+fn burst_refusal(
     access: &TextAccess<'_>,
     number: u32,
     manager: &ManagerPort<'_>,
-) -> Option<TrafficFault>
+) -> Option<Refusal>
     requires { IsPort manager.now }
-    ensures { result ≡ burst_fault number (access_seen access.now) (Some manager.now) }
+    ensures { result ≡ burst_refusal number (access_seen access.now) (Some manager.now) }
 {
     if u64::from(access.start.id) >= 1 << manager.id_width {
-        return Some(TrafficFault::BadId(number));
+        return Some(Refusal::at(Cause::BadId, number));
     }
     let rule = broken_rule(access, manager.bus)?;
-    Some(TrafficFault::IllegalBurst { line: number, rule })
+    Some(Refusal::illegal_burst(number, rule_number(rule)))
+}
+
+// The number of a rule that a burst can break (Arm IHI 0022, burst size, burst length, burst type).
+fn rule_number(rule: BurstRule) -> u8
+    ensures { result ≡ rule_number rule }
+{
+    match rule {
+        BurstRule::Size => 1,
+        BurstRule::Length => 2,
+        BurstRule::WrapAlign => 3,
+        BurstRule::Page => 4,
+    }
 }
 
 // The first rule that a burst breaks on a bus.

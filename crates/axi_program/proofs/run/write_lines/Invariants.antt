@@ -1,7 +1,7 @@
 use Rattle.std.proofs.Common.{◌≤◌, take}
 use Rattle.std.specs.Io.KnownBytes.{Appends}
 use Rattle.axi_program.specs.Text.{answer_lines}
-use Rattle.axi_program.proofs.run.write_answers.Given as goal
+use Rattle.axi_program.proofs.run.write_lines.Given as goal
 
 -- the lines before this place are written
 abbrev pub invariant-loop-place : goal.invariant-loop-place

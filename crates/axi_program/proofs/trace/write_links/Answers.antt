@@ -7,8 +7,8 @@ use Rattle.net_rounds.specs.Ports.{port_at}
 use Rattle.axi_program.proofs.RunLaws.{on-err, prefix-later}
 use Rattle.axi_program.proofs.TraceLaws.{over-front, over-more}
 use Rattle.axi_program.specs.Trace.{port_line, round_lines}
-use Rattle.axi_program.specs.Transfers.{AppendsPrefix}
-use Rattle.axi_program.proofs.trace.write_round.Goals as goal
+use Rattle.axi_program.specs.DeviceBytes.{AppendsPrefix}
+use Rattle.axi_program.proofs.trace.write_links.Goals as goal
 
 -- the line of each link of a round
 abbrev lines : ℕ → Network → ℕ → List ℕ

@@ -1,4 +1,4 @@
-use Rattle.std.proofs.Common.{◌≡◌, ◌≤◌, ◌+◌, ◌-◌, ◌++◌, ℕ, List, true, sym, ap, ap₂, subst, ◌∙◌, arith}
+use Rattle.std.proofs.Common.{◌≡◌, ◌≤◌, ◌+◌, ◌-◌, ◌++◌, ℕ, List, Bool, true, sym, ap, ap₂, subst, ◌∙◌, arith}
 use Rattle.std.specs.Io.KnownBytes.{Appends}
 use Rattle.std.proofs.KnownBytes.{Appends-trans}
 use Rattle.net_rounds.proofs.RunLemmas.{after_rounds-more, least-at_bound, least-finished, least-more}
@@ -6,14 +6,15 @@ use Rattle.net_rounds.specs.NetView.{NetView}
 use Rattle.net_rounds.specs.Network.{Network, after_commit, after_decide, after_rounds, is_finished}
 use Rattle.net_rounds.specs.Run.{least_finished, run_length}
 use Rattle.axi_program.proofs.RunLaws.{on-err, prefix-later}
-use Rattle.axi_program.proofs.TraceLaws.{over-front, over-more, run-goes-on}
+use Rattle.axi_program.proofs.TraceLaws.{asked-more, asked-parts, over-front, over-more, run-goes-on}
+use Rattle.axi_program.specs.Text.{where_asked}
 use Rattle.axi_program.specs.Trace.{lines_after, lines_of_run, round_lines, trace_lines}
-use Rattle.axi_program.specs.Transfers.{AppendsPrefix}
-use Rattle.axi_program.proofs.trace.run_traced.Goals as goal
+use Rattle.axi_program.specs.DeviceBytes.{AppendsPrefix}
+use Rattle.axi_program.proofs.run.run_to_end.Goals as goal
 
 -- where the count ends, all lines are written
-lines-whole : (net : NetView) (n : ℕ) → run_length net.network net.most ≡ n → trace_lines n net.network ≡ lines_of_run net
-lines-whole net n ends = ap (λ (k : ℕ). trace_lines k net.network) (sym ends)
+lines-whole : (trace : Bool) (net : NetView) (n : ℕ) → run_length net.network net.most ≡ n → where_asked trace (trace_lines n net.network) ≡ where_asked trace (lines_of_run net)
+lines-whole trace net n ends = ap (λ (k : ℕ). where_asked trace (trace_lines k net.network)) (sym ends)
 
 length-is : (net : Network) (most n : ℕ) → least_finished net 0 most ≡ n → run_length net most ≡ n
 unfolding run_length
@@ -27,8 +28,10 @@ ends-bound : (net : Network) (most n : ℕ) → least_finished net 0 most ≡ le
 ends-bound net most n so_far at = length-is net most n (so_far ∙ least-at_bound net n most at)
 
 -- the lines of a round that was decided are those of the round after so many
-lines-are : (net now : Network) (n rounds : ℕ) → rounds ≡ n → now ≡ after_decide (n + 1) (after_rounds n net) → round_lines (rounds + 1) now ≡ lines_after net n
-lines-are net now n rounds counted decided = ap₂ (λ (k : ℕ) (network : Network). round_lines (k + 1) network) counted decided
+lines-are :
+    (trace : Bool) (net now : Network) (n rounds : ℕ) → rounds ≡ n → now ≡ after_decide (n + 1) (after_rounds n net) →
+    where_asked trace (round_lines (rounds + 1) now) ≡ where_asked trace (lines_after net n)
+lines-are trace net now n rounds counted decided = ap₂ (λ (k : ℕ) (network : Network). where_asked trace (round_lines (k + 1) network)) counted decided
 
 pub decide-requires-clause-room : goal.decide-requires-clause-room
 decide-requires-clause-room g c =
@@ -54,7 +57,7 @@ returns-then-finished-clause-ok g c =
     let ended = ap is_finished (sym inv.3) ∙ sym c.finished.ensures ∙ c.if-finished.true in
     let ends = ends-finished net c.bound-most.result c.loop-round._round inv.4 ended in
     subst (λ (text : List ℕ). Appends (g.K.Sink.written c.args.sink.now) (g.K.Sink.written c.loop-round.sink) text)
-    (lines-whole c.args.net.now c.loop-round._round (sym (ap (run_length net) c.bound-most.ensures.most) ∙ ends)) inv.5
+    (lines-whole c.args.trace c.args.net.now c.loop-round._round (sym (ap (run_length net) c.bound-most.ensures.most) ∙ ends)) inv.5
 
 pub returns-in_err-write_round-clause-err : goal.returns-in_err-write_round-clause-err
 returns-in_err-write_round-clause-err g c =
@@ -63,7 +66,7 @@ returns-in_err-write_round-clause-err g c =
     let n = c.loop-round._round in
     let running = ap is_finished (sym inv.3) ∙ sym c.finished.ensures ∙ c.if-finished.false in
     let decided : c.decide.new.self.network ≡ after_decide (n + 1) (after_rounds n net) = c.decide.ensures.network ∙ ap₂ (λ (k : ℕ) (now : Network). after_decide (k + 1) now) inv.0 inv.3 in
-    let lines = lines-are net c.decide.new.self.network n c.decide.new.self.rounds (c.decide.ensures.rounds ∙ inv.0) decided in
+    let lines = lines-are c.args.trace net c.decide.new.self.network n c.decide.new.self.rounds (c.decide.ensures.rounds ∙ inv.0) decided in
     let more : n + 1 ≤ run_length net c.args.net.now.most =
     subst (λ (most : ℕ). n + 1 ≤ run_length net most) c.bound-most.ensures.most (run-goes-on net n c.bound-most.result c.loop-round-test.true running inv.4) in
     let front = over-front (lines_after net) (n + 1) (run_length net c.args.net.now.most) more in
@@ -71,7 +74,8 @@ returns-in_err-write_round-clause-err g c =
     let part = subst (λ (bytes : List ℕ). AppendsPrefix (g.K.Sink.written c.loop-round.sink) (g.K.Sink.written c.write_round.new.sink) bytes) lines c.in_err-write_round.ensures.err in
     on-err c.from_residual.result _
     (prefix-later (g.K.Sink.written c.args.sink.now) (g.K.Sink.written c.loop-round.sink) (g.K.Sink.written c.write_round.new.sink)
-    (trace_lines n net) (lines_after net n) front.0 (lines_of_run c.args.net.now) inv.5 part whole)
+    (where_asked c.args.trace (trace_lines n net)) (where_asked c.args.trace (lines_after net n)) (where_asked c.args.trace front.0) (where_asked c.args.trace (lines_of_run c.args.net.now)) inv.5 part
+    (asked-parts c.args.trace (trace_lines n net) (lines_after net n) front.0 (lines_of_run c.args.net.now) whole))
 
 pub loop-round-preserved : goal.loop-round-preserved
 loop-round-preserved g c =
@@ -80,9 +84,10 @@ loop-round-preserved g c =
     let n = c.loop-round._round in
     let running = ap is_finished (sym inv.3) ∙ sym c.finished.ensures ∙ c.if-finished.false in
     let decided : c.decide.new.self.network ≡ after_decide (n + 1) (after_rounds n net) = c.decide.ensures.network ∙ ap₂ (λ (k : ℕ) (now : Network). after_decide (k + 1) now) inv.0 inv.3 in
-    let lines = lines-are net c.decide.new.self.network n c.decide.new.self.rounds (c.decide.ensures.rounds ∙ inv.0) decided in
+    let lines = lines-are c.args.trace net c.decide.new.self.network n c.decide.new.self.rounds (c.decide.ensures.rounds ∙ inv.0) decided in
     let line = subst (λ (bytes : List ℕ). Appends (g.K.Sink.written c.loop-round.sink) (g.K.Sink.written c.write_round.new.sink) bytes) lines c.in_ok-write_round.ensures.ok in
-    let all = Appends-trans (g.K.Sink.written c.args.sink.now) (g.K.Sink.written c.loop-round.sink) (g.K.Sink.written c.write_round.new.sink) (trace_lines n net) (lines_after net n) inv.5 line in
+    let all = Appends-trans (g.K.Sink.written c.args.sink.now) (g.K.Sink.written c.loop-round.sink) (g.K.Sink.written c.write_round.new.sink)
+    (where_asked c.args.trace (trace_lines n net)) (where_asked c.args.trace (lines_after net n)) inv.5 line in
     let faults = inv.6 in
     let stays = c.in_ok-write_round.ensures.cause.stays in (
       c.commit.ensures.rounds ∙ ap (λ (k : ℕ). k + 1) (c.decide.ensures.rounds ∙ inv.0),
@@ -90,7 +95,8 @@ loop-round-preserved g c =
       c.commit.ensures.most ∙ c.decide.ensures.most ∙ inv.2,
       c.commit.ensures.network ∙ ap after_commit decided ∙ sym (after_rounds-more net n),
       inv.4 ∙ least-more net n c.bound-most.result c.loop-round-test.true running,
-      subst (λ (text : List ℕ). Appends (g.K.Sink.written c.args.sink.now) (g.K.Sink.written c.write_round.new.sink) text) (sym (over-more (lines_after net) n)) all,
+      subst (λ (text : List ℕ). Appends (g.K.Sink.written c.args.sink.now) (g.K.Sink.written c.write_round.new.sink) text) 
+          (sym (asked-more c.args.trace (trace_lines n net) (lines_after net n)) ∙ ap (where_asked c.args.trace) (sym (over-more (lines_after net) n))) all,
       omega arith,
     )
 
@@ -112,4 +118,4 @@ returns-clause-ok g c =
     let end : c.loop-round._round ≡ c.bound-most.result = omega arith in
     let ends = ends-bound net c.bound-most.result c.loop-round._round inv.4 end in
     subst (λ (text : List ℕ). Appends (g.K.Sink.written c.args.sink.now) (g.K.Sink.written c.loop-round.sink) text)
-    (lines-whole c.args.net.now c.loop-round._round (sym (ap (run_length net) c.bound-most.ensures.most) ∙ ends)) inv.5
+    (lines-whole c.args.trace c.args.net.now c.loop-round._round (sym (ap (run_length net) c.bound-most.ensures.most) ∙ ends)) inv.5

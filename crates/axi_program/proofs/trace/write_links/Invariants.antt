@@ -3,7 +3,7 @@ use Rattle.std.specs.Io.KnownBytes.{Appends}
 use Rattle.axi_trail.specs.Streams.{over}
 use Rattle.net_rounds.specs.Ports.{port_at}
 use Rattle.axi_program.specs.Trace.{port_line}
-use Rattle.axi_program.proofs.trace.write_round.Given as goal
+use Rattle.axi_program.proofs.trace.write_links.Given as goal
 
 -- the lines of the links before this one are written
 abbrev pub invariant-loop-number : goal.invariant-loop-number
