@@ -5,7 +5,6 @@ use Rattle.std.specs.Io.KnownBytes.{Appends}
 use Rattle.std.proofs.lemmas.Bool.{le-ltb, lt-ltb}
 use Rattle.std.specs.Str.{is_utf8}
 use Rattle.manager_end.specs.Script.{ScriptItem}
-use Rattle.trace_check.specs.Verdicts.{verdict_of}
 use Rattle.axi_program.proofs.DocumentLaws.{refusal-over}
 use Rattle.axi_program.specs.Call.{Came, IsComplete, IsCutOff, OfOutcome, ReadsWhole, Tells}
 use Rattle.axi_program.specs.DeviceBytes.{AppendsPrefix, IsOver}
@@ -26,6 +25,7 @@ use Rattle.axi_program.specs.declared.status.Stop.TheVariants.{NoMemory as Stops
 use Rattle.axi_program.specs.declared.words.Command.{Command}
 use Rattle.axi_program.specs.declared.words.Command.TheVariants.{Check, Run}
 use Rattle.axi_program.specs.declared.work.Work.{Work}
+use Rattle.trace_judge.specs.Verdicts.{verdict_of}
 
 -- an input that is accepted comes to its run
 pub outcome-runs :

@@ -8,10 +8,6 @@ use Rattle.net_rounds.specs.Network.{Network, after_rounds, is_finished}
 use Rattle.net_rounds.specs.Run.{run_length}
 use Rattle.axi_program.specs.Document.{input_limit, refusal_of, script_of_input}
 use Rattle.axi_program.specs.Refusals.{bad_trace_line, input_too_long, not_built, not_text}
-use Rattle.trace_check.specs.Verdicts.{verdict_of}
-use Rattle.trace_check.specs.declared.verdict.PortFault.{PortFault}
-use Rattle.trace_check.specs.declared.verdict.Verdict.{Verdict}
-use Rattle.trace_check.specs.declared.verdict.Verdict.TheVariants.{BadTraceLine, Broken, Legal, NotBuilt}
 use Rattle.std.specs.Str.{is_utf8}
 use Rattle.axi_program.specs.Text.{broken_line, legal_line, refusal_line, run_text, separator_line, where_asked}
 use Rattle.axi_program.specs.Trace.{trace_lines}
@@ -22,6 +18,10 @@ use Rattle.axi_program.specs.declared.words.Command.{Command}
 use Rattle.axi_program.specs.declared.words.Command.TheVariants.{Check, Run}
 use Rattle.axi_program.specs.declared.status.Ending.{Ending}
 use Rattle.axi_program.specs.declared.status.Ending.TheVariants.{Broken as EndsBroken, Done, Refused, Unfinished}
+use Rattle.trace_judge.specs.Verdicts.{verdict_of}
+use Rattle.trace_judge.specs.declared.verdict.TraceFault.{TraceFault}
+use Rattle.trace_judge.specs.declared.verdict.Verdict.{Verdict}
+use Rattle.trace_judge.specs.declared.verdict.Verdict.TheVariants.{BadTraceLine, Broken, Legal, NotBuilt}
 
 -- the rounds of the run of a script: up to the first state in which all is answered, at most as many as the bound
 unfoldable pub run_rounds : List ScriptItem → ℕ
@@ -40,7 +40,7 @@ noted_answers net = option_map_or (λ state. state.answers) (first_manager net.n
 pub data Outcome : Type 0 where
   Refuses : Refusal → Outcome
   Answers : List ℕ → Outcome
-  Breaks : PortFault → Outcome
+  Breaks : TraceFault → Outcome
   Stalls : List ℕ → Outcome
 
 -- the trace of its links

@@ -6,8 +6,8 @@ use Rattle.manager_end.specs.Answer.{AnswerView}
 use Rattle.manager_end.specs.Script.{ScriptItem}
 use Rattle.axi_program.specs.Traffic.{manager_name}
 use Rattle.axi_program.specs.declared.status.Refusal.{Refusal}
-use Rattle.trace_check.specs.declared.verdict.PortFault.{PortFault}
 use Rattle.trace_text.specs.AnswerLine.{answer_line}
+use Rattle.trace_judge.specs.declared.verdict.TraceFault.{TraceFault}
 
 -- ---- a refusal
 
@@ -59,7 +59,7 @@ channel_name channel =
     else codes "r"
 
 -- `broken <line> <round> <link> <channel> <rule>`
-unfoldable pub broken_line : PortFault → List ℕ
+unfoldable pub broken_line : TraceFault → List ℕ
 broken_line fault =
     codes "broken " ++ decimal fault.line ++ codes " " ++ decimal fault.round ++ codes " " ++ decimal fault.link ++ codes " " ++ channel_name fault.channel ++ codes " "
     ++ decimal fault.rule ++ codes "\n"

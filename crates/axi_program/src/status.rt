@@ -6,7 +6,7 @@ ghost use Rattle.axi_program.specs.Status.{exit_code, status_of_ending, status_o
 
 use axi_beats::NoMemory;
 use burst_address::BurstRule;
-use trace_check::PortFault;
+use trace_judge::TraceFault;
 
 /// Why an input is refused.
 #[derive(Debug, Clone, Copy, PartialEq, Eq)]
@@ -186,7 +186,7 @@ pub enum Status {
     /// The input is refused. One line was written.
     Refused(Refusal),
     /// The trace breaks a rule of a port. One line was written.
-    Broken(PortFault),
+    Broken(TraceFault),
     /// The source failed. Nothing was written.
     ReadFault,
     /// The sink failed. What was written is the front of the text.

@@ -7,7 +7,7 @@ ghost use Rattle.axi_program.specs.Text.{broken_line, cause_name, channel_name, 
 
 use crate::status::Refusal;
 use plain_text::line_buffer::LineBuffer;
-use trace_check::PortFault;
+use trace_judge::TraceFault;
 
 /// Writes the line of a refusal: its code, the name of its cause, the place where the cause names one, and the rule
 /// where the cause is a broken one.
@@ -108,7 +108,7 @@ pub fn render_legal(line: &mut LineBuffer, lines: u32)
 
 /// Writes the line of a broken rule: the line, the round, the link, the channel and the rule.
 #[tactic(auto, unfolding(crate::specs::Text::broken_line))]
-pub fn render_broken(line: &mut LineBuffer, fault: &PortFault)
+pub fn render_broken(line: &mut LineBuffer, fault: &TraceFault)
     ensures { line.new ≡ broken_line fault.now }
 {
     line.clear();

@@ -3,7 +3,7 @@
 use super::*;
 use crate::test_rows::{Row, compare, judged};
 use std::test::Fail;
-use trace_check::PortFault;
+use trace_judge::TraceFault;
 
 fn a_traced_run() -> Row {
     Row {
@@ -55,7 +55,7 @@ fn a_legal_trace() -> Row {
 }
 
 fn a_payload_that_changes() -> Row {
-    let fault = PortFault {
+    let fault = TraceFault {
         line: 2,
         round: 2,
         link: 0,
@@ -70,7 +70,7 @@ fn a_payload_that_changes() -> Row {
 }
 
 fn an_offer_that_is_withdrawn() -> Row {
-    let fault = PortFault {
+    let fault = TraceFault {
         line: 0,
         round: 2,
         link: 0,

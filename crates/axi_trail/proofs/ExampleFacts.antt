@@ -4,6 +4,7 @@ use Rattle.std.specs.Prelude.{flat_map}
 use Rattle.std.proofs.lemmas.Bool.{cases_eq, ne_eqb}
 use Rattle.std.proofs.lemmas.List.Elements.{All-cons, All-nil}
 use Rattle.axi_beats.specs.declared.beat.Addr.{Addr}
+use Rattle.axi_beats.specs.declared.beat.RBeat.{RBeat}
 use Rattle.axi_beats.specs.declared.response.Resp.TheVariants.{Okay}
 use Rattle.flight.specs.Entries.{of_key}
 use Rattle.axi_trail.specs.Example.{read_address, write_address, first_read_data, last_read_data, write_data_beat, write_response, no_share, read_share, write_share, example_schedule, example_progress, example_upper, example_lower, ExampleKeepsContracts}
@@ -107,6 +108,7 @@ example_answers = record {
   done_when_answered = at_each (λ t. 0 < length (example_schedule.writes t).parts → length (example_schedule.writes t).parts ≤ length (of_key number_of_response t (write_response ∷ [])) → IsTrue (example_progress.written t)) 8
       (λ some all. refl)
       (λ t ne some all. absurd (omega (arith, ap (λ s. length s.parts) (no_write t ne))));
+  lanes_are_whole = All-cons (λ (r : RBeat). length r.lanes ≡ 128) first_read_data (last_read_data ∷ []) refl (All-cons (λ (r : RBeat). length r.lanes ≡ 128) last_read_data [] refl (All-nil (λ (r : RBeat). length r.lanes ≡ 128)));
   bytes_are_filled = at_each (λ t. IsPrefix (bytes_on (of_key number_of_read_data t (first_read_data ∷ last_read_data ∷ [])) (example_schedule.reads t).lanes) (example_progress.filled t)) 7
       (prefix_itself (10 ∷ 11 ∷ 12 ∷ 13 ∷ 20 ∷ 21 ∷ 22 ∷ 23 ∷ []))
       (λ t ne. empty_prefix (bytes_on (of_key number_of_read_data t (first_read_data ∷ last_read_data ∷ [])) (example_schedule.reads t).lanes) (example_progress.filled t)

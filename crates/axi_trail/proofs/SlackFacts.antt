@@ -73,6 +73,7 @@ answering_goes_up schedule early late lower upper grows behind answers = record 
   read_responses_are_the_schedules = λ t. prefix_trans (prefix_map (λ r. r.resp) (prefix_of_key number_of_read_data t behind.r)) (answers.read_responses_are_the_schedules t);
   answered_after_its_data = in_order_goes_up (prefix_map write_asked (completed_front behind.aw (prefix_map mark_of_data behind.w))) (prefix_map write_reply behind.b) answers.answered_after_its_data;
   done_when_answered = λ t some all. grows.written t (answers.done_when_answered t some (omega (arith, prefix_length (prefix_of_key number_of_response t behind.b))));
+  lanes_are_whole = All_front (λ r. length r.lanes ≡ 128) behind.r answers.lanes_are_whole;
   bytes_are_filled = λ t. prefix_trans (prefix_trans (prefix_bytes (schedule.reads t).lanes (prefix_of_key number_of_read_data t behind.r)) (answers.bytes_are_filled t)) (grows.filled t);
 }
 

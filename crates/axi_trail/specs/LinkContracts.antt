@@ -65,5 +65,7 @@ pub record Answers (schedule : Schedule) (now : Progress) (trail : Beats) : Type
   pub answered_after_its_data : InOrderOfId (map write_asked (completed trail.aw (data_marks trail))) (write_replies trail)
   -- a transaction whose writes are all answered is written
   pub done_when_answered : (t : ℕ) → 0 < length (schedule.writes t).parts → length (schedule.writes t).parts ≤ length (of_key number_of_response t trail.b) → IsTrue (now.written t)
+  -- each beat of read data has all lanes of the widest bus
+  pub lanes_are_whole : All (λ r. length r.lanes ≡ 128) trail.r
   -- the read data of a transaction is what its subordinate has read for it
   pub bytes_are_filled : (t : ℕ) → IsPrefix (bytes_on (of_key number_of_read_data t trail.r) (schedule.reads t).lanes) (now.filled t)

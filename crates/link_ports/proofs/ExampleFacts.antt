@@ -3,6 +3,7 @@ use Rattle.std.proofs.Common.{◌≡◌, ℕ, zero, suc, ◌<◌, ◌^◌, ◌==
 use Rattle.std.specs.List.{AllZip}
 use Rattle.std.proofs.lemmas.List.Elements.{All-cons, All-nil}
 use Rattle.axi_beats.specs.declared.beat.Addr.{Addr}
+use Rattle.axi_beats.specs.declared.beat.RBeat.{RBeat}
 use Rattle.axi_history.specs.PortRules.{strobes_within}
 use Rattle.axi_link.specs.Moves.{appended}
 use Rattle.axi_trail.specs.Example.{read_address, write_address, write_data_beat, write_response, no_share, read_share, write_share, example_schedule, example_progress, example_upper, example_lower}
@@ -145,6 +146,7 @@ no_answers = record {
   read_responses_are_the_schedules = λ t. prefix_nil (example_schedule.reads t).responses;
   answered_after_its_data = λ id. prefix_nil [];
   done_when_answered = λ t some all. absurd (omega arith);
+  lanes_are_whole = All-nil (λ (r : RBeat). length r.lanes ≡ 128);
   bytes_are_filled = λ t. prefix_nil (example_progress.filled t);
 }
 
@@ -162,6 +164,7 @@ answered_at_last =
       read_responses_are_the_schedules = λ t. prefix_nil (example_schedule.reads t).responses;
       answered_after_its_data = answers.answered_after_its_data;
       done_when_answered = answers.done_when_answered;
+      lanes_are_whole = All-nil (λ (r : RBeat). length r.lanes ≡ 128);
       bytes_are_filled = λ t. prefix_nil (example_progress.filled t);
     }
 

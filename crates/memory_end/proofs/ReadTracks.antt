@@ -2,6 +2,8 @@
 use Rattle.std.proofs.Common.{◌≡◌, ℕ, ◌+◌, ◌≤◌, ◌==◌, suc, Bool, true, false, cond, List, [], ◌∷◌, ◌++◌, Some, length, map, drop, refl, sym, ◌∙◌, ap, subst, arith, inl, inr, append_assoc, length-append}
 use Rattle.std.proofs.lemmas.Bool.{cases_eq}
 use Rattle.std.proofs.lemmas.List.{length-map, map-append, drop_at, drop-map}
+use Rattle.std.proofs.lemmas.List.Elements.{All-push}
+use Rattle.std.proofs.lemmas.List.FromFn.{length-map-range_with_len}
 use Rattle.axi_beats.specs.declared.beat.Addr.{Addr}
 use Rattle.axi_beats.specs.declared.beat.RBeat.{RBeat}
 use Rattle.axi_beats.specs.declared.response.Resp.{Resp}
@@ -19,7 +21,7 @@ use Rattle.axi_trail.proofs.StreamFacts.{prefix_append, prefix_itself, prefix_tr
 use Rattle.axi_trail.proofs.WaitingFacts.{pending-beat, pending-request}
 use Rattle.flight.specs.Entries.{count_of, of_key}
 use Rattle.memory_end.specs.Accesses.{BeatOf, beats_of_parts}
-use Rattle.memory_end.specs.Beats.{valid_status}
+use Rattle.memory_end.specs.Beats.{answered_byte, answered_lanes, is_valid, lane_address, valid_status}
 use Rattle.memory_end.specs.MemoryTable.{after_r, next_beat}
 use Rattle.memory_end.specs.Store.{Store}
 use Rattle.memory_end.specs.Tracks.{TracksReads, len_of_address, read_waiting}
@@ -59,6 +61,11 @@ id_of a = a.id
 
 abbrev pub held_reads : List Addr → List RBeat → List (Waiting Addr)
 held_reads ar r = held len_of_address id_of ar (map (λ (r : RBeat). r.id) r)
+
+-- an R beat has all its lanes
+pub lanes-long : (config : MemoryConfig) (store : Store) (request : Addr) (beat : ℕ) → length (answered_lanes config store request beat) ≡ 128
+lanes-long config store request beat =
+    length-map-range_with_len (λ lane. cond (is_valid request beat config.bus lane) (answered_byte config store (lane_address request beat config.bus lane)) 0) 0 128
 
 -- the first open read is the first one whose beats haven't all come
 pub head-pending : (shares : ℕ → Share) (e : ReadEntry) (es : List ReadEntry) (ar : List Addr) (r : List RBeat) → TracksReads shares (e ∷ es) ar r → pending len_of_address (length r) ar ≡ read_waiting e ∷ map read_waiting es
@@ -142,6 +149,7 @@ module _ (config : MemoryConfig) (store : Store) (shares : ℕ → Share) (e : R
             (next_goes_on (map burst_asked ar) (read_marks r) (length r) (waiting_shown burst_asked (read_waiting e)) (map (waiting_shown burst_asked) (map read_waiting es)) is.in_order (length-read_marks r) (asked-pending is));
         in_order_of_id = subst (λ (ps : List Reply). InOrderOfId (map burst_asked ar) ps) (sym replies)
             (answer_keeps_order (map burst_asked ar) (map read_reply r) e.request.id (waiting_shown burst_asked (read_waiting e)) (of_key id_of_waiting e.request.id (map (waiting_shown burst_asked) (map read_waiting es))) is.in_order_of_id (asked-held now));
+        lanes_are_whole = All-push (λ (r : RBeat). length r.lanes ≡ 128) r beat is.lanes_are_whole (lanes-long config store e.request e.put);
         statuses = statuses-put suits asked is;
       }
 
@@ -175,5 +183,6 @@ module _ (shares : ℕ → Share) (a : Addr) (entries : List ReadEntry) (ar : Li
             ∙ sym (pending-request len_of_address (length r) ar a within);
         in_order = prefix_trans is.in_order (prefix_flat_map marks_of front);
         in_order_of_id = in_order_goes_up front (prefix_itself (map read_reply r)) is.in_order_of_id;
+        lanes_are_whole = is.lanes_are_whole;
         statuses = is.statuses;
       }

@@ -195,7 +195,8 @@ memory-answers schedule now s trail all keep asks knows =
           prefix_of_same (own-responses schedule now s.config s.write_entries trail asks is t (keep.suits t).write_data) (sym (keep.suits t).responses);
       read_responses_are_the_schedules = keep.accessed.tracks_reads.statuses;
       answered_after_its_data = in-order-of schedule now s.config s.write_entries trail asks is (completed trail.aw (data_marks trail)) (among-completed schedule now s.config s.write_entries trail asks is);
-      done_when_answered = λ t some enough. knows.written t (all-data schedule now s.config s.write_entries trail asks is t (keep.suits t).write_data enough);
+      done_when_answered = λ t some enough. knows.written t some (all-data schedule now s.config s.write_entries trail asks is t (keep.suits t).write_data enough);
+      lanes_are_whole = keep.accessed.tracks_reads.lanes_are_whole;
       bytes_are_filled = λ t.
           prefix_trans
           (prefix_same (keep.accessed.answered t)

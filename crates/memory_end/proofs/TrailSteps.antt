@@ -3,8 +3,10 @@ use Rattle.std.proofs.Common.{◌≡◌, ℕ, ◌*◌, suc, zero, List, [], ◌�
 use Rattle.std.specs.Prelude.{is_some, slice_get, unwrap_or}
 use Rattle.std.specs.Option.{option_and_then}
 use Rattle.std.proofs.lemmas.Option.{unwrap_or-slice_get}
+use Rattle.std.proofs.lemmas.List.Elements.{All-nil}
 use Rattle.axi_beats.specs.declared.beat.Addr.{Addr}
 use Rattle.axi_beats.specs.declared.beat.BBeat.{BBeat}
+use Rattle.axi_beats.specs.declared.beat.RBeat.{RBeat}
 use Rattle.axi_beats.specs.declared.beat.WBeat.{WBeat}
 use Rattle.axi_link.specs.LinkView.{LinkView}
 use Rattle.axi_link.specs.Table.{head_of, passing}
@@ -131,7 +133,7 @@ memory-opens schedule config upper touched is ascending suits = record {
     writes_held = refl;
     reads_held = refl;
     tracks_writes = record { open_writes = refl; answered_writes = refl; data_first = omega arith; addresses_first = omega arith };
-    tracks_reads = record { open_reads = refl; in_order = prefix_nil _; in_order_of_id = λ id. prefix_nil _; statuses = λ number. prefix_nil _ };
+    tracks_reads = record { open_reads = refl; in_order = prefix_nil _; in_order_of_id = λ id. prefix_nil _; lanes_are_whole = All-nil (λ (r : RBeat). length r.lanes ≡ 128); statuses = λ number. prefix_nil _ };
     written = λ number. refl;
     read = λ number. refl;
     answered = λ number. refl;

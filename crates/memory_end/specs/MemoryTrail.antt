@@ -72,8 +72,10 @@ pub record MemoryKeeps (schedule : Schedule) (s : MemoryState) (trail : Beats) (
 
 -- what is known of the transactions by a memory's trail and its accesses
 pub record Knows (config : MemoryConfig) (schedule : Schedule) (now : Progress) (trail : Beats) (all : List Access) : Type 0 where
-  -- a write whose data has all come is written
-  pub written : (number : ℕ) → length (of_key number_of_data number trail.w) ≡ length (beats_of_parts (schedule.writes number).parts) → IsTrue (now.written number)
+  -- a write that comes here is written where its data has all come
+  pub written :
+      (number : ℕ) → 0 < length (schedule.writes number).parts →
+      length (of_key number_of_data number trail.w) ≡ length (beats_of_parts (schedule.writes number).parts) → IsTrue (now.written number)
   -- a read has the bytes that were read for it
   pub filled :
       (number : ℕ) →

@@ -1,5 +1,5 @@
 -- A memory in the light of its trail: it takes write data, and answers, in order of the addresses.
-use Rattle.std.specs.Prelude.{◌≡◌, ◌≤◌, ◌∷◌, [], ℕ, suc, List, length, map, take, drop}
+use Rattle.std.specs.Prelude.{◌≡◌, ◌≤◌, ◌∷◌, [], ℕ, suc, List, All, length, map, take, drop}
 use Rattle.axi_beats.specs.declared.beat.Addr.{Addr}
 use Rattle.axi_beats.specs.declared.beat.WBeat.{WBeat}
 use Rattle.axi_beats.specs.declared.beat.BBeat.{BBeat}
@@ -51,5 +51,7 @@ pub record TracksReads (shares : ℕ → Share) (entries : List ReadEntry) (addr
   pub open_reads : map read_waiting entries ≡ pending len_of_address (length beats) addresses
   pub in_order : IsPrefix (map mark_of_reply (map read_reply beats)) (marks (map burst_asked addresses))
   pub in_order_of_id : InOrderOfId (map burst_asked addresses) (map read_reply beats)
+  -- each beat has all lanes of the widest bus
+  pub lanes_are_whole : All (λ (r : RBeat). length r.lanes ≡ 128) beats
   -- each beat has the response that is due to it
   pub statuses : (number : ℕ) → IsPrefix (map (λ (r : RBeat). r.resp) (of_key number_of_read_data number beats)) (shares number).responses

@@ -92,7 +92,7 @@ module _ (laws : NodeLaws) (script : List ScriptItem) (traffic : IsNumberedTraff
       noted-any script script (pair_at script n).manager.state.answers place item (ap (λ items. slice_get items place) (sym (script-stays n)) ∙ at) issued
 
   known-data : (n : ℕ) → Knows ram (schedule_of script) (progress_at script n) (lower_trail script n) (accesses_at script n)
-  known-data n = record { written = λ number all. eq-eqb _ _ all; filled = λ number. prefix_itself _ }
+  known-data n = record { written = λ number some all. eq-eqb _ _ all; filled = λ number. prefix_itself _ }
 
   module _ (n : ℕ) (keeps : NodesKeep script n) where
     asks-above : Asks (schedule_of script) (progress_at script n) (upper_trail script n)

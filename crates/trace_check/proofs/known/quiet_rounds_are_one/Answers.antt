@@ -1,5 +1,0 @@
-use Rattle.trace_check.proofs.AlikeLemmas.{quiet_are_one}
-use Rattle.trace_check.proofs.known.quiet_rounds_are_one.Goals as goal
-
-pub returns : goal.returns
-returns c = quiet_are_one

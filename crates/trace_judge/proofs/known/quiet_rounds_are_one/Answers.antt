@@ -1,0 +1,5 @@
+use Rattle.trace_judge.proofs.AlikeLemmas.{quiet_are_one}
+use Rattle.trace_judge.proofs.known.quiet_rounds_are_one.Goals as goal
+
+pub returns : goal.returns
+returns c = quiet_are_one

@@ -1,0 +1,83 @@
+//! What is kept of one link of a trace: its port, and its judge where the rules of the port are written.
+ghost use Rattle.std.specs.Prelude.{◌≡◌, ◌<◌, ◌≤◌, ◌+◌, ◌∷◌, ◌++◌, [], ℕ, false, List, None, length, IfOk};
+ghost use Rattle.std.specs.List.{find};
+ghost use Rattle.axi_beats.specs.Bus.{IsBusWidth};
+ghost use Rattle.axi_history.specs.declared.port.PortRound.{PortRound as Round};
+ghost use Rattle.port_rules.specs.Checked.{HasSmallAddresses};
+ghost use Rattle.trace_judge.specs.Follows.{CanGoOn, Follows, HasJudgedTo, HasNotJudged, TellsOf};
+ghost use Rattle.trace_judge.specs.Histories.{greatest_round, is_of_link};
+
+use crate::link_judge::{LinkFault, LinkJudge};
+use axi_beats::NoMemory;
+use axi_history::{PortKind, PortRound};
+use std::alloc::Global;
+
+/// A link of a trace. A port of AXI4-Lite has no judge: its rules aren't written yet.
+#[derive(Drop)]
+pub(crate) struct LinkState {
+    pub(crate) port: PortKind,
+    pub(crate) judge: Option<LinkJudge>,
+}
+
+impl LinkState {
+    /// A link of which no line was given, with a port of this kind.
+    pub(crate) fn new(alloc: Global, port: PortKind) -> LinkState
+        requires bus { IsBusWidth port.bus }
+        ensures port { result.port ≡ port }
+        ensures rounds { HasJudgedTo result.judge 0 }
+        ensures serves { CanGoOn result.judge port }
+        ensures follows { (lines : List Round) (link : ℕ) → find (is_of_link link) lines ≡ None →
+            Follows result.judge port lines link }
+    {
+        let judge = if port.lite {
+            None
+        } else {
+            Some(LinkJudge::new(alloc, port))
+        };
+        LinkState { port, judge }
+    }
+
+    /// The link with its next line, of this number. The checker is given at most two rounds for it: the row of rounds
+    /// without a line before it, and its own.
+    pub(crate) fn with_line(self, r: &PortRound, line: u32) -> Result<LinkState, NoMemory>
+        requires kind { r.now.kind ≡ self.port }
+        requires serves { CanGoOn self.judge self.port }
+        requires small { HasSmallAddresses r.now }
+        requires first { 1 ≤ r.now.round }
+        ensures port { IfOk result (λ after. after.port ≡ self.port) }
+        ensures rounds { IfOk result (λ after. HasJudgedTo after.judge r.now.round) }
+        ensures follows { IfOk result (λ after. (lines : List Round) → line ≡ length lines + 1 →
+            HasNotJudged self.judge r.now.round →
+            Follows self.judge self.port lines r.now.link → Follows after.judge self.port (lines ++ r.now ∷ []) r.now.link) }
+    {
+        let LinkState { port, judge } = self;
+        match judge {
+            Some(mut judge) => {
+                judge.pass(port, r.round - 1)?;
+                judge.next(r, line)?;
+                Ok(LinkState {
+                    port,
+                    judge: Some(judge),
+                })
+            }
+            None => Ok(LinkState { port, judge: None }),
+        }
+    }
+
+    /// What the link breaks first up to the last round of the trace.
+    pub(crate) fn fault(self, last: u64) -> Result<Option<LinkFault>, NoMemory>
+        requires serves { CanGoOn self.judge self.port }
+        ensures tells { IfOk result (λ fault. (lines : List Round) (link : ℕ) → greatest_round lines ≡ last →
+            self.port.lite ≡ false →
+            Follows self.judge self.port lines link → TellsOf fault self.port lines link) }
+    {
+        let LinkState { port, judge } = self;
+        match judge {
+            Some(mut judge) => {
+                judge.pass(port, last)?;
+                Ok(judge.fault)
+            }
+            None => Ok(None),
+        }
+    }
+}

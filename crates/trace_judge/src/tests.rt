@@ -1,0 +1,245 @@
+//! Traces judged by hand.
+
+use super::*;
+use std::process::Abort;
+use std::test::Fail;
+
+/// A trace and the verdict on it.
+#[derive(Clone, Copy)]
+struct Row {
+    trace: &'static str,
+    verdict: Verdict,
+}
+
+fn broken(line: u32, round: u64, link: u32, channel: u8, rule: u8) -> Verdict {
+    Verdict::Broken(TraceFault {
+        line,
+        round,
+        link,
+        channel,
+        rule,
+    })
+}
+
+// ---- handshakes
+
+fn a_payload_that_changes() -> Row {
+    Row {
+        trace: "1 0 axi 4 =0,10,0,2,1,0,1:0:0 - - - -\n2 0 axi 4 +0,14,0,2,1,0,1:0:0 - - - -\n",
+        verdict: broken(2, 2, 0, 1, 2),
+    }
+}
+
+fn an_offer_withdrawn_in_a_round_without_a_line() -> Row {
+    Row {
+        trace: "1 0 axi 4 =0,10,0,2,1,0,1:0:0 - - - -\n3 0 axi 4 +0,10,0,2,1,0,1:0:0 - - - -\n",
+        verdict: broken(0, 2, 0, 1, 1),
+    }
+}
+
+fn an_offer_withdrawn_on_a_link_that_has_no_more_lines() -> Row {
+    Row {
+        trace: "1 7 axi 4 - - - =0,10,0,2,1,0,1:0:0 -\r\n9000000000000000000 3 axi 8 - - - - -\r\n",
+        verdict: broken(0, 2, 7, 4, 1),
+    }
+}
+
+// ---- addresses
+
+fn a_reserved_burst_code() -> Row {
+    Row {
+        trace: "1 0 axi 4 +0,0,0,2,3,0,1:0:0 - - - -\n",
+        verdict: broken(1, 1, 0, 1, 3),
+    }
+}
+
+fn a_beat_wider_than_the_bus() -> Row {
+    Row {
+        trace: "1 0 axi 4 +0,0,0,3,1,0,1:0:0 - - - -\n",
+        verdict: broken(1, 1, 0, 1, 4),
+    }
+}
+
+fn a_fixed_burst_of_seventeen_beats() -> Row {
+    Row {
+        trace: "1 0 axi 4 +0,0,16,2,0,0,1:0:0 - - - -\n",
+        verdict: broken(1, 1, 0, 1, 5),
+    }
+}
+
+fn a_wrap_that_starts_inside_a_beat() -> Row {
+    Row {
+        trace: "1 0 axi 4 +0,2,3,2,2,0,1:0:0 - - - -\n",
+        verdict: broken(1, 1, 0, 1, 6),
+    }
+}
+
+fn a_burst_that_leaves_its_page() -> Row {
+    Row {
+        trace: "1 0 axi 4 +0,ffc,1,2,1,0,1:0:0 - - - -\n",
+        verdict: broken(1, 1, 0, 1, 7),
+    }
+}
+
+fn a_locked_address() -> Row {
+    Row {
+        trace: "1 0 axi 4 +0,10,0,2,1,1,1:0:0 - - - -\n",
+        verdict: broken(1, 1, 0, 1, 8),
+    }
+}
+
+// ---- data and answers
+
+fn an_exclusive_answer() -> Row {
+    Row {
+        trace: "1 0 axi 4 - - - - +0,00000000,1,1,1:0:0\n",
+        verdict: broken(1, 1, 0, 5, 8),
+    }
+}
+
+fn data_without_its_last_mark() -> Row {
+    Row {
+        trace: "1 0 axi 4 +0,0,0,2,1,0,1:0:0 +00000000,f,0,1:0:0 - - -\n",
+        verdict: broken(1, 1, 0, 2, 9),
+    }
+}
+
+fn strobes_beside_their_lanes() -> Row {
+    Row {
+        trace: "1 0 axi 4 +0,0,0,0,1,0,1:0:0 +00000000,f,1,1:0:0 - - -\n",
+        verdict: broken(1, 1, 0, 2, 10),
+    }
+}
+
+fn a_response_in_the_round_of_its_data() -> Row {
+    Row {
+        trace: "1 0 axi 4 +0,0,0,2,1,0,1:0:0 +00000000,f,1,1:0:0 +0,0,1:0:0 - -\n",
+        verdict: broken(1, 1, 0, 3, 11),
+    }
+}
+
+fn a_last_mark_before_the_last_beat() -> Row {
+    Row {
+        trace: "1 0 axi 4 - - - +0,0,1,2,1,0,1:0:0 -\n2 0 axi 4 - - - - +0,00000000,0,1,1:0:0\n",
+        verdict: broken(2, 2, 0, 5, 12),
+    }
+}
+
+// ---- several links, and lines that are refused
+
+fn the_earlier_round_is_told() -> Row {
+    Row {
+        trace: "1 4 axi 4 =0,10,0,2,1,0,1:0:0 - - - -\n3 2 axi 4 +0,10,0,2,1,1,1:0:0 - - - -\n9 4 axi 4 - - - - -\n",
+        verdict: broken(0, 2, 4, 1, 1),
+    }
+}
+
+fn the_lesser_link_is_told() -> Row {
+    Row {
+        trace: "1 2 axi 4 =0,10,0,2,1,0,1:0:0 - - - -\n2 1 axi 4 - - - +0,10,0,2,1,1,1:0:0 -\n2 2 axi 4 - - - - -\n",
+        verdict: broken(2, 2, 1, 4, 8),
+    }
+}
+
+fn a_refused_line_is_told_before_a_broken_rule() -> Row {
+    Row {
+        trace: "1 0 axi 4 +0,0,0,2,3,0,1:0:0 - - - -\n1 0 axi 4 +0,0,0,2,3,0,1:0:0 - - - -\nx\n",
+        verdict: Verdict::BadTraceLine { line: 2 },
+    }
+}
+
+fn no_trace_line() -> Row {
+    Row {
+        trace: "x",
+        verdict: Verdict::BadTraceLine { line: 1 },
+    }
+}
+
+fn a_round_that_is_too_great() -> Row {
+    Row {
+        trace: "9223372036854775808 0 axi 4 - +00000000,0,1,1:0:0 - - -\n",
+        verdict: Verdict::BadTraceLine { line: 1 },
+    }
+}
+
+fn a_port_of_another_kind() -> Row {
+    Row {
+        trace: "1 0 axi 4 +0,0,0,2,3,0,1:0:0 - - - -\n1 1 lite 4 - - - - -\n",
+        verdict: Verdict::NotBuilt { line: 2 },
+    }
+}
+
+// ---- legal traces
+
+fn a_write_and_a_read_of_a_word() -> Row {
+    Row {
+        trace: "2 0 axi 4 +1,10,0,2,1,0,1:0:0 - - - -
+3 0 axi 4 - +11223344,f,1,1:0:0 - - -
+5 0 axi 4 - - +1,0,1:0:0 - -
+7 0 axi 4 - - - +2,10,0,2,1,0,2:0:0 -
+9 0 axi 4 - - - - +2,11223344,0,1,2:0:0
+%%
+1 write m 1 5 okay
+2 read m 6 9 okay:11223344
+rounds 9
+",
+        verdict: Verdict::Legal { lines: 5 },
+    }
+}
+
+fn the_greatest_round() -> Row {
+    Row {
+        trace: "9223372036854775807 0 axi 4 - +00000000,0,1,1:0:0 - - -\n",
+        verdict: Verdict::Legal { lines: 1 },
+    }
+}
+
+fn no_line() -> Row {
+    Row {
+        trace: "",
+        verdict: Verdict::Legal { lines: 0 },
+    }
+}
+
+/// Fails where the judge says anything else.
+fn compare(rt: &(impl Alloc<A = std::alloc::Global> + Abort), row: &Row) -> Result<(), Fail> {
+    assert!(rt; row.trace.len() <= 16_777_216);
+    let verdict = judge(rt.alloc(), row.trace)?;
+    assert_eq!(rt; verdict, row.verdict, "at {}", row.trace);
+    Ok(())
+}
+
+#[test]
+fn broken_rules_are_told(rt: HostRuntime) -> Result<(), Fail> {
+    compare(&rt, &a_payload_that_changes())?;
+    compare(&rt, &an_offer_withdrawn_in_a_round_without_a_line())?;
+    compare(&rt, &an_offer_withdrawn_on_a_link_that_has_no_more_lines())?;
+    compare(&rt, &a_reserved_burst_code())?;
+    compare(&rt, &a_beat_wider_than_the_bus())?;
+    compare(&rt, &a_fixed_burst_of_seventeen_beats())?;
+    compare(&rt, &a_wrap_that_starts_inside_a_beat())?;
+    compare(&rt, &a_burst_that_leaves_its_page())?;
+    compare(&rt, &a_locked_address())?;
+    compare(&rt, &an_exclusive_answer())?;
+    compare(&rt, &data_without_its_last_mark())?;
+    compare(&rt, &strobes_beside_their_lanes())?;
+    compare(&rt, &a_response_in_the_round_of_its_data())?;
+    compare(&rt, &a_last_mark_before_the_last_beat())
+}
+
+#[test]
+fn traces_of_several_links_are_judged(rt: HostRuntime) -> Result<(), Fail> {
+    compare(&rt, &the_earlier_round_is_told())?;
+    compare(&rt, &the_lesser_link_is_told())?;
+    compare(&rt, &a_refused_line_is_told_before_a_broken_rule())?;
+    compare(&rt, &no_trace_line())?;
+    compare(&rt, &a_round_that_is_too_great())?;
+    compare(&rt, &a_port_of_another_kind())
+}
+
+#[test]
+fn legal_traces_are_accepted(rt: HostRuntime) -> Result<(), Fail> {
+    compare(&rt, &a_write_and_a_read_of_a_word())?;
+    compare(&rt, &the_greatest_round())?;
+    compare(&rt, &no_line())
+}
