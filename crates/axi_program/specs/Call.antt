@@ -4,12 +4,13 @@ use Rattle.std.specs.Io.KnownBytes.{Appends}
 use Rattle.manager_end.specs.Script.{ScriptItem}
 use Rattle.net_rounds.specs.Ports.{PortsLegal}
 use Rattle.net_rounds.specs.Right.{IsRight}
+use Rattle.refusals.specs.Refusal.{refused_for}
+use Rattle.refusals.specs.declared.cause.Cause.TheVariants.{InputTooLong}
 use Rattle.axi_program.specs.DeviceBytes.{AppendsPrefix}
 use Rattle.axi_program.specs.Document.{refusal_of, script_of_input}
 use Rattle.axi_program.specs.Faults.{Rose}
 use Rattle.axi_program.specs.Outcome.{Outcome, input_outcome, status_of, text_of}
 use Rattle.axi_program.specs.Preparation.{IsReadWhole, IsTooLong}
-use Rattle.axi_program.specs.Refusals.{input_too_long}
 use Rattle.axi_program.specs.declared.status.Status.{Status}
 use Rattle.axi_program.specs.declared.words.Command.{Command}
 use Rattle.axi_program.specs.declared.status.Status.TheVariants.{Usage, Refused, ReadFault, WriteFault, NoMemory}
@@ -44,7 +45,7 @@ module _ {S : Type 0} (left : S → Option (List ℕ)) (source source' : S) wher
   ReadsWhole Usage = Unit {0}
   ReadsWhole ReadFault = Unit {0}
   ReadsWhole NoMemory = Unit {0}
-  ReadsWhole (Refused refusal) = IsReadWhole left source source' ⊎ ((refusal ≡ input_too_long) × IsTooLong left source source')
+  ReadsWhole (Refused refusal) = IsReadWhole left source source' ⊎ ((refusal ≡ refused_for InputTooLong) × IsTooLong left source source')
   ReadsWhole WriteFault = IsReadWhole left source source' ⊎ IsTooLong left source source'
   ReadsWhole status = IsReadWhole left source source'
 

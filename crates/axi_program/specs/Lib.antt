@@ -3,7 +3,6 @@ pub mod DeviceBytes
 pub mod Devices
 pub mod Standard
 pub mod Status
-pub mod Refusals
 pub mod Traffic
 pub mod Document
 pub mod Text

@@ -7,12 +7,13 @@ use Rattle.net_rounds.specs.BuiltIn.{bound, built_in, first_manager}
 use Rattle.net_rounds.specs.Network.{Network, after_rounds, is_finished}
 use Rattle.net_rounds.specs.Run.{run_length}
 use Rattle.axi_program.specs.Document.{input_limit, refusal_of, script_of_input}
-use Rattle.axi_program.specs.Refusals.{bad_trace_line, input_too_long, not_built, not_text}
+use Rattle.refusals.specs.Refusal.{refused_at, refused_for}
+use Rattle.refusals.specs.declared.cause.Cause.TheVariants.{BadTraceLine as CauseBadTraceLine, InputTooLong, NotBuilt as CauseNotBuilt, NotText}
+use Rattle.refusals.specs.declared.refusal.Refusal.{Refusal}
 use Rattle.std.specs.Str.{is_utf8}
 use Rattle.axi_program.specs.Text.{broken_line, legal_line, refusal_line, run_text, separator_line, where_asked}
 use Rattle.axi_program.specs.Trace.{trace_lines}
 use Rattle.axi_program.specs.Status.{status_of_ending}
-use Rattle.axi_program.specs.declared.status.Refusal.{Refusal}
 use Rattle.axi_program.specs.declared.status.Status.{Status}
 use Rattle.axi_program.specs.declared.words.Command.{Command}
 use Rattle.axi_program.specs.declared.words.Command.TheVariants.{Check, Run}
@@ -62,14 +63,14 @@ outcome_by trace None script = run_outcome trace script
 abbrev pub outcome_of : Verdict → Outcome
 outcome_of (Legal lines) = Answers (legal_line lines)
 outcome_of (Broken fault) = Breaks fault
-outcome_of (BadTraceLine line) = Refuses (bad_trace_line line)
-outcome_of (NotBuilt line) = Refuses (not_built line)
+outcome_of (BadTraceLine line) = Refuses (refused_at CauseBadTraceLine line)
+outcome_of (NotBuilt line) = Refuses (refused_at CauseNotBuilt line)
 
 -- what an input comes to that is to be judged as a trace
 unfoldable pub check_outcome : List ℕ → Outcome
 check_outcome input =
-    if nat_lt input_limit (length input) then Refuses input_too_long
-    else if not (is_utf8 input) then Refuses not_text
+    if nat_lt input_limit (length input) then Refuses (refused_for InputTooLong)
+    else if not (is_utf8 input) then Refuses (refused_for NotText)
     else outcome_of (verdict_of input)
 
 -- what an input comes to that is to be run

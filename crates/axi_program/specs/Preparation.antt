@@ -1,9 +1,10 @@
 -- What is said of words and a source before anything is written.
 use Rattle.std.specs.Prelude.{◌≡◌, ◌<◌, ℕ, List, [], Option, Some, None, ◌⊎◌, IfSome, IsSome, length}
+use Rattle.refusals.specs.Refusal.{refused_for}
+use Rattle.refusals.specs.declared.cause.Cause.TheVariants.{InputTooLong}
 use Rattle.axi_program.specs.Document.{input_limit}
 use Rattle.axi_program.specs.Faults.{Rose}
 use Rattle.axi_program.specs.Outcome.{Refuses, input_outcome}
-use Rattle.axi_program.specs.Refusals.{input_too_long}
 use Rattle.axi_program.specs.Work.{IsReady, IsWorkOf}
 use Rattle.axi_program.specs.declared.status.Stop.{Stop}
 use Rattle.axi_program.specs.declared.status.Stop.TheVariants.{NoMemory, ReadFault, Usage}
@@ -26,7 +27,7 @@ pub record IsPrepared {S : Type 0} (command : Option Command) (left : S → Opti
   pub named : command ≡ Some asked
   pub ready : IsReady work
   pub told : IfSome (left source) (λ input. IsWorkOf (input_outcome asked input) work)
-  pub read : IsReadWhole left source source' ⊎ (IsTooLong left source source' × IsWorkOf (Refuses input_too_long) work)
+  pub read : IsReadWhole left source source' ⊎ (IsTooLong left source source' × IsWorkOf (Refuses (refused_for InputTooLong)) work)
 
 -- Nothing is to be written: the words name no command, and nothing was read; or reading failed; or memory is wanting.
 module _ {S : Type 0} (command : Option Command) (faults : S → ℕ) (source source' : S) where

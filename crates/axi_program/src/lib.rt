@@ -31,7 +31,7 @@ mod trace_tests;
 mod words;
 mod work;
 
-pub use document::{DocumentFault, INPUT_LIMIT, read_document};
+pub use document::{INPUT_LIMIT, read_document};
 pub use outside::gate::{Gate, OpenGate};
 pub use outside::memory_sink::MemorySink;
 pub use outside::memory_source::MemorySource;
@@ -42,7 +42,7 @@ pub use outside::standard::{StdinSource, StdoutSink};
 pub use outside::sure::{SureSink, SureSource};
 pub use outside::write_all::write_piece;
 pub use preparation::prepare;
-pub use status::{Ending, Refusal, Status, Stop};
+pub use status::{Ending, Status, Stop};
 pub use texts::{render_broken, render_legal, render_refusal, render_rounds};
 pub use top::axinet;
 pub use words::{Command, command_of};

@@ -7,30 +7,27 @@ ghost use Rattle.axi_program.specs.Words.{command_of as command_by};
 ghost use Rattle.axi_program.specs.Work.{IsWorkOf};
 ghost use Rattle.net_rounds.specs.BuiltIn.{IsTraffic};
 
-use crate::document::{DocumentFault, INPUT_LIMIT, input_text, read_document};
+use crate::document::{INPUT_LIMIT, input_text, read_document};
 use crate::outside::read_all::{InputFault, read_all};
 use crate::outside::source::Source;
 use crate::report::{Report, say};
-use crate::status::{Refusal, Stop};
+use crate::status::Stop;
 use crate::words::{Command, command_of};
 use crate::work::Work;
 use axi_beats::NoMemory;
 use manager_end::Script;
 use net_rounds::Net;
 use plain_text::line_buffer::LineBuffer;
+use refusals::{Cause, DocFault, Refusal};
 use std::alloc::Global;
-use trace_check::judge;
+use trace_judge::judge;
 
 /// Reads the input where the words name a command, and takes all memory that its outcome needs.
 ///
 /// # Errors
 ///
 /// The words name no command, reading failed, or memory is wanting.
-pub fn prepare<S: Source>(
-    alloc: Global,
-    words: &[String],
-    source: &mut S,
-) -> Result<Work, Stop>
+pub fn prepare<S: Source>(alloc: Global, words: &[String], source: &mut S) -> Result<Work, Stop>
     ensures work { IfOk result (IsPrepared (command_by (map string_bytes words.now)) S.left source.old source.new) }
     ensures stop { IfErr result (Stops (command_by (map string_bytes words.now)) S.faults source.old source.new) }
     ensures count { S.faults source.old ≤ S.faults source.new }
@@ -41,7 +38,10 @@ pub fn prepare<S: Source>(
     };
     match read_all(alloc, source, INPUT_LIMIT) {
         Ok(input) => Ok(work_of_input(alloc, command, &input)?),
-        Err(InputFault::TooLong) => Ok(say(alloc, Report::Refused(Refusal::input_too_long()))?),
+        Err(InputFault::TooLong) => Ok(say(
+            alloc,
+            Report::Refused(Refusal::new(Cause::InputTooLong)),
+        )?),
         Err(InputFault::ReadFault) => Err(Stop::ReadFault),
         Err(InputFault::NoMemory) => Err(Stop::NoMemory),
     }
@@ -65,8 +65,8 @@ fn work_of_document(alloc: Global, trace: bool, input: &[u8]) -> Result<Work, No
 {
     match read_document(alloc, input) {
         Ok(script) => work_of_script(alloc, script, trace),
-        Err(DocumentFault::Refused(refusal)) => say(alloc, Report::Refused(refusal)),
-        Err(DocumentFault::NoMemory) => Err(NoMemory),
+        Err(DocFault::Refused(refusal)) => say(alloc, Report::Refused(refusal)),
+        Err(DocFault::NoMemory) => Err(NoMemory),
     }
 }
 

@@ -5,13 +5,14 @@ ghost use Rattle.axi_program.specs.Outcome.{ending_of, outcome_of, text_of};
 ghost use Rattle.axi_program.specs.Report.{report_outcome};
 ghost use Rattle.axi_program.specs.Work.{IsWorkOf};
 
-use crate::status::{Ending, Refusal};
+use crate::status::Ending;
 use crate::texts::{render_broken, render_legal, render_refusal};
 use crate::work::Work;
 use axi_beats::NoMemory;
 use plain_text::line_buffer::LineBuffer;
+use refusals::{Cause, Refusal};
 use std::alloc::Global;
-use trace_check::{PortFault, Verdict};
+use trace_judge::{TraceFault, Verdict};
 
 /// What is said in one line.
 #[derive(Debug, Clone, Copy, PartialEq, Eq)]
@@ -21,7 +22,7 @@ pub enum Report {
     /// Every port of a trace keeps the rules; the number of its lines.
     Legal(u32),
     /// The first fault of a trace.
-    Broken(PortFault),
+    Broken(TraceFault),
 }
 
 impl Report {
@@ -32,8 +33,11 @@ impl Report {
         match verdict {
             Verdict::Legal { lines } => Report::Legal(lines),
             Verdict::Broken(fault) => Report::Broken(fault),
-            Verdict::BadTraceLine { line } => Report::Refused(Refusal::bad_trace_line(line)),
-            Verdict::NotBuilt { line } => Report::Refused(Refusal::not_built(line)),
+            Verdict::BadTraceLine { line } => Report::Refused(Refusal::at(
+                Cause::BadTraceLine,
+                line,
+            )),
+            Verdict::NotBuilt { line } => Report::Refused(Refusal::at(Cause::NotBuilt, line)),
         }
     }
 

@@ -32,12 +32,7 @@ use trace_text::render_answers;
 /// # Errors
 ///
 /// A write failed. What was written is the front of the text.
-pub fn run<K: Sink>(
-    net: Net,
-    line: LineBuffer,
-    trace: bool,
-    sink: &mut K,
-) -> Result<Ending, Failed>
+pub fn run<K: Sink>(net: Net, line: LineBuffer, trace: bool, sink: &mut K) -> Result<Ending, Failed>
     requires { IsOpening net }
     ensures ending { IfOk result (λ ending. ending ≡ ending_of (run_outcome trace (script_of_net net))) }
     ensures ok { OnOk result (Appends (K.written sink.old) (K.written sink.new) (text_of (run_outcome trace (script_of_net net)))) }
@@ -46,7 +41,8 @@ pub fn run<K: Sink>(
 {
     let mut net = net;
     let mut line = line;
-    if !run_to_end(&mut net, trace, &mut line, sink)? {
+    let finished = run_to_end(&mut net, trace, &mut line, sink)?;
+    if !finished {
         return Ok(Ending::Unfinished);
     }
     write_answers(&net, trace, &mut line, sink)?;

@@ -67,11 +67,7 @@ fn line_refusal(line: &[u8], number: u32, managers: &[ManagerPort<'_>]) -> Optio
 }
 
 // Why a burst is refused, where the line with this number asks it of this manager.
-fn burst_refusal(
-    access: &TextAccess<'_>,
-    number: u32,
-    manager: &ManagerPort<'_>,
-) -> Option<Refusal>
+fn burst_refusal(access: &TextAccess<'_>, number: u32, manager: &ManagerPort<'_>) -> Option<Refusal>
     requires { IsPort manager.now }
     ensures { result ≡ burst_refusal number (access_seen access.now) (Some manager.now) }
 {

@@ -140,7 +140,12 @@ fn compare(rt: &(impl Alloc<A = std::alloc::Global> + Abort), row: &Row) {
         Ok(_) => None,
         Err(fault) => Some(fault),
     };
-    assert_eq!(rt; fault, Some(DocFault::Refused(row.refusal)), "at {}", row.text);
+    assert_eq!(rt;
+        fault,
+        Some(DocFault::Refused(row.refusal)),
+        "at {}",
+        row.text
+    );
 }
 
 #[test]
@@ -267,7 +272,10 @@ fn the_greatest_traffic_is_read(rt: HostRuntime) -> Result<(), Fail> {
         let more = many_lines(alloc, line, count, last)?;
         match read(alloc, more.as_str()) {
             Ok(_) => return Err(Fail::from("too much is read")),
-            Err(fault) => assert_eq!(rt; fault, DocFault::Refused(Refusal::new(Cause::TooMuchTraffic))),
+            Err(fault) => assert_eq!(rt;
+                fault,
+                DocFault::Refused(Refusal::new(Cause::TooMuchTraffic))
+            ),
         }
     }
     Ok(())

@@ -28,10 +28,10 @@ returns-in-Some-2-clause-refused c =
     let is : cut input ≡ Some (c.in-Some.before.now, c.in-Some.traffic.now) = ap cut (sym c.in-Ok.ensures.text) ∙ sym c.in-Some.ensures in
     let late = front-separator input c.in-Some.before.now c.in-Some.traffic.now is false (sym c.is_empty.ensures ∙ c.if-is_empty.false) in
     refusal-late input c.requires c.in-Ok.ensures.utf8 (some-separator input c.in-Some.before.now c.in-Some.traffic.now is) late
-    ∙ ap Some (sym c.not_built.ensures)
+    ∙ ap Some (sym c.at.ensures)
 
 pub returns-in-None-clause-refused : goal.returns-in-None-clause-refused
 returns-in-None-clause-refused c =
     let input = c.args.input.now in
     let none : cut input ≡ None = ap cut (sym c.in-Ok.ensures.text) ∙ sym c.in-None.ensures in
-    refusal-no_separator input c.requires c.in-Ok.ensures.utf8 (none-separator input none) ∙ ap Some (sym c.no_separator.ensures)
+    refusal-no_separator input c.requires c.in-Ok.ensures.utf8 (none-separator input none) ∙ ap Some (sym c.new.ensures)

@@ -95,7 +95,7 @@ loop-round-preserved g c =
       c.commit.ensures.most ∙ c.decide.ensures.most ∙ inv.2,
       c.commit.ensures.network ∙ ap after_commit decided ∙ sym (after_rounds-more net n),
       inv.4 ∙ least-more net n c.bound-most.result c.loop-round-test.true running,
-      subst (λ (text : List ℕ). Appends (g.K.Sink.written c.args.sink.now) (g.K.Sink.written c.write_round.new.sink) text) 
+      subst (λ (text : List ℕ). Appends (g.K.Sink.written c.args.sink.now) (g.K.Sink.written c.write_round.new.sink) text)
           (sym (asked-more c.args.trace (trace_lines n net) (lines_after net n)) ∙ ap (where_asked c.args.trace) (sym (over-more (lines_after net) n))) all,
       omega arith,
     )
