@@ -1,0 +1,4 @@
+pub mod Document
+pub mod KnownDocuments
+pub mod Refused
+pub mod Regions
