@@ -15,8 +15,8 @@ use Rattle.axi_beats.specs.declared.beat.WBeat.{WBeat}
 use Rattle.axi_beats.specs.declared.response.Resp.{Resp}
 use Rattle.axi_beats.specs.declared.response.Resp.TheVariants.{Okay, SlvErr, DecErr}
 use Rattle.axi_link.specs.LinkView.{LinkView}
-use Rattle.axi_link.specs.Table.{has_room}
-use Rattle.axi_link.proofs.KeepLemmas.{passing-has}
+use Rattle.axi_link.specs.LinkWords.{has_room}
+use Rattle.node_core.proofs.RowLemmas.{beat_where-has}
 use Rattle.burst_address.proofs.Beats.{beat-count, bus-most}
 use Rattle.burst_address.proofs.Legality.{legal-length, legal-size, wrap_length}
 use Rattle.burst_address.proofs.Numbers.{exponent_below}
@@ -214,10 +214,10 @@ abbrev pub IsReadDataInRange : ℕ → RBeat → Type 0
 IsReadDataInRange bus r = IsTraceReadData bus (seen_read_beat r)
 
 pub response-in_range : (link : LinkView) (entries : List WriteEntry) → All (λ (entry : WriteEntry). IsAddressInRange entry.request) entries → IfSome (put_response link entries) IsResponseInRange
-response-in_range link [] all = passing-has IsResponseInRange (has_room link.depth link.b) None tt
+response-in_range link [] all = beat_where-has IsResponseInRange (has_room link.depth link.b) None tt
 response-in_range link (e ∷ es) all =
     let head = All-head (λ (entry : WriteEntry). IsAddressInRange entry.request) e es all in
-    passing-has IsResponseInRange (has_room link.depth link.b) (cond (lacks_data e) None (Some (answer_to e)))
+    beat_where-has IsResponseInRange (has_room link.depth link.b) (cond (lacks_data e) None (Some (answer_to e)))
     (cond_both (lacks_data e) None (Some (answer_to e)) (λ (o : Option BBeat). IfSome o IsResponseInRange) (λ _. tt) (λ _. record { id = head.id; resp = response-code e.worst; tag = head.tag }))
 
 module _ (config : MemoryConfig) (wide : IsBusWidth config.bus) (store : Store) (bytes : All IsByte store.bytes) (fill : store.fill < 256) where
@@ -249,8 +249,8 @@ module _ (config : MemoryConfig) (wide : IsBusWidth config.bus) (store : Store) 
   lanes-in_range request n = mapped-on_bus (answered request n) config.bus 128 refl (bus-most config.bus wide) (answered-byte request n) (answered-above request n)
 
   pub read-in_range : (link : LinkView) (entries : List ReadEntry) → All (λ (entry : ReadEntry). IsAddressInRange entry.request) entries → IfSome (put_read config store link entries) (IsReadDataInRange config.bus)
-  read-in_range link [] all = passing-has (IsReadDataInRange config.bus) (has_room link.depth link.r) None tt
+  read-in_range link [] all = beat_where-has (IsReadDataInRange config.bus) (has_room link.depth link.r) None tt
   read-in_range link (e ∷ es) all =
       let head = All-head (λ (entry : ReadEntry). IsAddressInRange entry.request) e es all in
-      passing-has (IsReadDataInRange config.bus) (has_room link.depth link.r) (Some (next_beat config store e))
+      beat_where-has (IsReadDataInRange config.bus) (has_room link.depth link.r) (Some (next_beat config store e))
       record { id = head.id; lanes = lanes-in_range e.request e.put; resp = response-code (valid_status config e.request e.put); tag = head.tag }

@@ -4,9 +4,10 @@ use Rattle.std.proofs.Common.{◌≡◌, ◌<◌, ◌≤◌, ◌*◌, ◌^◌, �
 use Rattle.std.specs.Prelude.{All, IfSome}
 use Rattle.std.proofs.lemmas.List.Elements.{All-contains, All-head, All-nil, All-push, All-replicate, All-weaker}
 use Rattle.axi_history.specs.declared.port.Seen.{Seen}
-use Rattle.axi_link.proofs.KeepLemmas.{All-moved, passing-has}
+use Rattle.axi_link.proofs.KeepLemmas.{All-moved}
+use Rattle.node_core.proofs.RowLemmas.{beat_where-has}
 use Rattle.axi_link.specs.LinkView.{LinkView}
-use Rattle.axi_link.specs.Table.{head_of}
+use Rattle.axi_link.specs.LinkWords.{head_of}
 use Rattle.axi_link.specs.declared.out.Out.{Out}
 use Rattle.link_ports.specs.PortView.{port_of, seen_address, seen_itself, seen_read_beat, seen_response, shown}
 use Rattle.manager_end.specs.Beats.{data_beat, request_of}
@@ -96,11 +97,11 @@ module _ (p : Pair) (n : ℕ) (holds : PairHolds p) (range : PairInRange p) wher
       let m = p.memory.state in
       record {
         writes = writes-stay IsAddressInRange m.config (memory_aw links m) (memory_w links m) (memory_b links m) m.write_entries
-            (passing-has IsAddressInRange (fits m.write_entries) (head_of (memory_link links m).aw) (at-head IsAddressInRange (λ l. l.aw) p.link m.upper holds.upper range.link.aw)) range.memory.writes;
+            (beat_where-has IsAddressInRange (fits m.write_entries) (head_of (memory_link links m).aw) (at-head IsAddressInRange (λ l. l.aw) p.link m.upper holds.upper range.link.aw)) range.memory.writes;
         reads = reads-stay IsAddressInRange (memory_ar links m) (memory_r links m) m.read_entries
-            (passing-has IsAddressInRange (fits m.read_entries) (head_of (memory_link links m).ar) (at-head IsAddressInRange (λ l. l.ar) p.link m.upper holds.upper range.link.ar)) range.memory.reads;
+            (beat_where-has IsAddressInRange (fits m.read_entries) (head_of (memory_link links m).ar) (at-head IsAddressInRange (λ l. l.ar) p.link m.upper holds.upper range.link.ar)) range.memory.reads;
         bytes = bytes-stay m.config bus (memory_w links m) m.write_entries m.store
-            (passing-has (IsTraceWriteData bus) _ (head_of (memory_link links m).w) (at-head (IsTraceWriteData bus) (λ l. l.w) p.link m.upper holds.upper range.link.w)) range.memory.bytes;
+            (beat_where-has (IsTraceWriteData bus) _ (head_of (memory_link links m).w) (at-head (IsTraceWriteData bus) (λ l. l.w) p.link m.upper holds.upper range.link.w)) range.memory.bytes;
         fill = range.memory.fill;
       }
 
