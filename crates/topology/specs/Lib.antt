@@ -1,0 +1,5 @@
+pub mod Accepted
+pub mod Document
+pub mod KnownDocuments
+pub mod Refused
+pub mod Regions
