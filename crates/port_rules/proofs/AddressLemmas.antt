@@ -6,7 +6,7 @@ use Rattle.std.specs.List.{list_all}
 use Rattle.std.proofs.lemmas.Bool.{and_from, lt-ltb}
 use Rattle.axi_history.specs.declared.port.RawAddr.{RawAddr}
 use Rattle.axi_history.specs.PortRules.{same_address, handshake_rules, rules_of_offer, address_rules, least_broken, keeps_address_rules}
-use Rattle.port_rules.specs.Kept.{is_usable}
+use Rattle.port_rules.specs.Unpaired.{is_usable}
 use Rattle.port_rules.specs.Offers.{new_offer}
 
 pub new_usable : (bus bus' : ℕ) (waits offer : Option RawAddr) → bus' ≡ bus → least_broken (handshake_rules same_address waits offer ++ rules_of_offer offer (address_rules bus)) ≡ None → ForSome offer (λ a. a.addr < 2 ^ 63) →

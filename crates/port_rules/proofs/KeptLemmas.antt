@@ -16,15 +16,15 @@ use Rattle.axi_history.specs.declared.port.Seen.{Seen}
 use Rattle.axi_history.specs.PortHistory.{offer_of, transfer_of, transferred, waiting, offered, ends_a_request, on_aw, on_w, on_b, on_ar, on_r}
 use Rattle.axi_history.specs.PortRules.{same_data, same_response, same_read, handshake_rules, least_broken, or_else, rules_of_offer, keeps_address_rules, last_is_on_the_last_beat, strobes_are_on_valid_lanes, response_rules, read_beat_rules, is_not_exokay, responses_of, writes_of, read_beats_of, reads_of, write_address_rules, write_data_rules, write_response_rules, read_address_rules, read_data_rules, axi4_fault}
 use Rattle.axi_history.proofs.HistoryLemmas.{else_parts, least_append, channel_kept, transferred_more, waiting_more}
-use Rattle.port_rules.specs.Judged.{addresses_then, passed_then, beats_then, addresses_done, passed_done, beats_done}
 use Rattle.port_rules.specs.Offers.{new_offer}
-use Rattle.port_rules.specs.Parting.{Parting, parting}
-use Rattle.port_rules.specs.Checked.{Kept, on_fault, new_aw, new_w, kept_after}
+use Rattle.port_rules.specs.Kept.{Kept, on_fault, new_aw, new_w, kept_after}
 use Rattle.port_rules.specs.declared.reads.Read.{Read}
-use Rattle.port_rules.specs.Transfers.{Open, with_last, add_aw, add_last, add_b, add_ar, add_r}
+use Rattle.port_rules.specs.OpenReads.{add_ar, add_r}
+use Rattle.port_rules.specs.OpenWrites.{OpenWrites, with_last, add_aw, add_last, add_b}
+use Rattle.port_rules.specs.Unpaired.{Unpaired, unpaired_of, with_offers}
 use Rattle.port_rules.specs.WritesHeld.{WritesHeld}
 use Rattle.port_rules.specs.ReadsHeld.{ReadsHeld}
-use Rattle.port_rules.specs.StandsFor.{Held}
+use Rattle.port_rules.specs.Held.{Held}
 use Rattle.port_rules.proofs.HeldLemmas.{data_left}
 use Rattle.port_rules.proofs.WriteLemmas.{last_kept, address_kept as write_address_kept, response_kept}
 use Rattle.port_rules.proofs.ReadLemmas.{read_kept, address_kept}
@@ -49,22 +49,22 @@ kept_nine false y e = absurd cc
 lasts_more : (ws : List WBeat) (w : Option WBeat) → count_by (λ (beat : WBeat). beat.last) (ws ++ option_to_list w) ≡ count_by (λ (beat : WBeat). beat.last) ws + count_by (λ (beat : WBeat). beat.last) (option_to_list w)
 lasts_more ws w = sum_by-append (λ (beat : WBeat). if beat.last then 1 else 0) ws (option_to_list w)
 
-last_added : (o : Open) (adds : List RawAddr) (n : ℕ) (bs : List RawB) (last : Bool) → WritesHeld o adds n bs → WritesHeld (if last then with_last o else o) adds (n + (if last then 1 else 0)) bs
+last_added : (o : OpenWrites) (adds : List RawAddr) (n : ℕ) (bs : List RawB) (last : Bool) → WritesHeld o adds n bs → WritesHeld (if last then with_last o else o) adds (n + (if last then 1 else 0)) bs
 last_added o adds n bs true held = last_kept o adds n bs held
 last_added o adds n bs false held = subst (λ (m : ℕ). WritesHeld o adds m bs) (let z : n ≡ n + 0 = omega arith in z) held
 
-w_added : (o : Open) (adds : List RawAddr) (n : ℕ) (bs : List RawB) (w : Option WBeat) → WritesHeld o adds n bs → WritesHeld (add_last w o) adds (n + count_by (λ (beat : WBeat). beat.last) (option_to_list w)) bs
+w_added : (o : OpenWrites) (adds : List RawAddr) (n : ℕ) (bs : List RawB) (w : Option WBeat) → WritesHeld o adds n bs → WritesHeld (add_last w o) adds (n + count_by (λ (beat : WBeat). beat.last) (option_to_list w)) bs
 w_added o adds n bs None held = subst (λ (m : ℕ). WritesHeld o adds m bs) (let z : n ≡ n + 0 = omega arith in z) held
 w_added o adds n bs (Some w) held = subst (λ (m : ℕ). WritesHeld (add_last (Some w) o) adds (n + m) bs) (let z : (if w.last then 1 else 0) ≡ 0 + (if w.last then 1 else 0) = omega arith in z) (last_added o adds n bs w.last held)
 
-aw_added : (o : Open) (adds : List RawAddr) (n : ℕ) (bs : List RawB) (a : Option RawAddr) → WritesHeld o adds n bs → WritesHeld (add_aw a o) (adds ++ option_to_list a) n bs
+aw_added : (o : OpenWrites) (adds : List RawAddr) (n : ℕ) (bs : List RawB) (a : Option RawAddr) → WritesHeld o adds n bs → WritesHeld (add_aw a o) (adds ++ option_to_list a) n bs
 aw_added o adds n bs None held = subst (λ (xs : List RawAddr). WritesHeld o xs n bs) (sym (append-nil adds)) held
 aw_added o adds n bs (Some a) held = write_address_kept o adds n bs a held
 
 abbrev FollowsWrite : List RawAddr → ℕ → List RawB → RawB → Type 0
 FollowsWrite adds n bs b = ltb (length (responses_of b.id bs)) (length (writes_of b.id (take n adds))) ≡ true
 
-b_added : (o : Open) (adds : List RawAddr) (n : ℕ) (bs : List RawB) (b : Option RawB) → ForSome b (FollowsWrite adds n bs) → WritesHeld o adds n bs → WritesHeld (add_b b o) adds n (bs ++ option_to_list b)
+b_added : (o : OpenWrites) (adds : List RawAddr) (n : ℕ) (bs : List RawB) (b : Option RawB) → ForSome b (FollowsWrite adds n bs) → WritesHeld o adds n bs → WritesHeld (add_b b o) adds n (bs ++ option_to_list b)
 b_added o adds n bs None follows held = subst (λ (xs : List RawB). WritesHeld o adds n xs) (sym (append-nil bs)) held
 b_added o adds n bs (Some b) follows held = response_kept o adds n bs b held (follows b refl)
 
@@ -138,25 +138,17 @@ reads_kept bus k h r held none =
     subst (λ (xs : List RawAddr). ReadsHeld e2 xs (transferred on_r (h ++ r ∷ []))) (sym (transferred_more on_ar h r))
     (subst (λ (xs : List RawR). ReadsHeld e2 (adds ++ option_to_list (transfer_of r.ar)) xs) (sym (transferred_more on_r h r)) second)
 
--- what is left over
-abbrev left_after : Option RawAddr → Option WBeat → Parting → Parting
-left_after a w q = record {
-  addresses = addresses_done w (addresses_then a q.addresses q.beats);
-  passed = passed_done w (addresses_then a q.addresses q.beats) (passed_then a q.addresses q.beats q.passed);
-  beats = beats_done w (addresses_then a q.addresses q.beats) (beats_then a q.addresses q.beats);
-}
-
-parted_kept : (bus : ℕ) (k : Kept) (h : List PortRound) (r : PortRound) → Held bus k h → Grown bus h r →
-    parting (offered on_aw (h ++ r ∷ [])) 0 (offered on_w (h ++ r ∷ [])) ≡ left_after (new_aw k r) (new_w k r) (record { addresses = k.addresses; passed = k.passed; beats = k.beats })
-parted_kept bus k h r held g =
+unpaired_kept : (bus : ℕ) (k : Kept) (h : List PortRound) (r : PortRound) → Held bus k h → Grown bus h r →
+    unpaired_of (offered on_aw (h ++ r ∷ [])) 0 (offered on_w (h ++ r ∷ [])) ≡ with_offers (new_aw k r) (new_w k r) k.unpaired
+unpaired_kept bus k h r held g =
     let a = new_offer (waiting on_aw h) (offer_of r.aw) in
     let w = new_offer (waiting on_w h) (offer_of r.w) in
-    ap (λ (xs : List RawAddr). parting xs 0 (offered on_w (h ++ r ∷ []))) g.aw
-    ∙ ap (λ (xs : List WBeat). parting (offered on_aw h ++ option_to_list a) 0 xs) g.w
+    ap (λ (xs : List RawAddr). unpaired_of xs 0 (offered on_w (h ++ r ∷ []))) g.aw
+    ∙ ap (λ (xs : List WBeat). unpaired_of (offered on_aw h ++ option_to_list a) 0 xs) g.w
     ∙ data_left (offered on_aw h) (offered on_w h) a w
-    ∙ ap (λ (q : Parting). left_after a w q) held.parted
-    ∙ ap (λ (o : Option RawAddr). left_after (new_offer o (offer_of r.aw)) w (record { addresses = k.addresses; passed = k.passed; beats = k.beats })) (sym held.aw)
-    ∙ ap (λ (o : Option WBeat). left_after (new_aw k r) (new_offer o (offer_of r.w)) (record { addresses = k.addresses; passed = k.passed; beats = k.beats })) (sym held.w)
+    ∙ ap (λ (u : Unpaired). with_offers a w u) held.unpaired
+    ∙ ap (λ (o : Option RawAddr). with_offers (new_offer o (offer_of r.aw)) w k.unpaired) (sym held.aw)
+    ∙ ap (λ (o : Option WBeat). with_offers (new_aw k r) (new_offer o (offer_of r.w)) k.unpaired) (sym held.w)
 
 pub kept : (bus : ℕ) (k : Kept) (h : List PortRound) (r : PortRound) → Held bus k h → axi4_fault bus h r ≡ None → Held bus (kept_after k r) (h ++ r ∷ [])
 kept bus k h r held none =
@@ -174,7 +166,7 @@ kept bus k h r held none =
       b = sym (waiting_more on_b h r);
       ar = sym (waiting_more on_ar h r);
       r = sym (waiting_more on_r h r);
-      parted = parted_kept bus k h r held g;
+      unpaired = unpaired_kept bus k h r held g;
       usable = subst (λ (xs : List RawAddr). list_all (keeps_address_rules bus) xs ≡ true) (sym g.aw) g.usable;
       nine = both.0;
       ten = both.1;

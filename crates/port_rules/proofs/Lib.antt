@@ -1,9 +1,9 @@
 pub mod AddressLemmas
-pub mod BeatLemmas
+pub mod BurstLemmas
 pub mod HeldLemmas
 pub mod KeptLemmas
 pub mod LegalLemmas
-pub mod PartingLemmas
+pub mod PairingLemmas
 pub mod PayloadLemmas
 pub mod PlaceLemmas
 pub mod ReadLemmas

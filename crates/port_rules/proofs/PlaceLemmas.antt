@@ -6,8 +6,8 @@ use Rattle.std.proofs.lemmas.Bool.{cases_Bool}
 use Rattle.std.proofs.lemmas.List.Quantifiers.{position-Some}
 use Rattle.std.proofs.lemmas.Iterator.Adapters.{position_from-zero}
 use Rattle.port_rules.specs.declared.reads.Read.{Read}
-use Rattle.port_rules.specs.Kept.{without_first}
-use Rattle.port_rules.specs.Reads.{left_of, read_one}
+use Rattle.port_rules.specs.OpenWrites.{without_first}
+use Rattle.port_rules.specs.OpenReads.{beats_lacking, with_beat_of}
 
 at_place : (id : ℕ) (xs : List ℕ) (k : ℕ) → k < length xs → (get_or xs k 0 == id) ≡ true → ((j : ℕ) → j < k → (get_or xs j 0 == id) ≡ false) → remove xs k ≡ without_first id xs
 at_place id [] k within here before = absurd (omega arith)
@@ -34,7 +34,7 @@ id_absent id xs none = no_id id xs 0 (sym (position_from-zero (λ (other : ℕ).
 -- ---- the same of reads
 
 read_at : (id : ℕ) (xs : List Read) (k : ℕ) (d : Read) → k < length xs → ((get_or xs k d).id == id) ≡ true → ((j : ℕ) → j < k → ((get_or xs j d).id == id) ≡ false) →
-    read_one id xs ≡ (if leb (get_or xs k d).left 1 then remove xs k else slice_set xs k (record { id = id; left = (get_or xs k d).left - 1 }))
+    with_beat_of id xs ≡ (if leb (get_or xs k d).left 1 then remove xs k else slice_set xs k (record { id = id; left = (get_or xs k d).left - 1 }))
 read_at id [] k d within here before = absurd (omega arith)
 read_at id (x ∷ xs) zero d within here before = rw here refl
 read_at id (x ∷ xs) (suc k) d within here before =
@@ -44,18 +44,18 @@ read_at id (x ∷ xs) (suc k) d within here before =
       | inr e ↦ let large = rw e at rest in rw (before 0 (omega arith), e) (ap (λ (more : List Read). x ∷ more) large)
     ]
 
-left_place : (id : ℕ) (xs : List Read) (k : ℕ) (d : Read) → k < length xs → ((get_or xs k d).id == id) ≡ true → ((j : ℕ) → j < k → ((get_or xs j d).id == id) ≡ false) → Some (get_or xs k d).left ≡ left_of id xs
+left_place : (id : ℕ) (xs : List Read) (k : ℕ) (d : Read) → k < length xs → ((get_or xs k d).id == id) ≡ true → ((j : ℕ) → j < k → ((get_or xs j d).id == id) ≡ false) → Some (get_or xs k d).left ≡ beats_lacking id xs
 left_place id [] k d within here before = absurd (omega arith)
 left_place id (x ∷ xs) zero d within here before = rw here refl
 left_place id (x ∷ xs) (suc k) d within here before =
     rw (before 0 (omega arith)) (left_place id xs k d (omega arith) here (λ j lt. before (suc j) (omega arith)))
 
-pub left_at : (id : ℕ) (xs : List Read) (k : ℕ) (d : Read) → position (λ read. read.id == id) xs ≡ Some k → Some (get_or xs k d).left ≡ left_of id xs
+pub left_at : (id : ℕ) (xs : List Read) (k : ℕ) (d : Read) → position (λ read. read.id == id) xs ≡ Some k → Some (get_or xs k d).left ≡ beats_lacking id xs
 left_at id xs k d found =
     let f = position-Some (λ (read : Read). read.id == id) xs k d found in
     left_place id xs k d f.0 f.1 f.2
 
-no_read : (id : ℕ) (xs : List Read) (i : ℕ) → position_from (λ read. read.id == id) i xs ≡ None → (xs ≡ read_one id xs) × (None ≡ left_of id xs)
+no_read : (id : ℕ) (xs : List Read) (i : ℕ) → position_from (λ read. read.id == id) i xs ≡ None → (xs ≡ with_beat_of id xs) × (None ≡ beats_lacking id xs)
 no_read id [] i none = (refl, refl)
 no_read id (x ∷ xs) i none =
     elim (cases_Bool (x.id == id)) [
@@ -65,18 +65,18 @@ no_read id (x ∷ xs) i none =
           (rw e (ap (λ (more : List Read). x ∷ more) both.0), rw e both.1)
     ]
 
-pub left_nowhere : (id : ℕ) (xs : List Read) → position (λ read. read.id == id) xs ≡ None → None ≡ left_of id xs
+pub left_nowhere : (id : ℕ) (xs : List Read) → position (λ read. read.id == id) xs ≡ None → None ≡ beats_lacking id xs
 left_nowhere id xs none = (no_read id xs 0 (sym (position_from-zero (λ (read : Read). read.id == id) xs) ∙ none)).1
 
-pub read_absent : (id : ℕ) (xs : List Read) → position (λ read. read.id == id) xs ≡ None → xs ≡ read_one id xs
+pub read_absent : (id : ℕ) (xs : List Read) → position (λ read. read.id == id) xs ≡ None → xs ≡ with_beat_of id xs
 read_absent id xs none = (no_read id xs 0 (sym (position_from-zero (λ (read : Read). read.id == id) xs) ∙ none)).0
 
-pub read_removed : (id : ℕ) (xs : List Read) (k : ℕ) (d : Read) → position (λ read. read.id == id) xs ≡ Some k → leb (get_or xs k d).left 1 ≡ true → remove xs k ≡ read_one id xs
+pub read_removed : (id : ℕ) (xs : List Read) (k : ℕ) (d : Read) → position (λ read. read.id == id) xs ≡ Some k → leb (get_or xs k d).left 1 ≡ true → remove xs k ≡ with_beat_of id xs
 read_removed id xs k d found small =
     let f = position-Some (λ (read : Read). read.id == id) xs k d found in
     sym (read_at id xs k d f.0 f.1 f.2 ∙ rw small refl)
 
-pub read_counted : (id : ℕ) (xs : List Read) (k : ℕ) (d : Read) → position (λ read. read.id == id) xs ≡ Some k → leb (get_or xs k d).left 1 ≡ false → slice_set xs k (record { id = id; left = (get_or xs k d).left - 1 }) ≡ read_one id xs
+pub read_counted : (id : ℕ) (xs : List Read) (k : ℕ) (d : Read) → position (λ read. read.id == id) xs ≡ Some k → leb (get_or xs k d).left 1 ≡ false → slice_set xs k (record { id = id; left = (get_or xs k d).left - 1 }) ≡ with_beat_of id xs
 read_counted id xs k d found large =
     let f = position-Some (λ (read : Read). read.id == id) xs k d found in
     sym (read_at id xs k d f.0 f.1 f.2 ∙ rw large refl)

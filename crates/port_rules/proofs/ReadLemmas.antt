@@ -12,7 +12,7 @@ use Rattle.axi_history.specs.declared.port.RawR.{RawR}
 use Rattle.axi_history.specs.PortHistory.{ends_a_request}
 use Rattle.axi_history.specs.PortRules.{reads_of, read_beats_of, is_not_exokay, least_broken}
 use Rattle.port_rules.specs.declared.reads.Read.{Read}
-use Rattle.port_rules.specs.Reads.{left_of, read_one, read_fault, pending}
+use Rattle.port_rules.specs.OpenReads.{beats_lacking, with_beat_of, read_fault, new_read}
 use Rattle.port_rules.specs.ReadsHeld.{remaining, lefts, ReadsHeld}
 
 -- ---- numbers of beats
@@ -88,7 +88,7 @@ one_more (first ∷ more) n beats some within =
 
 -- ---- the reads of an ID
 
-first_left : (id : ℕ) (reads : List Read) → left_of id reads ≡ first_of (lefts id reads)
+first_left : (id : ℕ) (reads : List Read) → beats_lacking id reads ≡ first_of (lefts id reads)
 first_left id [] = refl
 first_left id (read ∷ more) =
     elim (cases_Bool (read.id == id)) [
@@ -96,7 +96,7 @@ first_left id (read ∷ more) =
       | inr e ↦ rw e (first_left id more)
     ]
 
-lefts_one : (id : ℕ) (reads : List Read) → lefts id (read_one id reads) ≡ counted (lefts id reads)
+lefts_one : (id : ℕ) (reads : List Read) → lefts id (with_beat_of id reads) ≡ counted (lefts id reads)
 lefts_one id [] = refl
 lefts_one id (read ∷ more) =
     elim (cases_Bool (read.id == id)) [
@@ -107,7 +107,7 @@ lefts_one id (read ∷ more) =
       | inr e ↦ rw (e, e) (lefts_one id more)
     ]
 
-pub lefts_other : (id other : ℕ) (reads : List Read) → id ≢ other → lefts other (read_one id reads) ≡ lefts other reads
+pub lefts_other : (id other : ℕ) (reads : List Read) → id ≢ other → lefts other (with_beat_of id reads) ≡ lefts other reads
 lefts_other id other [] differ = refl
 lefts_other id other (read ∷ more) differ =
     elim (cases_Bool (read.id == id)) [
@@ -147,10 +147,10 @@ pub judges_read : (reads : List Read) (addresses : List RawAddr) (beats : List R
 judges_read reads addresses beats r held =
     let asked = reads_of r.id addresses in
     let n = length (read_beats_of r.id beats) in
-    let left : left_of r.id reads ≡ first_of (remaining asked n) = first_left r.id reads ∙ ap first_of (held.each r.id) in
-    let eleven : ltb n (sum asked) ≡ is_some (left_of r.id reads) = left_where asked n ∙ ap (λ (o : Option ℕ). is_some o) (sym left) in
-    ap (λ (b : Bool). least_broken ((8, is_not_exokay r.resp) ∷ (11, b) ∷ (12, beq r.last (unwrap_or (left_of r.id reads) 0 == 1)) ∷ [])) (sym eleven)
-    ∙ three (is_not_exokay r.resp) (ltb n (sum asked)) (beq r.last (unwrap_or (left_of r.id reads) 0 == 1)) (beq r.last (ends_a_request asked n))
+    let left : beats_lacking r.id reads ≡ first_of (remaining asked n) = first_left r.id reads ∙ ap first_of (held.each r.id) in
+    let eleven : ltb n (sum asked) ≡ is_some (beats_lacking r.id reads) = left_where asked n ∙ ap (λ (o : Option ℕ). is_some o) (sym left) in
+    ap (λ (b : Bool). least_broken ((8, is_not_exokay r.resp) ∷ (11, b) ∷ (12, beq r.last (unwrap_or (beats_lacking r.id reads) 0 == 1)) ∷ [])) (sym eleven)
+    ∙ three (is_not_exokay r.resp) (ltb n (sum asked)) (beq r.last (unwrap_or (beats_lacking r.id reads) 0 == 1)) (beq r.last (ends_a_request asked n))
     (λ less. ap (λ (o : Option ℕ). beq r.last (unwrap_or o 0 == 1)) left ∙ ap (λ (b : Bool). beq r.last b) (last_where asked n less))
 
 beats_more : (id : ℕ) (beats : List RawR) (r : RawR) → read_beats_of id (beats ++ r ∷ []) ≡ read_beats_of id beats ++ (if r.id == id then r ∷ [] else [])
@@ -171,7 +171,7 @@ removed_where (beats ∷ more) n less =
       | inr e ↦ rw e (removed_where more (n - beats) (let whole = sum_cons beats more in let s : ltb (n - beats) (sum more) ≡ true = grind (arith, nat_tests) in s))
     ]
 
-length_one : (id : ℕ) (reads : List Read) → is_some (left_of id reads) ≡ true → length (read_one id reads) + (if leb (unwrap_or (left_of id reads) 0) 1 then 1 else 0) ≡ length reads
+length_one : (id : ℕ) (reads : List Read) → is_some (beats_lacking id reads) ≡ true → length (with_beat_of id reads) + (if leb (unwrap_or (beats_lacking id reads) 0) 1 then 1 else 0) ≡ length reads
 length_one id [] some = absurd (false≢true some)
 length_one id (read ∷ more) some =
     elim (cases_Bool (read.id == id)) [
@@ -180,8 +180,8 @@ length_one id (read ∷ more) some =
         | inr f ↦ rw (e, f) (let s : suc (length more) + 0 ≡ suc (length more) = omega arith in s)
       ]
       | inr e ↦
-          let rest : is_some (left_of id more) ≡ true = rw e at some in
-          rw e (let s = length_one id more rest in let t : suc (length (read_one id more)) + (if leb (unwrap_or (left_of id more) 0) 1 then 1 else 0) ≡ suc (length more) = omega arith in t)
+          let rest : is_some (beats_lacking id more) ≡ true = rw e at some in
+          rw e (let s = length_one id more rest in let t : suc (length (with_beat_of id more)) + (if leb (unwrap_or (beats_lacking id more) 0) 1 then 1 else 0) ≡ suc (length more) = omega arith in t)
     ]
 
 lasts_more : (beats : List RawR) (r : RawR) → count_by (λ (beat : RawR). beat.last) (beats ++ r ∷ []) ≡ count_by (λ (beat : RawR). beat.last) beats + (0 + (if r.last then 1 else 0))
@@ -189,22 +189,22 @@ lasts_more beats r = sum_by-append (λ (beat : RawR). if beat.last then 1 else 0
 
 -- one read less is kept exactly with a last beat
 one_answered : (reads : List Read) (addresses : List RawAddr) (beats : List RawR) (r : RawR) → ReadsHeld reads addresses beats → ltb (length (read_beats_of r.id beats)) (sum (reads_of r.id addresses)) ≡ true →
-    r.last ≡ ends_a_request (reads_of r.id addresses) (length (read_beats_of r.id beats)) → length (read_one r.id reads) + (if r.last then 1 else 0) ≡ length reads
+    r.last ≡ ends_a_request (reads_of r.id addresses) (length (read_beats_of r.id beats)) → length (with_beat_of r.id reads) + (if r.last then 1 else 0) ≡ length reads
 one_answered reads addresses beats r held less last =
     let asked = reads_of r.id addresses in
     let n = length (read_beats_of r.id beats) in
-    let left : left_of r.id reads ≡ first_of (remaining asked n) = first_left r.id reads ∙ ap first_of (held.each r.id) in
-    let some : is_some (left_of r.id reads) ≡ true = ap (λ (o : Option ℕ). is_some o) left ∙ sym (left_where asked n) ∙ less in
-    let ends : leb (unwrap_or (left_of r.id reads) 0) 1 ≡ r.last = ap (λ (o : Option ℕ). leb (unwrap_or o 0) 1) left ∙ removed_where asked n less ∙ sym last in
-    ap (λ (b : Bool). length (read_one r.id reads) + (if b then 1 else 0)) (sym ends) ∙ length_one r.id reads some
+    let left : beats_lacking r.id reads ≡ first_of (remaining asked n) = first_left r.id reads ∙ ap first_of (held.each r.id) in
+    let some : is_some (beats_lacking r.id reads) ≡ true = ap (λ (o : Option ℕ). is_some o) left ∙ sym (left_where asked n) ∙ less in
+    let ends : leb (unwrap_or (beats_lacking r.id reads) 0) 1 ≡ r.last = ap (λ (o : Option ℕ). leb (unwrap_or o 0) 1) left ∙ removed_where asked n less ∙ sym last in
+    ap (λ (b : Bool). length (with_beat_of r.id reads) + (if b then 1 else 0)) (sym ends) ∙ length_one r.id reads some
 
 pub read_kept : (reads : List Read) (addresses : List RawAddr) (beats : List RawR) (r : RawR) → ReadsHeld reads addresses beats → ltb (length (read_beats_of r.id beats)) (sum (reads_of r.id addresses)) ≡ true →
-    r.last ≡ ends_a_request (reads_of r.id addresses) (length (read_beats_of r.id beats)) → ReadsHeld (read_one r.id reads) addresses (beats ++ r ∷ [])
+    r.last ≡ ends_a_request (reads_of r.id addresses) (length (read_beats_of r.id beats)) → ReadsHeld (with_beat_of r.id reads) addresses (beats ++ r ∷ [])
 read_kept reads addresses beats r held less last = record {
   each = λ id. elim (cases_Bool (r.id == id)) [
     | inl e ↦
         let mine : r.id ≡ id = eqb-true r.id id e in
-        subst (λ (i : ℕ). lefts i (read_one r.id reads) ≡ remaining (reads_of i addresses) (length (read_beats_of i (beats ++ r ∷ [])))) mine
+        subst (λ (i : ℕ). lefts i (with_beat_of r.id reads) ≡ remaining (reads_of i addresses) (length (read_beats_of i (beats ++ r ∷ [])))) mine
         (lefts_one r.id reads ∙ ap counted (held.each r.id)
         ∙ sym (one_less (reads_of r.id addresses) (length (read_beats_of r.id beats)) (positive_reads r.id addresses) less)
         ∙ ap (λ (n : ℕ). remaining (reads_of r.id addresses) n) (sym (one_counted r.id beats r (eq-eqb r.id r.id refl))))
@@ -240,15 +240,15 @@ lefts_more id (first ∷ more) p b e =
       | inr f ↦ rw f (lefts_more id more p b e)
     ]
 
-pub address_kept : (reads : List Read) (addresses : List RawAddr) (beats : List RawR) (a : RawAddr) → ReadsHeld reads addresses beats → ReadsHeld (reads ++ pending a ∷ []) (addresses ++ a ∷ []) beats
+pub address_kept : (reads : List Read) (addresses : List RawAddr) (beats : List RawR) (a : RawAddr) → ReadsHeld reads addresses beats → ReadsHeld (reads ++ new_read a ∷ []) (addresses ++ a ∷ []) beats
 address_kept reads addresses beats a held = record {
   each = λ id. elim (cases_Bool (a.id == id)) [
     | inl e ↦
-        lefts_more id reads (pending a) true e ∙ ap (λ (xs : List ℕ). xs ++ (a.len + 1) ∷ []) (held.each id)
+        lefts_more id reads (new_read a) true e ∙ ap (λ (xs : List ℕ). xs ++ (a.len + 1) ∷ []) (held.each id)
         ∙ sym (one_more (reads_of id addresses) (length (read_beats_of id beats)) (a.len + 1) (omega arith) (held.within id))
         ∙ ap (λ (xs : List ℕ). remaining xs (length (read_beats_of id beats))) (sym (reads_more id addresses a true e))
     | inr e ↦
-        lefts_more id reads (pending a) false e ∙ append-nil (lefts id reads) ∙ held.each id
+        lefts_more id reads (new_read a) false e ∙ append-nil (lefts id reads) ∙ held.each id
         ∙ ap (λ (xs : List ℕ). remaining xs (length (read_beats_of id beats))) (sym (reads_more id addresses a false e ∙ append-nil (reads_of id addresses)))
   ];
   within = λ id. elim (cases_Bool (a.id == id)) [
@@ -258,7 +258,7 @@ address_kept reads addresses beats a held = record {
         omega arith
     | inr e ↦ let s : sum (reads_of id (addresses ++ a ∷ [])) ≡ sum (reads_of id addresses) = ap sum (reads_more id addresses a false e ∙ append-nil (reads_of id addresses)) in let w = held.within id in omega arith
   ];
-  all = let reads' = length-append reads (pending a ∷ []) in let addresses' = length-append addresses (a ∷ []) in let h = held.all in omega arith;
+  all = let reads' = length-append reads (new_read a ∷ []) in let addresses' = length-append addresses (a ∷ []) in let h = held.all in omega arith;
 }
 
 pub reads_start : ReadsHeld [] [] []

@@ -14,13 +14,12 @@ use Rattle.axi_history.specs.PortHistory.{offer_of, transferred, waiting, offere
 use Rattle.axi_history.specs.PortRules.{same_address, same_data, same_response, same_read, handshake_rules, least_broken, or_else, rules_of_offer, address_rules, keeps_address_rules, has_last_where_due, has_strobes_on_valid_lanes, last_is_on_the_last_beat, strobes_are_on_valid_lanes, each_addressed_beat, response_rules, read_beat_rules, write_address_rules, write_data_rules, write_response_rules, read_address_rules, read_data_rules, axi4_fault}
 use Rattle.axi_history.proofs.HistoryLemmas.{else_parts, least_append, channel_kept}
 use Rattle.axi_history.proofs.SameLemmas.{addresses_equal, data_equal}
-use Rattle.port_rules.specs.Kept.{response_fault}
-use Rattle.port_rules.specs.Reads.{read_fault}
-use Rattle.port_rules.specs.Judged.{data_fault}
+use Rattle.port_rules.specs.OpenWrites.{response_fault}
+use Rattle.port_rules.specs.OpenReads.{read_fault}
 use Rattle.port_rules.specs.Offers.{new_offer, fault_of_offer}
-use Rattle.port_rules.specs.Parting.{Parting}
-use Rattle.port_rules.specs.Checked.{Kept, on_fault, new_aw, new_w, aw_fault, w_fault, b_fault, ar_fault, r_fault, kept_fault}
-use Rattle.port_rules.specs.StandsFor.{Held}
+use Rattle.port_rules.specs.Unpaired.{Unpaired, data_fault}
+use Rattle.port_rules.specs.Kept.{Kept, on_fault, new_aw, new_w, aw_fault, w_fault, b_fault, ar_fault, r_fault, kept_fault}
+use Rattle.port_rules.specs.Held.{Held}
 use Rattle.port_rules.proofs.AddressLemmas.{new_keeps}
 use Rattle.port_rules.proofs.HeldLemmas.{offered_more, data_told}
 use Rattle.port_rules.proofs.WriteLemmas.{judges_response}
@@ -77,22 +76,22 @@ grown bus k h r held aw w =
     }
 
 data_same : (bus : ℕ) (k : Kept) (h : List PortRound) (r : PortRound) → Held bus k h → Grown bus h r →
-    data_fault bus (new_aw k r) (new_w k r) k.addresses k.passed k.beats ≡ least_broken ((9, last_is_on_the_last_beat bus (h ++ r ∷ [])) ∷ (10, strobes_are_on_valid_lanes bus (h ++ r ∷ [])) ∷ [])
+    data_fault bus (new_aw k r) (new_w k r) k.unpaired ≡ least_broken ((9, last_is_on_the_last_beat bus (h ++ r ∷ [])) ∷ (10, strobes_are_on_valid_lanes bus (h ++ r ∷ [])) ∷ [])
 data_same bus k h r held g =
     let a = new_offer (waiting on_aw h) (offer_of r.aw) in
     let w = new_offer (waiting on_w h) (offer_of r.w) in
     let adds = offered on_aw h in
     let ws = offered on_w h in
-    ap (λ (o : Option RawAddr). data_fault bus (new_offer o (offer_of r.aw)) (new_w k r) k.addresses k.passed k.beats) held.aw
-    ∙ ap (λ (o : Option WBeat). data_fault bus a (new_offer o (offer_of r.w)) k.addresses k.passed k.beats) held.w
-    ∙ ap (λ (q : Parting). data_fault bus a w q.addresses q.passed q.beats) (sym held.parted)
+    ap (λ (o : Option RawAddr). data_fault bus (new_offer o (offer_of r.aw)) (new_w k r) k.unpaired) held.aw
+    ∙ ap (λ (o : Option WBeat). data_fault bus a (new_offer o (offer_of r.w)) k.unpaired) held.w
+    ∙ ap (λ (u : Unpaired). data_fault bus a w u) (sym held.unpaired)
     ∙ data_told bus adds ws a w held.usable g.usable held.nine held.ten
     ∙ ap (λ (xs : List RawAddr). least_broken ((9, each_addressed_beat bus has_last_where_due (zip xs (bursts (ws ++ option_to_list w)))) ∷ (10, each_addressed_beat bus (has_strobes_on_valid_lanes bus) (zip xs (bursts (ws ++ option_to_list w)))) ∷ [])) (sym g.aw)
     ∙ ap (λ (xs : List WBeat). least_broken ((9, each_addressed_beat bus has_last_where_due (zip (offered on_aw (h ++ r ∷ [])) (bursts xs))) ∷ (10, each_addressed_beat bus (has_strobes_on_valid_lanes bus) (zip (offered on_aw (h ++ r ∷ [])) (bursts xs))) ∷ [])) (sym g.w)
 
 w_same : (bus : ℕ) (k : Kept) (h : List PortRound) (r : PortRound) → Held bus k h → least_broken (write_address_rules bus h r) ≡ None → w_fault bus k r ≡ least_broken (write_data_rules bus h r)
 w_same bus k h r held aw =
-    let judged_k = data_fault bus (new_aw k r) (new_w k r) k.addresses k.passed k.beats in
+    let judged_k = data_fault bus (new_aw k r) (new_w k r) k.unpaired in
     let judged_h = least_broken ((9, last_is_on_the_last_beat bus (h ++ r ∷ [])) ∷ (10, strobes_are_on_valid_lanes bus (h ++ r ∷ [])) ∷ []) in
     ap (λ (o : Option WBeat). or_else (least_broken (handshake_rules same_data o (offer_of r.w))) judged_k) held.w
     ∙ else_same (least_broken (handshake_rules same_data (waiting on_w h) (offer_of r.w))) judged_k judged_h (λ w. data_same bus k h r held (grown bus k h r held aw w))

@@ -7,10 +7,11 @@ use Rattle.axi_history.specs.PortRules.{axi4_fault, axi4_history_fault}
 use Rattle.axi_history.proofs.HistoryLemmas.{fault_stays, fault_anew}
 use Rattle.port_rules.specs.declared.reads.Read.{Read}
 use Rattle.port_rules.specs.declared.state.PortChecker.{PortChecker}
-use Rattle.port_rules.specs.Checked.{Kept, kept_fault, kept_after}
-use Rattle.port_rules.specs.StandsFor.{Held, StandsFor, kept_of}
-use Rattle.port_rules.specs.Transfers.{Open}
-use Rattle.port_rules.specs.Unanswered.{writes_asked, writes_answered, reads_asked, reads_answered, unanswered_writes, unanswered_reads}
+use Rattle.port_rules.specs.Kept.{Kept, kept_of, kept_fault, kept_after}
+use Rattle.port_rules.specs.Held.{Held}
+use Rattle.port_rules.specs.StandsFor.{StandsFor}
+use Rattle.port_rules.specs.OpenWrites.{OpenWrites}
+use Rattle.port_rules.specs.Unanswered.{write_requests, write_answers, read_requests, read_answers, unanswered_writes, unanswered_reads}
 use Rattle.port_rules.proofs.KeptLemmas.{kept}
 use Rattle.port_rules.proofs.LegalLemmas.{beginning_stays}
 use Rattle.port_rules.proofs.RoundLemmas.{told}
@@ -35,15 +36,15 @@ legal_told c c1 h r s was port1 kept1 judged = round_told c c1 h r None s was po
 writes_stay : (c c' : PortChecker) (h : List PortRound) (r : PortRound) (f : ℕ × ℕ) → StandsFor c h → axi4_history_fault c.port.bus (h ++ r ∷ []) ≡ Some f → (kept_of c').writes ≡ (kept_of c).writes → c'.port ≡ c.port →
     length c'.writes.issued.items + length c'.writes.whole.items ≡ unanswered_writes c'.port.bus (h ++ r ∷ [])
 writes_stay c c' h r f s broken writes port =
-    ap (λ (o : Open). length o.issued + length o.whole) writes ∙ s.writes
-    ∙ ap (λ (xs : List PortRound). writes_asked xs - writes_answered xs) (sym (beginning_stays c.port.bus h r f broken))
+    ap (λ (o : OpenWrites). length o.issued + length o.whole) writes ∙ s.writes
+    ∙ ap (λ (xs : List PortRound). write_requests xs - write_answers xs) (sym (beginning_stays c.port.bus h r f broken))
     ∙ ap (λ (p : PortKind). unanswered_writes p.bus (h ++ r ∷ [])) (sym port)
 
 reads_stay : (c c' : PortChecker) (h : List PortRound) (r : PortRound) (f : ℕ × ℕ) → StandsFor c h → axi4_history_fault c.port.bus (h ++ r ∷ []) ≡ Some f → (kept_of c').reads ≡ (kept_of c).reads → c'.port ≡ c.port →
     length c'.reads.reads.items ≡ unanswered_reads c'.port.bus (h ++ r ∷ [])
 reads_stay c c' h r f s broken reads port =
     ap (λ (xs : List Read). length xs) reads ∙ s.reads
-    ∙ ap (λ (xs : List PortRound). reads_asked xs - reads_answered xs) (sym (beginning_stays c.port.bus h r f broken))
+    ∙ ap (λ (xs : List PortRound). read_requests xs - read_answers xs) (sym (beginning_stays c.port.bus h r f broken))
     ∙ ap (λ (p : PortKind). unanswered_reads p.bus (h ++ r ∷ [])) (sym port)
 
 -- after a broken rule

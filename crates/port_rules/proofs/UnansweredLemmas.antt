@@ -6,37 +6,35 @@ use Rattle.axi_beats.specs.declared.beat.WBeat.{WBeat}
 use Rattle.axi_history.specs.declared.port.PortRound.{PortRound}
 use Rattle.axi_history.specs.PortHistory.{transferred, on_aw, on_w, on_b}
 use Rattle.axi_history.specs.PortRules.{or_else, axi4_fault, first_fault, axi4_history_fault}
-use Rattle.port_rules.specs.Checked.{Kept, kept_after}
-use Rattle.port_rules.specs.StandsFor.{Held}
-use Rattle.port_rules.specs.Unanswered.{writes_asked, writes_answered, reads_asked, reads_answered, unanswered_writes, unanswered_reads}
+use Rattle.port_rules.specs.Kept.{Kept, kept_after}
+use Rattle.port_rules.specs.Held.{Held}
+use Rattle.port_rules.specs.Unanswered.{write_requests, write_answers, read_requests, read_answers, unanswered_writes, unanswered_reads}
 use Rattle.port_rules.proofs.LegalLemmas.{whole_beginning}
 use Rattle.port_rules.proofs.ReadLemmas.{reads_start}
 use Rattle.port_rules.proofs.KeptLemmas.{kept}
 use Rattle.port_rules.proofs.WriteLemmas.{writes_start, writes_counted}
 
-writes_held : (bus : ℕ) (k : Kept) (h : List PortRound) → Held bus k h → length k.writes.issued + length k.writes.whole + writes_answered h ≡ writes_asked h
+writes_held : (bus : ℕ) (k : Kept) (h : List PortRound) → Held bus k h → length k.writes.issued + length k.writes.whole + write_answers h ≡ write_requests h
 writes_held bus k h held = writes_counted k.writes (transferred on_aw h) (count_by (λ (beat : WBeat). beat.last) (transferred on_w h)) (transferred on_b h) held.writes
 
 pub writes_left : (bus : ℕ) (k : Kept) (h : List PortRound) → Held bus k h → axi4_history_fault bus h ≡ None → length k.writes.issued + length k.writes.whole ≡ unanswered_writes bus h
 writes_left bus k h held legal =
     let counted = writes_held bus k h held in
-    let left : length k.writes.issued + length k.writes.whole ≡ writes_asked h - writes_answered h = omega arith in
-    left ∙ ap (λ (xs : List PortRound). writes_asked xs - writes_answered xs) (sym (whole_beginning bus h legal))
+    let left : length k.writes.issued + length k.writes.whole ≡ write_requests h - write_answers h = omega arith in
+    left ∙ ap (λ (xs : List PortRound). write_requests xs - write_answers xs) (sym (whole_beginning bus h legal))
 
 pub reads_left : (bus : ℕ) (k : Kept) (h : List PortRound) → Held bus k h → axi4_history_fault bus h ≡ None → length k.reads ≡ unanswered_reads bus h
 reads_left bus k h held legal =
     let counted = held.reads.all in
-    let left : length k.reads ≡ reads_asked h - reads_answered h = omega arith in
-    left ∙ ap (λ (xs : List PortRound). reads_asked xs - reads_answered xs) (sym (whole_beginning bus h legal))
+    let left : length k.reads ≡ read_requests h - read_answers h = omega arith in
+    left ∙ ap (λ (xs : List PortRound). read_requests xs - read_answers xs) (sym (whole_beginning bus h legal))
 
 -- ---- no more answers than requests
 
 abbrev nothing : Kept
 nothing = record {
   waits = record { aw = None; w = None; b = None; ar = None; r = None };
-  addresses = [];
-  passed = 0;
-  beats = [];
+  unpaired = record { addresses = []; passed = 0; beats = [] };
   writes = record { issued = []; surplus = 0; whole = [] };
   reads = [];
 }
@@ -48,7 +46,7 @@ start bus = record {
   b = refl;
   ar = refl;
   r = refl;
-  parted = refl;
+  unpaired = refl;
   usable = refl;
   nine = refl;
   ten = refl;
@@ -57,7 +55,7 @@ start bus = record {
 }
 
 abbrev Follow : List PortRound → Type 0
-Follow h = (writes_answered h ≤ writes_asked h) × (reads_answered h ≤ reads_asked h)
+Follow h = (write_answers h ≤ write_requests h) × (read_answers h ≤ read_requests h)
 
 held_follow : (bus : ℕ) (k : Kept) (h : List PortRound) → Held bus k h → Follow h
 held_follow bus k h held =

@@ -10,8 +10,7 @@ use Rattle.std.proofs.lemmas.Iterator.Adapters.{position_from-zero}
 use Rattle.axi_history.specs.declared.port.RawAddr.{RawAddr}
 use Rattle.axi_history.specs.declared.port.RawB.{RawB}
 use Rattle.axi_history.specs.PortRules.{writes_of, responses_of, is_not_exokay, least_broken}
-use Rattle.port_rules.specs.Kept.{without_first, response_fault}
-use Rattle.port_rules.specs.Transfers.{Open, with_address, with_last}
+use Rattle.port_rules.specs.OpenWrites.{OpenWrites, without_first, response_fault, with_issue, with_last}
 use Rattle.port_rules.specs.WritesHeld.{times, WritesHeld}
 
 -- ---- lists
@@ -132,7 +131,7 @@ pub writes_start : WritesHeld (record { issued = []; surplus = 0; whole = [] }) 
 writes_start = record { issued = refl; surplus = refl; each = λ id. refl; all = refl }
 
 -- the rules of a response, as they are judged by what is kept
-pub judges_response : (o : Open) (addresses : List RawAddr) (lasts : ℕ) (responses : List RawB) (b : RawB) → WritesHeld o addresses lasts responses →
+pub judges_response : (o : OpenWrites) (addresses : List RawAddr) (lasts : ℕ) (responses : List RawB) (b : RawB) → WritesHeld o addresses lasts responses →
     response_fault o.whole b
     ≡ least_broken ((8, is_not_exokay b.resp) ∷ (11, ltb (length (responses_of b.id responses)) (length (writes_of b.id (take lasts addresses)))) ∷ [])
 judges_response o addresses lasts responses b held =
@@ -151,7 +150,7 @@ first_length : (xs : List RawAddr) → length (take 1 (map id_of xs)) ≡ length
 first_length [] = refl
 first_length (a ∷ more) = refl
 
-pub last_kept : (o : Open) (addresses : List RawAddr) (lasts : ℕ) (responses : List RawB) → WritesHeld o addresses lasts responses → WritesHeld (with_last o) addresses (lasts + 1) responses
+pub last_kept : (o : OpenWrites) (addresses : List RawAddr) (lasts : ℕ) (responses : List RawB) → WritesHeld o addresses lasts responses → WritesHeld (with_last o) addresses (lasts + 1) responses
 last_kept o addresses lasts responses held =
     let issued : length o.issued ≡ length addresses - lasts = ap length held.issued ∙ ids_length (drop lasts addresses) ∙ length-drop lasts addresses in
     let s = held.surplus in
@@ -177,7 +176,7 @@ last_kept o addresses lasts responses held =
           omega arith;
     }
 
-surplus_kept : (o : Open) (addresses : List RawAddr) (lasts : ℕ) (responses : List RawB) (a : RawAddr) → WritesHeld o addresses lasts responses → ltb 0 o.surplus ≡ true → WritesHeld (with_address a.id o) (addresses ++ a ∷ []) lasts responses
+surplus_kept : (o : OpenWrites) (addresses : List RawAddr) (lasts : ℕ) (responses : List RawB) (a : RawAddr) → WritesHeld o addresses lasts responses → ltb 0 o.surplus ≡ true → WritesHeld (with_issue a.id o) (addresses ++ a ∷ []) lasts responses
 surplus_kept o addresses lasts responses a held e =
     let s = held.surplus in
     let some : 0 < o.surplus = ltb-true 0 o.surplus e in
@@ -200,7 +199,7 @@ surplus_kept o addresses lasts responses a held e =
           rw e (let goal : length (o.whole ++ a.id ∷ []) + length responses ≡ length (take lasts (addresses ++ a ∷ [])) = omega arith in goal);
     }
 
-issue_kept : (o : Open) (addresses : List RawAddr) (lasts : ℕ) (responses : List RawB) (a : RawAddr) → WritesHeld o addresses lasts responses → ltb 0 o.surplus ≡ false → WritesHeld (with_address a.id o) (addresses ++ a ∷ []) lasts responses
+issue_kept : (o : OpenWrites) (addresses : List RawAddr) (lasts : ℕ) (responses : List RawB) (a : RawAddr) → WritesHeld o addresses lasts responses → ltb 0 o.surplus ≡ false → WritesHeld (with_issue a.id o) (addresses ++ a ∷ []) lasts responses
 issue_kept o addresses lasts responses a held e =
     let s = held.surplus in
     let none : o.surplus ≡ 0 = grind (arith, nat_tests) in
@@ -214,7 +213,7 @@ issue_kept o addresses lasts responses a held e =
       all = rw e (held.all ∙ ap (λ (xs : List RawAddr). length xs) (sym took));
     }
 
-pub address_kept : (o : Open) (addresses : List RawAddr) (lasts : ℕ) (responses : List RawB) (a : RawAddr) → WritesHeld o addresses lasts responses → WritesHeld (with_address a.id o) (addresses ++ a ∷ []) lasts responses
+pub address_kept : (o : OpenWrites) (addresses : List RawAddr) (lasts : ℕ) (responses : List RawB) (a : RawAddr) → WritesHeld o addresses lasts responses → WritesHeld (with_issue a.id o) (addresses ++ a ∷ []) lasts responses
 address_kept o addresses lasts responses a held =
     elim (cases_Bool (ltb 0 o.surplus)) [
       | inl e ↦ surplus_kept o addresses lasts responses a held e
@@ -227,7 +226,7 @@ response_counted id responses b e = responses_more id responses (b ∷ []) ∙ r
 response_other : (id : ℕ) (responses : List RawB) (b : RawB) → (b.id == id) ≡ false → length (responses_of id (responses ++ b ∷ [])) ≡ length (responses_of id responses) + 0
 response_other id responses b e = responses_more id responses (b ∷ []) ∙ rw e refl
 
-pub response_kept : (o : Open) (addresses : List RawAddr) (lasts : ℕ) (responses : List RawB) (b : RawB) → WritesHeld o addresses lasts responses →
+pub response_kept : (o : OpenWrites) (addresses : List RawAddr) (lasts : ℕ) (responses : List RawB) (b : RawB) → WritesHeld o addresses lasts responses →
     ltb (length (responses_of b.id responses)) (length (writes_of b.id (take lasts addresses))) ≡ true → WritesHeld (record o { whole = without_first b.id o.whole }) addresses lasts (responses ++ b ∷ [])
 response_kept o addresses lasts responses b held less =
     let l = ltb-true _ _ less in
@@ -255,7 +254,7 @@ response_kept o addresses lasts responses b held less =
     }
 
 -- each write that is kept lacks its response
-pub writes_counted : (o : Open) (addresses : List RawAddr) (lasts : ℕ) (responses : List RawB) → WritesHeld o addresses lasts responses → length o.issued + length o.whole + length responses ≡ length addresses
+pub writes_counted : (o : OpenWrites) (addresses : List RawAddr) (lasts : ℕ) (responses : List RawB) → WritesHeld o addresses lasts responses → length o.issued + length o.whole + length responses ≡ length addresses
 writes_counted o addresses lasts responses held =
     let issued : length o.issued ≡ length (drop lasts addresses) = ap length held.issued ∙ ids_length (drop lasts addresses) in
     let whole = held.all in

@@ -1,80 +1,95 @@
--- What a checker keeps of a history, and how one more beat changes it: plain lists of what is outstanding.
-use Rattle.std.specs.Prelude.{ℕ, ◌+◌, ◌^◌, ◌==◌, ◌&&◌, ◌++◌, ◌∷◌, [], List, Bool, true, false, Option, None, is_some, length, position, nat_lt, if◌then◌else◌}
+-- What a checker keeps, how it judges a round by it, and what it keeps after a round that breaks no rule.
+use Rattle.std.specs.Prelude.{ℕ, ◌++◌, List, Option}
+use Rattle.std.specs.Option.{option_map}
 use Rattle.axi_beats.specs.declared.beat.WBeat.{WBeat}
+use Rattle.axi_history.specs.declared.port.PortRound.{PortRound}
 use Rattle.axi_history.specs.declared.port.RawAddr.{RawAddr}
-use Rattle.axi_history.specs.declared.port.RawB.{RawB}
-use Rattle.axi_history.specs.PortRules.{least_broken, each_beat, keeps_address_rules, has_last_where_due, has_strobes_on_valid_lanes, is_not_exokay}
+use Rattle.axi_history.specs.PortHistory.{offer_of, transfer_of, wait_of}
+use Rattle.axi_history.specs.PortRules.{same_address, same_data, same_response, same_read, handshake_rules, rules_of_offer, address_rules, least_broken, or_else}
+use Rattle.port_rules.specs.declared.state.Bursts.{Bursts}
+use Rattle.port_rules.specs.declared.outstanding.Waits.{Waits}
+use Rattle.port_rules.specs.declared.reads.Read.{Read}
+use Rattle.port_rules.specs.declared.state.PortChecker.{PortChecker}
+use Rattle.port_rules.specs.Offers.{new_offer, fault_of_offer}
+use Rattle.port_rules.specs.OpenReads.{read_fault, add_ar, add_r}
+use Rattle.port_rules.specs.OpenWrites.{OpenWrites, open_writes, response_fault, add_aw, add_last, add_b}
+use Rattle.port_rules.specs.Unpaired.{Unpaired, with_offers, data_fault}
 
--- ---- W beats and addresses: `addresses` are those offered whose burst is not whole, `passed` counts the beats
--- that were offered of the first one's burst, and `beats` are those that were offered before their address
+-- the beats that wait, the addresses and W beats without each other, and the writes and reads without an answer
+pub record Kept : Type 0 where
+  pub waits : Waits
+  pub unpaired : Unpaired
+  pub writes : OpenWrites
+  pub reads : List Read
 
--- an address whose beats can be judged
-abbrev pub is_usable : ℕ → RawAddr → Bool
-is_usable bus a = keeps_address_rules bus a && nat_lt a.addr (2 ^ 63)
+abbrev pub unpaired_in : Bursts → Unpaired
+unpaired_in b = record { addresses = b.addresses.items; passed = b.passed; beats = b.beats.items }
 
--- the beats up to the first that has `last`, those after it, and whether there is one
-abbrev pub first_burst : List WBeat → List WBeat
-first_burst [] = []
-first_burst (w ∷ more) = if w.last then w ∷ [] else w ∷ first_burst more
+abbrev pub kept_of : PortChecker → Kept
+kept_of c = record {
+  waits = c.waits;
+  unpaired = unpaired_in c.bursts;
+  writes = open_writes c.writes;
+  reads = c.reads.reads.items;
+}
 
-abbrev pub after_first : List WBeat → List WBeat
-after_first [] = []
-after_first (w ∷ more) = if w.last then more else after_first more
+-- a rule that is broken, with its channel
+abbrev pub on_fault : ℕ → Option ℕ → Option (ℕ × ℕ)
+on_fault channel rule = option_map (λ r. (channel, r)) rule
 
-abbrev pub has_whole : List WBeat → Bool
-has_whole [] = false
-has_whole (w ∷ more) = if w.last then true else has_whole more
+-- the address and the W beat that a round offers and that didn't wait
+abbrev pub new_aw : Kept → PortRound → Option RawAddr
+new_aw k r = new_offer k.waits.aw (offer_of r.aw)
 
--- the least of rules 9 and 10 that some beats of an address break, of which the first one is beat n
-abbrev pub beats_fault : ℕ → RawAddr → ℕ → Bool → List WBeat → Option ℕ
-beats_fault bus a n strobes beats =
-    least_broken ((9, each_beat (has_last_where_due a) n beats) ∷ (10, strobes && each_beat (has_strobes_on_valid_lanes bus a) n beats) ∷ [])
+abbrev pub new_w : Kept → PortRound → Option WBeat
+new_w k r = new_offer k.waits.w (offer_of r.w)
 
--- A new address. It breaks rule 9 or 10 only by beats that came before it, and has such beats only where no earlier
--- address lacks beats.
-abbrev pub early_beats_fault : ℕ → List RawAddr → List WBeat → RawAddr → Option ℕ
-early_beats_fault bus [] beats a = beats_fault bus a 0 true (first_burst beats)
-early_beats_fault bus (first ∷ more) beats a = None
+-- the least rule that a round breaks on each channel
+abbrev pub aw_fault : ℕ → Kept → PortRound → Option ℕ
+aw_fault bus k r =
+    least_broken (
+    handshake_rules same_address k.waits.aw (offer_of r.aw) ++ rules_of_offer (offer_of r.aw) (address_rules bus))
 
-abbrev pub addresses_with : List RawAddr → List WBeat → RawAddr → List RawAddr
-addresses_with [] beats a = if has_whole beats then [] else a ∷ []
-addresses_with (first ∷ more) beats a = (first ∷ more) ++ a ∷ []
+abbrev pub w_fault : ℕ → Kept → PortRound → Option ℕ
+w_fault bus k r =
+    or_else
+    (least_broken (handshake_rules same_data k.waits.w (offer_of r.w)))
+    (data_fault bus (new_aw k r) (new_w k r) k.unpaired)
 
-abbrev pub passed_with : List RawAddr → List WBeat → ℕ → ℕ
-passed_with [] beats passed = if has_whole beats then passed else length beats
-passed_with (first ∷ more) beats passed = passed
+abbrev pub b_fault : Kept → PortRound → Option ℕ
+b_fault k r =
+    or_else
+    (least_broken (handshake_rules same_response k.waits.b (offer_of r.b)))
+    (fault_of_offer (offer_of r.b) (response_fault k.writes.whole))
 
-abbrev pub beats_with : List RawAddr → List WBeat → List WBeat
-beats_with [] beats = after_first beats
-beats_with (first ∷ more) beats = beats
+abbrev pub ar_fault : ℕ → Kept → PortRound → Option ℕ
+ar_fault bus k r =
+    least_broken (
+    handshake_rules same_address k.waits.ar (offer_of r.ar) ++ rules_of_offer (offer_of r.ar) (address_rules bus))
 
--- a new W beat, which belongs to the oldest address that lacks beats, if there is one
-abbrev pub beat_fault : ℕ → List RawAddr → ℕ → WBeat → Option ℕ
-beat_fault bus [] passed w = None
-beat_fault bus (a ∷ more) passed w =
-    least_broken ((9, has_last_where_due a passed w) ∷ (10, has_strobes_on_valid_lanes bus a passed w) ∷ [])
+abbrev pub r_fault : Kept → PortRound → Option ℕ
+r_fault k r =
+    or_else
+    (least_broken (handshake_rules same_read k.waits.r (offer_of r.r)))
+    (fault_of_offer (offer_of r.r) (read_fault k.reads))
 
-abbrev pub addresses_after : List RawAddr → WBeat → List RawAddr
-addresses_after [] w = []
-addresses_after (a ∷ more) w = if w.last then more else a ∷ more
+-- the least channel on which a round breaks a rule, and the least such rule
+abbrev pub kept_fault : ℕ → Kept → PortRound → Option (ℕ × ℕ)
+kept_fault bus k r =
+    or_else (on_fault 1 (aw_fault bus k r))
+    (or_else (on_fault 2 (w_fault bus k r))
+    (or_else (on_fault 3 (b_fault k r))
+    (or_else (on_fault 4 (ar_fault bus k r))
+    (on_fault 5 (r_fault k r)))))
 
-abbrev pub passed_after : List RawAddr → ℕ → WBeat → ℕ
-passed_after [] passed w = passed
-passed_after (a ∷ more) passed w = if w.last then 0 else passed + 1
+-- what is kept after a round that breaks no rule
+abbrev pub waits_after : PortRound → Waits
+waits_after r = record { aw = wait_of r.aw; w = wait_of r.w; b = wait_of r.b; ar = wait_of r.ar; r = wait_of r.r }
 
-abbrev pub beats_after : List RawAddr → List WBeat → WBeat → List WBeat
-beats_after [] beats w = beats ++ w ∷ []
-beats_after (a ∷ more) beats w = beats
-
--- ---- Writes: `issued` are the IDs of the addresses transferred whose last W beat is not, `surplus` counts the last
--- W beats transferred whose address is not, and `whole` are the IDs of the writes that wait for their response
-
--- the least of rules 8 and 11 that a response breaks
-abbrev pub response_fault : List ℕ → RawB → Option ℕ
-response_fault whole b =
-    least_broken ((8, is_not_exokay b.resp) ∷ (11, is_some (position (λ id. id == b.id) whole)) ∷ [])
-
--- a list of IDs without the first one that is this ID
-abbrev pub without_first : ℕ → List ℕ → List ℕ
-without_first id [] = []
-without_first id (other ∷ more) = if other == id then more else other ∷ without_first id more
+abbrev pub kept_after : Kept → PortRound → Kept
+kept_after k r = record {
+  waits = waits_after r;
+  unpaired = with_offers (new_aw k r) (new_w k r) k.unpaired;
+  writes = add_aw (transfer_of r.aw) (add_last (transfer_of r.w) (add_b (transfer_of r.b) k.writes));
+  reads = add_ar (transfer_of r.ar) (add_r (transfer_of r.r) k.reads);
+}

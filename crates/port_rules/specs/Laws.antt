@@ -2,7 +2,7 @@
 use Rattle.std.specs.Prelude.{◌≡◌, ℕ, ◌≤◌, List, None, length, take}
 use Rattle.axi_history.specs.declared.port.PortRound.{PortRound}
 use Rattle.axi_history.specs.PortRules.{axi4_history_fault}
-use Rattle.port_rules.specs.Unanswered.{legal_beginning, writes_asked, writes_answered, reads_asked, reads_answered}
+use Rattle.port_rules.specs.Unanswered.{legal_beginning, write_requests, write_answers, read_requests, read_answers}
 
 -- a beginning of a history that breaks no rule, such that no longer beginning breaks none
 pub record IsLongestLegal (bus : ℕ) (beginning history : List PortRound) : Type 0 where
@@ -25,4 +25,4 @@ LegalHistoryIsWhole =
 abbrev pub AnswersFollowRequests : Type 0
 AnswersFollowRequests =
     (bus : ℕ) (history : List PortRound) → axi4_history_fault bus history ≡ None →
-    (writes_answered history ≤ writes_asked history) × (reads_answered history ≤ reads_asked history)
+    (write_answers history ≤ write_requests history) × (read_answers history ≤ read_requests history)

@@ -18,24 +18,24 @@ abbrev pub legal_beginning : ℕ → List PortRound → List PortRound
 legal_beginning bus history = before_fault (axi4_fault bus) [] history
 
 -- the transfers that make and that end a request: AW and B, AR and the beat of R with `last`
-abbrev pub writes_asked : List PortRound → ℕ
-writes_asked rounds = length (transferred on_aw rounds)
+abbrev pub write_requests : List PortRound → ℕ
+write_requests rounds = length (transferred on_aw rounds)
 
-abbrev pub writes_answered : List PortRound → ℕ
-writes_answered rounds = length (transferred on_b rounds)
+abbrev pub write_answers : List PortRound → ℕ
+write_answers rounds = length (transferred on_b rounds)
 
-abbrev pub reads_asked : List PortRound → ℕ
-reads_asked rounds = length (transferred on_ar rounds)
+abbrev pub read_requests : List PortRound → ℕ
+read_requests rounds = length (transferred on_ar rounds)
 
-abbrev pub reads_answered : List PortRound → ℕ
-reads_answered rounds = count_by (λ (beat : RawR). beat.last) (transferred on_r rounds)
+abbrev pub read_answers : List PortRound → ℕ
+read_answers rounds = count_by (λ (beat : RawR). beat.last) (transferred on_r rounds)
 
 -- The requests less their answers, in the rounds before the first one that breaks a rule. By rule 11
 -- there are no more answers than requests there.
 abbrev pub unanswered_writes : ℕ → List PortRound → ℕ
 unanswered_writes bus history =
-    let rounds = legal_beginning bus history in writes_asked rounds - writes_answered rounds
+    let rounds = legal_beginning bus history in write_requests rounds - write_answers rounds
 
 abbrev pub unanswered_reads : ℕ → List PortRound → ℕ
 unanswered_reads bus history =
-    let rounds = legal_beginning bus history in reads_asked rounds - reads_answered rounds
+    let rounds = legal_beginning bus history in read_requests rounds - read_answers rounds

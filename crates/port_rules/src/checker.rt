@@ -4,17 +4,16 @@ ghost use Rattle.std.specs.VecDeque.{deque_len, deque_capacity};
 ghost use Rattle.axi_beats.specs.Bus.{IsBusWidth};
 ghost use Rattle.axi_history.specs.PortRules.{axi4_history_fault};
 ghost use Rattle.axi_history.specs.declared.port.PortRound.{PortRound as Round};
-ghost use Rattle.port_rules.specs.Checked.{kept_fault, kept_after, HasSmallAddresses};
-ghost use Rattle.port_rules.specs.StandsFor.{StandsFor, kept_of, port_of, rounds_of};
+ghost use Rattle.port_rules.specs.Kept.{kept_of, kept_fault, kept_after, unpaired_in};
+ghost use Rattle.port_rules.specs.StandsFor.{HasSmallAddresses, StandsFor, checked_port, rounds_of};
 ghost use Rattle.port_rules.specs.Unanswered.{unanswered_writes, unanswered_reads};
 
-use crate::bursts::Bursts;
 use crate::outstanding::{
     Waits, address_channel_fault, data_channel_fault, read_channel_fault, response_channel_fault,
     transfer_reads, transfer_writes,
 };
 use crate::reads::Reads;
-use crate::state::{PortChecker, RuleFault};
+use crate::state::{Bursts, PortChecker, RuleFault};
 use crate::writes::Writes;
 use axi_beats::NoMemory;
 use axi_history::{PortKind, PortRound};
@@ -26,7 +25,7 @@ impl PortChecker {
         requires kind { port.lite ≡ false }
         requires bus { IsBusWidth port.bus }
         ensures stands { StandsFor result [] }
-        ensures port { port_of result ≡ port }
+        ensures port { checked_port result ≡ port }
         ensures rounds { rounds_of result ≡ 0 }
     {
         PortChecker {
@@ -78,12 +77,8 @@ impl PortChecker {
         ensures writes { self.new.writes ≡ self.old.writes }
         ensures reads { self.new.reads ≡ self.old.reads }
         ensures fault { result ≡ kept_fault self.old.port.bus (kept_of self.old) r.now }
-        ensures addresses { IfNone result
-            (self.new.bursts.addresses.items ≡ (kept_after (kept_of self.old) r.now).addresses) }
-        ensures passed { IfNone result
-            (self.new.bursts.passed ≡ (kept_after (kept_of self.old) r.now).passed) }
-        ensures beats { IfNone result
-            (self.new.bursts.beats.items ≡ (kept_after (kept_of self.old) r.now).beats) }
+        ensures unpaired { IfNone result
+            (unpaired_in self.new.bursts ≡ (kept_after (kept_of self.old) r.now).unpaired) }
     {
         if let Some(rule) = address_channel_fault(&self.waits.aw, &r.aw, self.port.bus) {
             return Some((1, rule));
@@ -136,10 +131,10 @@ impl PortChecker {
     /// round that breaks one, has the least channel and its least rule, and comes again from then
     /// on. NoMemory says that the round wasn't added.
     pub fn round(&mut self, r: &PortRound) -> Result<(), RuleFault>
-        requires kind { r.now.kind ≡ port_of self.old }
+        requires kind { r.now.kind ≡ checked_port self.old }
         requires addresses { HasSmallAddresses r.now }
         requires rounds { rounds_of self.old < 2 ^ 31 }
-        ensures port { port_of self.new ≡ port_of self.old }
+        ensures port { checked_port self.new ≡ checked_port self.old }
         ensures rounds { rounds_of self.new ≤ rounds_of self.old + 1 }
 
         // What it stands for: the longer history, and without memory the same one.
@@ -150,12 +145,12 @@ impl PortChecker {
 
         // Each answer says what the history breaks first.
         ensures legal { IsOk result → (h : List Round) → StandsFor self.old h →
-            axi4_history_fault (port_of self.old).bus (h ++ r.now ∷ []) ≡ None }
+            axi4_history_fault (checked_port self.old).bus (h ++ r.now ∷ []) ≡ None }
         ensures broken { (rule channel : ℕ) → result ≡ Err (RuleFault.Broken rule channel) →
             (h : List Round) → StandsFor self.old h →
-            axi4_history_fault (port_of self.old).bus (h ++ r.now ∷ []) ≡ Some (channel, rule) }
+            axi4_history_fault (checked_port self.old).bus (h ++ r.now ∷ []) ≡ Some (channel, rule) }
         ensures stays { (rule channel : ℕ) (h : List Round) → StandsFor self.old h →
-            axi4_history_fault (port_of self.old).bus h ≡ Some (channel, rule) →
+            axi4_history_fault (checked_port self.old).bus h ≡ Some (channel, rule) →
             result ≡ Err (RuleFault.Broken rule channel) }
     {
         if let Some((channel, rule)) = self.fault {
@@ -180,9 +175,9 @@ impl PortChecker {
     /// round transfers at most one request of each kind, they fit. It takes no memory.
     pub fn unanswered(&self) -> (u32, u32)
         ensures writes { (h : List Round) → StandsFor self.now h →
-            result.0 ≡ unanswered_writes (port_of self.now).bus h }
+            result.0 ≡ unanswered_writes (checked_port self.now).bus h }
         ensures reads { (h : List Round) → StandsFor self.now h →
-            result.1 ≡ unanswered_reads (port_of self.now).bus h }
+            result.1 ≡ unanswered_reads (checked_port self.now).bus h }
     {
         (self.writes.unanswered(), self.reads.unanswered())
     }

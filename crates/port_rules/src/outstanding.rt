@@ -5,18 +5,17 @@ ghost use Rattle.std.specs.Option.{ForSome};
 ghost use Rattle.std.specs.VecDeque.{deque_len, deque_capacity};
 ghost use Rattle.axi_history.specs.PortHistory.{offer_of, transfer_of};
 ghost use Rattle.axi_history.specs.PortRules.{same_address, same_data, same_response, same_read, handshake_rules, rules_of_offer, address_rules, least_broken, or_else};
-ghost use Rattle.port_rules.specs.Checked.{waits_after};
-ghost use Rattle.port_rules.specs.Kept.{is_usable, response_fault};
-ghost use Rattle.port_rules.specs.Reads.{read_fault};
+ghost use Rattle.port_rules.specs.Kept.{unpaired_in, waits_after};
+ghost use Rattle.port_rules.specs.OpenReads.{read_fault, add_ar, add_r};
+ghost use Rattle.port_rules.specs.OpenWrites.{open_writes, response_fault, add_aw, add_last, add_b};
+ghost use Rattle.port_rules.specs.Unpaired.{is_usable, with_offers, data_fault};
 ghost use Rattle.port_rules.specs.Offers.{new_offer as new_offer_of, fault_of_offer};
-ghost use Rattle.port_rules.specs.Transfers.{writes_of, add_aw, add_last, add_b, add_ar, add_r};
-ghost use Rattle.port_rules.specs.Judged.{data_fault, addresses_then, passed_then, beats_then, addresses_done, passed_done, beats_done};
 
 use crate::address::address_fault;
-use crate::bursts::Bursts;
 use crate::offer::{new_offer, transferred, waiting};
 use crate::payload::handshake_fault;
 use crate::reads::Reads;
+use crate::state::Bursts;
 use crate::writes::Writes;
 use axi_beats::{NoMemory, WBeat};
 use axi_history::{PortRound, RawAddr, RawB, RawR, Seen};
@@ -92,23 +91,10 @@ pub(crate) fn data_channel_fault(bursts: &mut Bursts, waits: &Waits, r: &PortRou
         let w = new_offer_of waits.now.w (offer_of r.now.w) in
         result ≡ or_else
         (least_broken (handshake_rules same_data waits.now.w (offer_of r.now.w)))
-        (data_fault bursts.old.bus aw w
-        bursts.old.addresses.items bursts.old.passed bursts.old.beats.items) }
-    ensures addresses { let aw = new_offer_of waits.now.aw (offer_of r.now.aw) in
+        (data_fault bursts.old.bus aw w (unpaired_in bursts.old)) }
+    ensures kept { let aw = new_offer_of waits.now.aw (offer_of r.now.aw) in
         let w = new_offer_of waits.now.w (offer_of r.now.w) in
-        let addresses = addresses_then aw bursts.old.addresses.items bursts.old.beats.items in
-        IfNone result (bursts.new.addresses.items ≡ addresses_done w addresses) }
-    ensures passed { let aw = new_offer_of waits.now.aw (offer_of r.now.aw) in
-        let w = new_offer_of waits.now.w (offer_of r.now.w) in
-        let addresses = addresses_then aw bursts.old.addresses.items bursts.old.beats.items in
-        let passed =
-        passed_then aw bursts.old.addresses.items bursts.old.beats.items bursts.old.passed in
-        IfNone result (bursts.new.passed ≡ passed_done w addresses passed) }
-    ensures beats { let aw = new_offer_of waits.now.aw (offer_of r.now.aw) in
-        let w = new_offer_of waits.now.w (offer_of r.now.w) in
-        let addresses = addresses_then aw bursts.old.addresses.items bursts.old.beats.items in
-        let beats = beats_then aw bursts.old.addresses.items bursts.old.beats.items in
-        IfNone result (bursts.new.beats.items ≡ beats_done w addresses beats) }
+        IfNone result (unpaired_in bursts.new ≡ with_offers aw w (unpaired_in bursts.old)) }
 {
     if let Some(rule) = handshake_fault(&waits.w, &r.w) {
         return Some(rule);
@@ -165,8 +151,8 @@ pub(crate) fn transfer_writes(writes: &mut Writes, r: &PortRound)
     ensures surplus { writes.new.surplus ≤ writes.old.surplus + 1 }
     ensures count { length writes.new.issued.items + length writes.new.whole.items
         ≤ length writes.old.issued.items + length writes.old.whole.items + 1 }
-    ensures writes { let answered = add_b (transfer_of r.now.b) (writes_of writes.old) in
-        writes_of writes.new ≡
+    ensures writes { let answered = add_b (transfer_of r.now.b) (open_writes writes.old) in
+        open_writes writes.new ≡
         add_aw (transfer_of r.now.aw) (add_last (transfer_of r.now.w) answered) }
 {
     if let Some(b) = transferred(&r.b) {

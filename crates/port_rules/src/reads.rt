@@ -1,7 +1,7 @@
 //! Reads that aren't answered in full, for rules 11 and 12. (Arm IHI 0022, read data channel and
 //! transaction identifiers.)
 ghost use Rattle.std.specs.Prelude.{◌≡◌, ◌+◌, ◌<◌, ◌≤◌, ◌^◌, ◌∷◌, ◌++◌, [], ◌==◌, length, position, Option, None, OnOk, vec_len, vec_capacity};
-ghost use Rattle.port_rules.specs.Reads.{left_of, read_fault, read_one, pending};
+ghost use Rattle.port_rules.specs.OpenReads.{beats_lacking, new_read, read_fault, with_beat_of};
 
 use axi_beats::NoMemory;
 use axi_history::{RawAddr, RawR};
@@ -63,7 +63,7 @@ impl Reads {
     /// How many beats are left of the oldest read of an ID.
     #[tactic(auto, using(crate::proofs::PlaceLemmas::left_at, crate::proofs::PlaceLemmas::left_nowhere,))]
     fn left(&self, id: u32) -> Option<u32>
-        ensures { result ≡ left_of id self.now.reads.items }
+        ensures { result ≡ beats_lacking id self.now.reads.items }
     {
         let place = self.place(id)?;
         Some(self.reads[place].left)
@@ -72,7 +72,7 @@ impl Reads {
     /// An address was transferred.
     pub(crate) fn address(&mut self, a: &RawAddr)
         requires { vec_len self.old.reads < vec_capacity self.old.reads }
-        ensures { self.new.reads.items ≡ self.old.reads.items ++ pending a.now ∷ [] }
+        ensures { self.new.reads.items ≡ self.old.reads.items ++ new_read a.now ∷ [] }
     {
         self.reads.push_reserved(Read {
             id: a.id,
@@ -83,7 +83,7 @@ impl Reads {
     /// A read beat was transferred: it belongs to the oldest read of its ID.
     #[tactic(auto, using(crate::proofs::PlaceLemmas::read_removed, crate::proofs::PlaceLemmas::read_counted, crate::proofs::PlaceLemmas::read_absent,))]
     pub(crate) fn beat(&mut self, id: u32)
-        ensures reads { self.new.reads.items ≡ read_one id self.old.reads.items }
+        ensures reads { self.new.reads.items ≡ with_beat_of id self.old.reads.items }
         ensures room { vec_capacity self.new.reads ≡ vec_capacity self.old.reads }
         ensures length { vec_len self.new.reads ≤ vec_len self.old.reads }
     {

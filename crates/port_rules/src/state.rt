@@ -1,11 +1,15 @@
 //! What a checker keeps of the rounds of its port, and what it tells of a round.
-ghost use Rattle.std.specs.Prelude.{◌≡◌, ◌+◌, ◌<◌, ◌≤◌, ◌^◌, length};
+ghost use Rattle.std.specs.Prelude.{◌≡◌, ◌≢◌, ◌+◌, ◌<◌, ◌≤◌, ◌^◌, [], true, length};
+ghost use Rattle.std.specs.List.{list_all};
+ghost use Rattle.axi_beats.specs.Bus.{IsBusWidth};
+ghost use Rattle.port_rules.specs.Unpaired.{is_usable};
 
-use crate::bursts::Bursts;
 use crate::outstanding::Waits;
 use crate::reads::Reads;
 use crate::writes::Writes;
-use axi_history::PortKind;
+use axi_beats::WBeat;
+use axi_history::{PortKind, RawAddr};
+use std::collections::VecDeque;
 
 /// Why a round isn't accepted.
 #[derive(Clone, Copy, Debug, PartialEq, Eq)]
@@ -15,6 +19,24 @@ pub enum RuleFault {
     Broken { rule: u8, channel: u8 },
     /// There was no memory for the round, which wasn't added.
     NoMemory,
+}
+
+/// What rules 9 and 10 need of earlier rounds. The n-th write burst belongs to the n-th address, and
+/// either may be offered first: what is kept are the addresses that still lack beats, and the beats
+/// that still lack their address. There are never both.
+#[derive(Drop)]
+pub(crate) struct Bursts {
+    pub(crate) bus: u8,
+    /// The addresses whose burst isn't whole, oldest first.
+    pub(crate) addresses: VecDeque<RawAddr>,
+    /// How many beats were offered of the oldest one's burst.
+    pub(crate) passed: u32,
+    /// The beats that have no address, oldest first.
+    pub(crate) beats: VecDeque<WBeat>,
+    ghost width: { IsBusWidth bus },
+    ghost usable: { list_all (is_usable bus) addresses.items ≡ true },
+    ghost fresh: { addresses.items ≡ [] → passed ≡ 0 },
+    ghost parted: { addresses.items ≢ [] → beats.items ≡ [] },
 }
 
 /// A checker that was given the rounds of one port, from its first round on.

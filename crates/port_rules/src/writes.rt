@@ -2,7 +2,7 @@
 //! (Arm IHI 0022, dependencies between channel handshake signals.)
 ghost use Rattle.std.specs.Prelude.{◌≡◌, ◌+◌, ◌-◌, ◌<◌, ◌≤◌, ◌^◌, ◌∷◌, ◌++◌, [], ◌==◌, length, Option, None, OnOk, if◌then◌else◌, vec_len, vec_capacity, nat_lt, take, drop, position};
 ghost use Rattle.std.specs.VecDeque.{deque_len, deque_capacity};
-ghost use Rattle.port_rules.specs.Kept.{response_fault, without_first};
+ghost use Rattle.port_rules.specs.OpenWrites.{response_fault, without_first};
 
 use axi_beats::NoMemory;
 use axi_history::RawB;

@@ -9,7 +9,7 @@ use Rattle.axi_history.specs.declared.port.PortRound.{PortRound}
 use Rattle.axi_history.specs.PortRules.{axi4_fault, axi4_history_fault}
 use Rattle.axi_history.proofs.HistoryLemmas.{fault_stays, fault_anew}
 use Rattle.port_rules.specs.declared.state.PortChecker.{PortChecker}
-use Rattle.port_rules.specs.StandsFor.{StandsFor, port_of}
+use Rattle.port_rules.specs.StandsFor.{StandsFor, checked_port}
 use Rattle.trace_judge.specs.Alike.{SameOffers, IsQuiet}
 use Rattle.trace_judge.specs.Histories.{history}
 use Rattle.trace_judge.specs.Judged.{fault_by, IsChecked, IsJudged}
@@ -41,12 +41,12 @@ fault_within : (fault : Option LinkFault) (line n : ℕ) (number : ℕ → ℕ) 
 fault_within None line n number e at = tt
 fault_within (Some f) line n number e at = (omega (arith, at.1), at.0 ∙ sym e ∙ ap number (sym at.1))
 
-module _ (c c' : PortChecker) (fault : Option LinkFault) (line k : ℕ) (r : PortRound) (shown : ℕ → PortRound) (number : ℕ → ℕ) (port : port_of c' ≡ port_of c)
+module _ (c c' : PortChecker) (fault : Option LinkFault) (line k : ℕ) (r : PortRound) (shown : ℕ → PortRound) (number : ℕ → ℕ) (port : checked_port c' ≡ checked_port c)
     (added : (h : List PortRound) → StandsFor c h → StandsFor c' (h ++ r ∷ []))
-    (told : (h : List PortRound) → StandsFor c h → axi4_history_fault (port_of c).bus (h ++ r ∷ []) ≡ told_by fault) where
+    (told : (h : List PortRound) → StandsFor c h → axi4_history_fault (checked_port c).bus (h ++ r ∷ []) ≡ told_by fault) where
   judged_suc : SameOffers (shown (suc k)) r → number (suc k) ≡ line → IsAt fault line (suc k) → IsJudged c None k shown number → IsJudged c' fault (suc k) shown number
   judged_suc same is at j =
-      let bus : ℕ = (port_of c).bus in
+      let bus : ℕ = (checked_port c).bus in
       let old : IsChecked c (history shown k) = j.checked refl in
       let legal : axi4_history_fault bus (history shown k) ≡ None = j.told k (omega arith) in
       let now : axi4_fault bus old.given r ≡ told_by fault = sym (fault_anew bus old.given r old.legal) ∙ told old.given old.stands in
@@ -79,7 +79,7 @@ fault_later f n h = ap (λ b. if b then None else Some (f.channel, f.rule)) (le-
 
 broken_suc : (c : PortChecker) (f : LinkFault) (k : ℕ) (shown : ℕ → PortRound) (number : ℕ → ℕ) → IsJudged c (Some f) k shown number → IsJudged c (Some f) (suc k) shown number
 broken_suc c f k shown number j =
-    let bus : ℕ = (port_of c).bus in
+    let bus : ℕ = (checked_port c).bus in
     let within : f.round ≤ k = j.within.0 in
     let was : axi4_history_fault bus (history shown k) ≡ Some (f.channel, f.rule) = j.told k (omega arith) ∙ fault_later f k within in
     let here : axi4_history_fault bus (history shown (suc k)) ≡ Some (f.channel, f.rule) = fault_stays bus (history shown k) (shown (suc k)) (f.channel, f.rule) was in
@@ -100,7 +100,7 @@ broken_next c f k n shown number e j = subst (λ (m : ℕ). IsJudged c (Some f) 
 quiet_suc : (c : PortChecker) (fault : Option LinkFault) (k : ℕ) (shown : ℕ → PortRound) (number : ℕ → ℕ) → IsQuiet (shown (suc k)) → IsQuiet (shown (suc (suc k))) → IsJudged c fault (suc k) shown number → IsJudged c fault (suc (suc k)) shown number
 quiet_suc c (Some f) k shown number q q' j = broken_suc c f (suc k) shown number j
 quiet_suc c None k shown number q q' j =
-    let bus : ℕ = (port_of c).bus in
+    let bus : ℕ = (checked_port c).bus in
     let old : IsChecked c (history shown (suc k)) = j.checked refl in
     let legal : axi4_history_fault bus (history shown (suc k)) ≡ None = j.told (suc k) (omega arith) in
     let here : axi4_history_fault bus (history shown (suc (suc k))) ≡ None = again_same bus (history shown k) (shown (suc k)) (shown (suc (suc k))) q q' ∙ legal in
@@ -152,7 +152,7 @@ within_same (Some f) rounds number number' same w = (w.0, w.1 ∙ same f.round w
 pub judged_same : (c : PortChecker) (fault : Option LinkFault) (rounds : ℕ) (shown shown' : ℕ → PortRound) (number number' : ℕ → ℕ) → ((m : ℕ) → m ≤ rounds → shown m ≡ shown' m) → ((m : ℕ) → m ≤ rounds → number m ≡ number' m) →
     IsJudged c fault rounds shown number → IsJudged c fault rounds shown' number'
 judged_same c fault rounds shown shown' number number' same numbered j = record {
-  told = λ m h. ap (axi4_history_fault (port_of c).bus) (sym (history_same shown shown' m (λ n l. same n (omega arith)))) ∙ j.told m h;
+  told = λ m h. ap (axi4_history_fault (checked_port c).bus) (sym (history_same shown shown' m (λ n l. same n (omega arith)))) ∙ j.told m h;
   within = within_same fault rounds number number' numbered j.within;
   checked = λ none.
       let old : IsChecked c (history shown rounds) = j.checked none in

@@ -4,7 +4,7 @@ use Rattle.std.specs.List.{find}
 use Rattle.axi_history.specs.declared.port.PortKind.{PortKind}
 use Rattle.axi_history.specs.declared.port.PortRound.{PortRound}
 use Rattle.axi_history.specs.PortRules.{axi4_history_fault}
-use Rattle.port_rules.specs.StandsFor.{port_of, rounds_of}
+use Rattle.port_rules.specs.StandsFor.{checked_port, rounds_of}
 use Rattle.trace_judge.specs.Histories.{greatest_round, history, is_line_of, number_in, shown_in}
 use Rattle.trace_judge.specs.Judged.{fault_by, IsJudged}
 use Rattle.trace_judge.specs.declared.link_judge.LinkFault.{LinkFault}
@@ -12,7 +12,7 @@ use Rattle.trace_judge.specs.declared.link_judge.LinkJudge.{LinkJudge}
 
 -- a judge of a port of this kind has judged the link up to its last line
 pub record FollowsLink (judge : LinkJudge) (kind : PortKind) (lines : List PortRound) (link : ℕ) : Type 0 where
-  pub port : port_of judge.checker ≡ kind
+  pub port : checked_port judge.checker ≡ kind
   pub judged : IsJudged judge.checker judge.fault judge.rounds (shown_in lines kind link) (number_in lines link)
   pub last : (round : ℕ) → judge.rounds < round → find (is_line_of round link) lines ≡ None
   pub within : judge.rounds ≤ greatest_round lines
@@ -26,7 +26,7 @@ Follows (Some judge) kind lines link = FollowsLink judge kind lines link
 -- What a judge needs for two more rounds: those of a line and of the row before it.
 abbrev pub CanGoOn : Option LinkJudge → PortKind → Type 0
 CanGoOn None kind = Unit {0}
-CanGoOn (Some judge) kind = (port_of judge.checker ≡ kind) × (rounds_of judge.checker + 1 < 2 ^ 31)
+CanGoOn (Some judge) kind = (checked_port judge.checker ≡ kind) × (rounds_of judge.checker + 1 < 2 ^ 31)
 
 -- the last round that was judged
 abbrev pub HasJudgedTo : Option LinkJudge → ℕ → Type 0

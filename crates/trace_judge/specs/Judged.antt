@@ -3,7 +3,7 @@ use Rattle.std.specs.Prelude.{◌≡◌, ◌≤◌, ℕ, List, Option, Some, Non
 use Rattle.axi_history.specs.declared.port.PortRound.{PortRound}
 use Rattle.axi_history.specs.PortRules.{axi4_history_fault}
 use Rattle.port_rules.specs.declared.state.PortChecker.{PortChecker}
-use Rattle.port_rules.specs.StandsFor.{StandsFor, port_of}
+use Rattle.port_rules.specs.StandsFor.{StandsFor, checked_port}
 use Rattle.trace_judge.specs.Alike.{Alike}
 use Rattle.trace_judge.specs.Histories.{history}
 use Rattle.trace_judge.specs.declared.link_judge.LinkFault.{LinkFault}
@@ -18,11 +18,11 @@ pub record IsChecked (checker : PortChecker) (rounds : List PortRound) : Type 0 
   pub given : List PortRound
   pub stands : StandsFor checker given
   pub alike : Alike rounds given
-  pub legal : axi4_history_fault (port_of checker).bus given ≡ None
+  pub legal : axi4_history_fault (checked_port checker).bus given ≡ None
 
 -- Of a link that shows `shown` in each round, by the line with this number (0 for none): what is broken first in the
 -- rounds from 1 to `rounds` is kept, and as long as nothing is broken the checker serves for these rounds.
 pub record IsJudged (checker : PortChecker) (fault : Option LinkFault) (rounds : ℕ) (shown : ℕ → PortRound) (number : ℕ → ℕ) : Type 0 where
-  pub told : (n : ℕ) → n ≤ rounds → axi4_history_fault (port_of checker).bus (history shown n) ≡ fault_by fault n
+  pub told : (n : ℕ) → n ≤ rounds → axi4_history_fault (checked_port checker).bus (history shown n) ≡ fault_by fault n
   pub within : IfSome fault (λ f. (f.round ≤ rounds) × (f.line ≡ number f.round))
   pub checked : fault ≡ None → IsChecked checker (history shown rounds)

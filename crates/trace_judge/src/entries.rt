@@ -2,7 +2,7 @@
 ghost use Rattle.std.specs.Prelude.{◌≡◌, ◌≢◌, ◌<◌, ◌≤◌, ◌+◌, ◌∷◌, ◌++◌, [], ℕ, List, length, max, option_map, IfOk, OnOk, Some};
 ghost use Rattle.axi_beats.specs.Bus.{IsBusWidth};
 ghost use Rattle.axi_history.specs.declared.port.PortRound.{PortRound as Round};
-ghost use Rattle.port_rules.specs.Checked.{HasSmallAddresses};
+ghost use Rattle.port_rules.specs.StandsFor.{HasSmallAddresses};
 ghost use Rattle.trace_judge.specs.Entries.{EntryFollows, EntryTakes};
 ghost use Rattle.trace_judge.specs.Follows.{Follows, HasJudgedTo};
 ghost use Rattle.trace_judge.specs.Table.{entry_of};

@@ -6,8 +6,7 @@ ghost use Rattle.std.specs.Prelude.{◌≡◌, ◌+◌, ◌<◌, ◌≤◌, ◌^
 ghost use Rattle.axi_beats.specs.Bus.{IsBusWidth};
 ghost use Rattle.axi_history.specs.PortRules.{axi4_history_fault};
 ghost use Rattle.axi_history.specs.declared.port.PortRound.{PortRound as Round};
-ghost use Rattle.port_rules.specs.Checked.{HasSmallAddresses};
-ghost use Rattle.port_rules.specs.StandsFor.{StandsFor, port_of, rounds_of};
+ghost use Rattle.port_rules.specs.StandsFor.{HasSmallAddresses, StandsFor, checked_port, rounds_of};
 ghost use Rattle.trace_judge.specs.Alike.{IsQuiet, SameOffers};
 ghost use Rattle.trace_judge.specs.Judged.{IsJudged};
 
@@ -43,7 +42,7 @@ impl LinkJudge {
     pub(crate) fn new(alloc: Global, port: PortKind) -> LinkJudge
         requires kind { port.lite ≡ false }
         requires bus { IsBusWidth port.bus }
-        ensures port { port_of result.checker ≡ port }
+        ensures port { checked_port result.checker ≡ port }
         ensures given { rounds_of result.checker ≡ 0 }
         ensures rounds { result.rounds ≡ 0 }
         ensures judged { (shown : ℕ → Round) (number : ℕ → ℕ) →
@@ -58,10 +57,10 @@ impl LinkJudge {
 
     /// The next round, which the line with this number shows, or no line where it is 0.
     pub(crate) fn next(&mut self, r: &PortRound, line: u32) -> Result<(), NoMemory>
-        requires kind { r.now.kind ≡ port_of self.old.checker }
+        requires kind { r.now.kind ≡ checked_port self.old.checker }
         requires small { HasSmallAddresses r.now }
         requires few { rounds_of self.old.checker < 2 ^ 31 }
-        ensures port { port_of self.new.checker ≡ port_of self.old.checker }
+        ensures port { checked_port self.new.checker ≡ checked_port self.old.checker }
         ensures given { rounds_of self.new.checker ≤ rounds_of self.old.checker + 1 }
         ensures rounds { OnOk result (self.new.rounds ≡ r.now.round) }
         ensures judged { OnOk result ((shown : ℕ → Round) (number : ℕ → ℕ) → r.now.round ≡ self.old.rounds + 1 →
@@ -78,9 +77,9 @@ impl LinkJudge {
 
     /// All rounds up to this one, in which nothing is offered.
     pub(crate) fn pass(&mut self, port: PortKind, upto: u64) -> Result<(), NoMemory>
-        requires kind { port ≡ port_of self.old.checker }
+        requires kind { port ≡ checked_port self.old.checker }
         requires few { rounds_of self.old.checker < 2 ^ 31 }
-        ensures port { port_of self.new.checker ≡ port_of self.old.checker }
+        ensures port { checked_port self.new.checker ≡ checked_port self.old.checker }
         ensures given { rounds_of self.new.checker ≤ rounds_of self.old.checker + 1 }
         ensures rounds { OnOk result (self.new.rounds ≡ max self.old.rounds upto) }
         ensures judged { OnOk result ((shown : ℕ → Round) (number : ℕ → ℕ) →
@@ -115,14 +114,14 @@ fn fault_in(
     r: &PortRound,
     line: u32,
 ) -> Result<Option<LinkFault>, NoMemory>
-    requires kind { r.now.kind ≡ port_of checker.old }
+    requires kind { r.now.kind ≡ checked_port checker.old }
     requires small { HasSmallAddresses r.now }
     requires few { rounds_of checker.old < 2 ^ 31 }
-    ensures port { port_of checker.new ≡ port_of checker.old }
+    ensures port { checked_port checker.new ≡ checked_port checker.old }
     ensures given { rounds_of checker.new ≤ rounds_of checker.old + 1 }
     ensures added { OnOk result ((h : List Round) → StandsFor checker.old h → StandsFor checker.new (h ++ r.now ∷ [])) }
     ensures told { IfOk result (λ fault. (h : List Round) → StandsFor checker.old h →
-        axi4_history_fault (port_of checker.old).bus (h ++ r.now ∷ []) ≡ option_map (λ (f : _). (f.channel, f.rule)) fault) }
+        axi4_history_fault (checked_port checker.old).bus (h ++ r.now ∷ []) ≡ option_map (λ (f : _). (f.channel, f.rule)) fault) }
     ensures place { IfOk result (λ fault. IfSome fault (λ f. (f.line ≡ line) × (f.round ≡ r.now.round))) }
 {
     match checker.round(r) {

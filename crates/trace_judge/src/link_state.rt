@@ -3,7 +3,7 @@ ghost use Rattle.std.specs.Prelude.{◌≡◌, ◌<◌, ◌≤◌, ◌+◌, ◌�
 ghost use Rattle.std.specs.List.{find};
 ghost use Rattle.axi_beats.specs.Bus.{IsBusWidth};
 ghost use Rattle.axi_history.specs.declared.port.PortRound.{PortRound as Round};
-ghost use Rattle.port_rules.specs.Checked.{HasSmallAddresses};
+ghost use Rattle.port_rules.specs.StandsFor.{HasSmallAddresses};
 ghost use Rattle.trace_judge.specs.Follows.{CanGoOn, Follows, HasJudgedTo, HasNotJudged, TellsOf};
 ghost use Rattle.trace_judge.specs.Histories.{greatest_round, is_of_link};
 
