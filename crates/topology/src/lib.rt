@@ -1,8 +1,13 @@
 //! The topology: the nodes of a network as a document names them, and which documents are refused.
 #![tactic(auto)]
 
+mod element;
+mod form;
 mod kind;
 mod known;
+mod node;
+mod row;
+mod value;
 
 pub use kind::{Kind, Span};
 pub use known::known_documents;
