@@ -2,7 +2,6 @@ pub mod Document
 pub mod Form
 pub mod KnownDocuments
 pub mod Refused
-pub mod Regions
 pub mod Shape
 pub mod Seen
 pub mod Node
