@@ -8,7 +8,13 @@ use Rattle.std.specs.declared.alloc.Global.{Global}
 use Rattle.toml.specs.Data.{Data}
 use Rattle.toml.specs.View.{items_of, members_view, view}
 use Rattle.toml.specs.declared.value.Value.{Value}
-use Rattle.topology.specs.Shape.{all_read, elements, has_keys_among, kept}
+use Rattle.topology.specs.Form.{table_form}
+use Rattle.topology.specs.Node.{node_of_text, value_delays}
+use Rattle.topology.specs.Seen.{row_seen}
+use Rattle.topology.specs.Shape.{all_read, delay_of, delays_of, elements, has_keys_among, kept, node_of, range_of, region_of}
+use Rattle.topology.specs.declared.form.Presence.{Presence}
+use Rattle.topology.specs.declared.form.Presence.TheVariants.{Never, Optional, Required}
+use Rattle.topology.specs.declared.row.TextRow.{TextRow}
 
 -- the elements of a list as an array
 pub elements-items_of : (values : List Data) → elements (items_of values) ≡ values
@@ -42,3 +48,20 @@ put_found (Some x) xs ys same = ap (λ rest. x ∷ rest) same
 pub read-viewed : {X : Type 0} (read : Data → Option X) (values : List Value) → filter_map (λ value. read (view value)) values ≡ filter_map read (map view values)
 read-viewed read [] = refl
 read-viewed read (value ∷ values) = put_found (read (view value)) (filter_map (λ value. read (view value)) values) (filter_map read (map view values)) (read-viewed read values)
+
+-- the delays of a node, from values and from their data
+pub delays-viewed : (presence : Presence) (values : List Value) → value_delays presence values ≡ delays_of presence (map view values)
+delays-viewed Never [] = refl
+delays-viewed Never (value ∷ values) = read-viewed delay_of (value ∷ values)
+delays-viewed Optional [] = refl
+delays-viewed Optional (value ∷ values) = read-viewed delay_of (value ∷ values)
+delays-viewed Required [] = refl
+delays-viewed Required (value ∷ values) = read-viewed delay_of (value ∷ values)
+
+-- the node of a row
+pub node-viewed : (row : TextRow) → node_of_text row ≡ node_of (row_seen row)
+node-viewed row =
+    ap (λ xs. record (node_of_text row) { region = xs }) (read-viewed region_of row.lists.region.now)
+    ∙ ap (λ xs. record (node_of_text row) { region = filter_map region_of (map view row.lists.region.now); read_only = xs }) (read-viewed range_of row.lists.read_only.now)
+    ∙ ap (λ xs. record (node_of_text row) { region = filter_map region_of (map view row.lists.region.now); read_only = filter_map range_of (map view row.lists.read_only.now); hole = xs }) (read-viewed range_of row.lists.hole.now)
+    ∙ ap₂ (λ xs ys. record (node_of (row_seen row)) { accept = xs; give = ys }) (delays-viewed (table_form row.kind).accept row.lists.accept.now) (delays-viewed (table_form row.kind).give row.lists.give.now)

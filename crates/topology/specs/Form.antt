@@ -24,8 +24,18 @@ kind_named name =
 -- a table with none of the keys
 abbrev pub no_keys : Form
 no_keys = record {
-  to = Never; region = Never; bus = Never; id_width = Never; depth = Never; base = Never; size = Never; fill = Never; read_only = Never;
-  hole = Never; accept = Never; give = Never
+  to = Never;
+  region = Never;
+  bus = Never;
+  id_width = Never;
+  depth = Never;
+  base = Never;
+  size = Never;
+  fill = Never;
+  read_only = Never;
+  hole = Never;
+  accept = Never;
+  give = Never;
 }
 
 -- the tables of nodes that have one node below, that choose one by the address, and that answer from bytes
@@ -37,7 +47,13 @@ choosing = record no_keys { region = Required; depth = Optional }
 
 abbrev pub answering : Form
 answering = record no_keys {
-  base = Required; size = Required; fill = Optional; read_only = Optional; hole = Optional; accept = Optional; give = Optional
+  base = Required;
+  size = Required;
+  fill = Optional;
+  read_only = Optional;
+  hole = Optional;
+  accept = Optional;
+  give = Optional;
 }
 
 -- the keys of each kind, besides its name and kind

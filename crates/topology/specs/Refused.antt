@@ -1,12 +1,12 @@
 -- Which documents are refused. Each predicate is of the nodes and of one of them, by its number from 0.
-use Rattle.std.specs.Prelude.{◌≡◌, ◌==◌, ◌+◌, ◌%◌, ◌&&◌, ◌||◌, ◌++◌, ℕ, suc, List, [], ◌∷◌, Bool, true, false, Option, Some, None, length, find, map, nat_lt, nat_le, not, bytes_eq, is_none, sum, take, if◌then◌else◌}
+use Rattle.std.specs.Prelude.{◌≡◌, ◌==◌, ◌+◌, ◌%◌, ◌&&◌, ◌||◌, ◌++◌, ℕ, suc, List, [], ◌∷◌, Bool, false, Option, Some, None, length, find, map, nat_lt, nat_le, not, bytes_eq, is_none, sum, take, if◌then◌else◌}
 use Rattle.std.specs.List.{list_any}
 use Rattle.address_map.specs.Regions.{has_overlap, is_bad_span}
 use Rattle.address_map.specs.declared.region.Region.{Region}
 use Rattle.node_graph.specs.Graph.{is_on_cycle, numbers}
 use Rattle.refusals.specs.declared.cause.Cause.{Cause}
 use Rattle.refusals.specs.declared.cause.Cause.TheVariants.{DuplicateName, UnknownName, FanIn, Loose, Cycle, BadRegion, Overlap, WidthMismatch, IdOverflow, LiteMismatch, TooLarge}
-use Rattle.topology.specs.Document.{DocumentNode, LinkKind, NamedRegion, first_link, graph_of, has_regions, inputs_of, is_manager, is_memory, joins_links, link_of, named, names_of, node_at, plan_links_at, plan_nodes_at, targets_of, uppers_of}
+use Rattle.topology.specs.Document.{DocumentNode, LinkKind, NamedRegion, first_link, graph_of, inputs_of, is_manager, is_memory, joins_links, link_of, named, names_of, node_at, plan_links_at, plan_nodes_at, targets_of, uppers_of}
 use Rattle.topology.specs.declared.kind.Kind.{Kind}
 use Rattle.topology.specs.declared.kind.Kind.TheVariants.{Memory, LiteMemory, Slice, Mux, Crossbar, Up, Down, Lite}
 use Rattle.topology.specs.declared.kind.Span.{Span}

@@ -1,8 +1,6 @@
 -- What is read of a text, seen as the definitions have it.
-use Rattle.std.specs.Prelude.{List, ℕ, Option, map, option_map}
-use Rattle.toml.specs.Data.{Data, Members}
-use Rattle.toml.specs.View.{view, table_view}
-use Rattle.toml.specs.declared.value.Value.{Value}
+use Rattle.std.specs.Prelude.{map}
+use Rattle.toml.specs.View.{view}
 use Rattle.topology.specs.Shape.{Row, TableLists}
 use Rattle.topology.specs.Document.{NamedRegion}
 use Rattle.topology.specs.declared.element.TextRegion.{TextRegion}
@@ -14,8 +12,11 @@ region_seen region = record { base = region.base; size = region.size; to = regio
 
 abbrev pub lists_seen : TextLists → TableLists
 lists_seen lists = record {
-  region = map view lists.region.now; read_only = map view lists.read_only.now; hole = map view lists.hole.now; accept = map view lists.accept.now;
-  give = map view lists.give.now
+  region = map view lists.region.now;
+  read_only = map view lists.read_only.now;
+  hole = map view lists.hole.now;
+  accept = map view lists.accept.now;
+  give = map view lists.give.now;
 }
 
 abbrev pub row_seen : TextRow → Row

@@ -1,5 +1,5 @@
 -- The shape of a document: which tables are read as nodes, with which keys.
-use Rattle.std.specs.Prelude.{◌==◌, ◌+◌, ◌-◌, ◌^◌, ◌&&◌, ◌||◌, ℕ, pos, Bool, true, false, not, List, [], ◌∷◌, Option, Some, None, Result, Ok, Err, codes, filter_map, is_none, is_some, length, map, nat_le, option_map, position, suc, if◌then◌else◌}
+use Rattle.std.specs.Prelude.{◌==◌, ◌+◌, ◌-◌, ◌^◌, ◌&&◌, ◌||◌, ◌++◌, ℕ, pos, Bool, true, false, List, [], ◌∷◌, Option, Some, None, Result, Ok, Err, codes, filter_map, is_some, length, nat_le, option_map, if◌then◌else◌}
 use Rattle.std.specs.List.{list_all, list_any}
 use Rattle.std.specs.Str.{bytes_eq}
 use Rattle.axi_beats.specs.Bus.{is_bus_width}
@@ -11,7 +11,7 @@ use Rattle.topology.specs.declared.form.Form.{Form}
 use Rattle.topology.specs.declared.value.Limits.{Limits}
 use Rattle.topology.specs.declared.row.Numbers.{Numbers}
 use Rattle.topology.specs.declared.form.Presence.{Presence}
-use Rattle.topology.specs.declared.form.Presence.TheVariants.{Never, Optional, Required}
+use Rattle.topology.specs.declared.form.Presence.TheVariants.{Never, Required}
 use Rattle.topology.specs.declared.kind.Kind.{Kind}
 use Rattle.topology.specs.declared.kind.Span.{Span}
 
@@ -229,10 +229,20 @@ delays_of presence (value ∷ values) = filter_map delay_of (value ∷ values)
 -- the node of a row
 abbrev pub node_of : Row → DocumentNode
 node_of row = record {
-  name = row.name; kind = row.kind; to = row.to; region = filter_map region_of row.lists.region; bus = row.numbers.bus; id_width = row.numbers.id_width;
-  depth = row.numbers.depth; base = row.numbers.base; size = row.numbers.size; fill = row.numbers.fill; read_only = filter_map range_of row.lists.read_only;
-  hole = filter_map range_of row.lists.hole; accept = delays_of (table_form row.kind).accept row.lists.accept;
-  give = delays_of (table_form row.kind).give row.lists.give
+  name = row.name;
+  kind = row.kind;
+  to = row.to;
+  region = filter_map region_of row.lists.region;
+  bus = row.numbers.bus;
+  id_width = row.numbers.id_width;
+  depth = row.numbers.depth;
+  base = row.numbers.base;
+  size = row.numbers.size;
+  fill = row.numbers.fill;
+  read_only = filter_map range_of row.lists.read_only;
+  hole = filter_map range_of row.lists.hole;
+  accept = delays_of (table_form row.kind).accept row.lists.accept;
+  give = delays_of (table_form row.kind).give row.lists.give;
 }
 
 -- ---- the document
@@ -245,20 +255,30 @@ tables_in members = do
   kept (has_keys_among top_keys members) tables
 
 -- the node that a table is read as
+abbrev pub row_of : Data → Option Row
+row_of value = as_table value >>= row_in
+
 abbrev pub node_in : Data → Option DocumentNode
-node_in value = option_map node_of (as_table value >>= row_in)
+node_in value = option_map node_of (row_of value)
 
--- The nodes of a document, or the number of the first table that isn't of its shape, counted from 1; 0 is the top level.
-abbrev pub nodes_or_number : List Data → Option ℕ → Result (List DocumentNode) ℕ
-nodes_or_number tables None = Ok (filter_map node_in tables)
-nodes_or_number tables (Some place) = Err (suc place)
+-- The nodes that tables are read as, or the number of the first table that isn't of its shape.
+abbrev pub with_front : List DocumentNode → Result (List DocumentNode) ℕ → Result (List DocumentNode) ℕ
+with_front front (Ok nodes) = Ok (front ++ nodes)
+with_front front (Err number) = Err number
 
-abbrev pub read_tables : List Data → Result (List DocumentNode) ℕ
-read_tables tables = nodes_or_number tables (position (λ table. is_none (node_in table)) tables)
+abbrev pub and_then_nodes : ℕ → Option DocumentNode → Result (List DocumentNode) ℕ → Result (List DocumentNode) ℕ
+and_then_nodes number None more = Err number
+and_then_nodes number (Some node) more = with_front (node ∷ []) more
 
+abbrev pub read_tables : ℕ → List Data → Result (List DocumentNode) ℕ
+read_tables number [] = Ok []
+read_tables number (first ∷ tables) = and_then_nodes number (node_in first) (read_tables (number + 1) tables)
+
+-- The nodes of a document, or the number of the first table that isn't of its shape: its nodes are numbered from 1, and 0
+-- is the top level.
 abbrev pub read_top : Option (List Data) → Result (List DocumentNode) ℕ
 read_top None = Err 0
-read_top (Some tables) = read_tables tables
+read_top (Some tables) = read_tables 1 tables
 
 abbrev pub document_in : Members → Result (List DocumentNode) ℕ
 document_in members = read_top (tables_in members)

@@ -6,6 +6,7 @@ mod form;
 mod kind;
 mod known;
 mod node;
+mod read;
 mod row;
 mod value;
 

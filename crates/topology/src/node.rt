@@ -1,11 +1,9 @@
 //! The nodes of a document, as values of their own.
 
-ghost use Rattle.std.specs.Prelude.{◌≡◌, IfOk, List, [], filter_map, map};
+ghost use Rattle.std.specs.Prelude.{◌≡◌, IfOk, [], filter_map};
 ghost use Rattle.toml.specs.View.{view};
-ghost use Rattle.topology.specs.Document.{DocumentNode};
-ghost use Rattle.topology.specs.Node.{node_seen, regions_seen};
-ghost use Rattle.topology.specs.Seen.{row_seen};
-ghost use Rattle.topology.specs.Shape.{delay_of, delays_of, node_of, range_of, region_of};
+ghost use Rattle.topology.specs.Node.{node_of_text, node_seen, regions_seen, value_delays};
+ghost use Rattle.topology.specs.Shape.{delay_of, range_of, region_of};
 
 use crate::element::{delay_of, range_of, region_of};
 use crate::form::{Form, Presence};
@@ -43,7 +41,7 @@ impl Node {
     ///
     /// There was no memory for it.
     pub(crate) fn new(alloc: Global, row: &TextRow<'_>) -> Result<Node, AllocError>
-        ensures { IfOk result (λ node. node_seen node ≡ node_of (row_seen row.now)) }
+        ensures { IfOk result (λ node. node_seen node ≡ node_of_text row.now) }
     {
         let form = Form::of(row.kind);
         Ok(Node {
@@ -62,7 +60,7 @@ impl Node {
 
 // The regions among some values.
 fn copy_regions(alloc: Global, values: &[Value]) -> Result<Vec<NamedSpan>, AllocError>
-    ensures { IfOk result (λ regions. regions_seen regions.items ≡ filter_map region_of (map view values.now)) }
+    ensures { IfOk result (λ regions. regions_seen regions.items ≡ filter_map (λ value. region_of (view value)) values.now) }
 {
     let mut regions = Vec::new(alloc);
     for value in values {
@@ -85,23 +83,26 @@ fn copy_ranges(alloc: Global, values: &[Value]) -> Result<Vec<Span>, AllocError>
 }
 
 // The delays of a node, or where none are given the default of a kind that has them: no delay.
-fn copy_delays(
-    alloc: Global,
-    presence: Presence,
-    values: &[Value],
-) -> Result<Vec<u8>, AllocError>
-    ensures { IfOk result (λ delays. delays.items ≡ delays_of presence (map view values.now)) }
+fn copy_delays(alloc: Global, presence: Presence, values: &[Value]) -> Result<Vec<u8>, AllocError>
+    ensures { IfOk result (λ delays. delays.items ≡ value_delays presence values.now) }
 {
     if values.is_empty() {
         default_delays(alloc, presence)
     } else {
-        values.iter().filter_map(delay_of).collect(alloc)
+        collect_delays(alloc, values)
     }
+}
+
+// The delays among some values.
+fn collect_delays(alloc: Global, values: &[Value]) -> Result<Vec<u8>, AllocError>
+    ensures { IfOk result (λ delays. delays.items ≡ filter_map (λ value. delay_of (view value)) values.now) }
+{
+    values.iter().filter_map(delay_of).collect(alloc)
 }
 
 // The delays of a node of which none are given.
 fn default_delays(alloc: Global, presence: Presence) -> Result<Vec<u8>, AllocError>
-    ensures { IfOk result (λ delays. delays.items ≡ delays_of presence []) }
+    ensures { IfOk result (λ delays. delays.items ≡ value_delays presence []) }
 {
     match presence {
         Presence::Never => Ok(Vec::new(alloc)),

@@ -87,12 +87,7 @@ fn default_of(presence: Presence, limits: Limits) -> u64
 
 /// The number at a key, or its default.
 #[tactic(auto, unfolding(crate::specs::Shape::number_at))]
-pub(crate) fn number_at(
-    table: &Table,
-    key: &str,
-    presence: Presence,
-    limits: Limits,
-) -> Option<u64>
+pub(crate) fn number_at(table: &Table, key: &str, presence: Presence, limits: Limits) -> Option<u64>
     ensures value { result ≡ number_at key.now presence limits (table_view table.now) }
     ensures most { IfSome result (λ number. number ≤ max limits.most limits.default) }
 {

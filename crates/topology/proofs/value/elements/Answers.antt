@@ -1,5 +1,4 @@
-use Rattle.std.proofs.Common.{◌≡◌, ◌∙◌, sym, ap, Some, map, option_map}
-use Rattle.toml.specs.Data.{Items}
+use Rattle.std.proofs.Common.{◌∙◌, sym, ap, Some, map, option_map}
 use Rattle.toml.specs.View.{view}
 use Rattle.topology.specs.Shape.{elements}
 use Rattle.topology.proofs.ValueLemmas.{elements-items_of}
