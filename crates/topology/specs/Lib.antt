@@ -1,3 +1,4 @@
+pub mod Accepted
 pub mod Document
 pub mod Form
 pub mod KnownDocuments
