@@ -5,11 +5,7 @@ use Rattle.axi_beats.specs.declared.beat.WBeat.{WBeat}
 use Rattle.axi_beats.specs.declared.beat.RBeat.{RBeat}
 use Rattle.axi_beats.specs.declared.response.Resp.{Resp}
 use Rattle.plain_lists.specs.Prefixes.{IsPrefix}
-
--- the data lanes of a beat from the lowest to the highest one, both included
-pub record Span : Type 0 where
-  pub low : ℕ
-  pub high : ℕ
+use Rattle.axi_beats.specs.Lanes.{Span}
 
 -- One transaction on one link, in one direction; all lists are empty where it doesn't come by.
 pub record Share : Type 0 where

@@ -13,11 +13,12 @@ use Rattle.axi_trail.specs.Words.{Asked, Reply, number_of_address}
 use Rattle.burst_address.specs.Formulas.{size_of, beats_of}
 use Rattle.burst_address.specs.Legal.{IsLegal, is_too_wide, is_length_of, is_start_of, is_in_page}
 use Rattle.burst_address.specs.declared.rule.BurstRule.TheVariants.{Size, Length, WrapAlign, Page}
-use Rattle.link_ports.specs.PortView.{seen_address, response_code}
+use Rattle.link_ports.specs.PortView.{seen_address}
 use Rattle.plain_lists.specs.Prefixes.{IsPrefix}
 use Rattle.plain_lists.proofs.KeyLemmas.{of_key-push}
 use Rattle.plain_lists.proofs.PrefixLemmas.{All_front}
 use Rattle.plain_lists.specs.Keys.{of_key}
+use Rattle.axi_beats.specs.Codes.{response_code}
 
 -- a burst that breaks none of four rules keeps rules 3 to 8
 no_rule_broken : (wide fits starts stays : Bool) →

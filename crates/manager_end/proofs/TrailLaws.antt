@@ -12,7 +12,7 @@ use Rattle.axi_beats.specs.declared.response.Resp.{Resp}
 use Rattle.axi_link.specs.LinkView.{LinkView}
 use Rattle.burst_address.specs.Formulas.{beats_of}
 use Rattle.axi_trail.specs.LinkContracts.{Answers}
-use Rattle.axi_trail.specs.Schedule.{Schedule, Span, Progress, bytes_on}
+use Rattle.axi_trail.specs.Schedule.{Schedule, Progress, bytes_on}
 use Rattle.axi_trail.specs.Trail.{Beats}
 use Rattle.axi_trail.specs.Words.{number_of_response, number_of_read_data}
 use Rattle.manager_end.specs.Answer.{AnswerView, answered_in, is_last}
@@ -35,6 +35,7 @@ use Rattle.manager_end.proofs.TrailLemmas.{ar-after, aw-after, b-after, b-number
 use Rattle.plain_lists.specs.Keys.{of_key}
 use Rattle.plain_lists.proofs.PrefixLemmas.{prefix_nil}
 use Rattle.plain_lists.proofs.PlaceLemmas.{at-all}
+use Rattle.axi_beats.specs.Lanes.{Span}
 
 -- the bytes of one more beat
 bytes-push : (rs : List RBeat) (spans : List Span) (r : RBeat) (span : Span) → slice_get spans (length rs) ≡ Some span → bytes_on (rs ++ r ∷ []) spans ≡ bytes_on rs spans ++ slice_range r.lanes span.low (span.high + 1)

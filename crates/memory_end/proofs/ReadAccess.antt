@@ -9,7 +9,7 @@ use Rattle.axi_beats.specs.declared.beat.RBeat.{RBeat}
 use Rattle.axi_beats.specs.declared.beat.WBeat.{WBeat}
 use Rattle.axi_beats.specs.declared.response.Resp.TheVariants.{Okay, DecErr}
 use Rattle.axi_trail.specs.LinkContracts.{without_id}
-use Rattle.axi_trail.specs.Schedule.{ComesBefore, Schedule, Share, Span, bytes_on}
+use Rattle.axi_trail.specs.Schedule.{ComesBefore, Schedule, Share, bytes_on}
 use Rattle.axi_trail.specs.Words.{number_of_read_data}
 use Rattle.memory_end.specs.Accesses.{BeatOf, accesses_of, allowed_before, allowed_bytes, beats_of_parts, due_reads, filled_bytes, left_at, read_addresses, span_of}
 use Rattle.memory_end.specs.Beats.{Byte, lane_address, read_bytes, valid_lanes}
@@ -27,6 +27,7 @@ use Rattle.memory_end.proofs.LaneFacts.{allowed-without_id, reads-without_id, sp
 use Rattle.plain_lists.proofs.KeyLemmas.{of_key-push, of_key-push_other}
 use Rattle.plain_lists.specs.Keys.{of_key}
 use Rattle.plain_lists.proofs.PartLemmas.{flat_map_next, split_append}
+use Rattle.axi_beats.specs.Lanes.{Span}
 
 -- a byte that is read is in the memory, and has the value that the store has
 record IsStored (config : MemoryConfig) (store : Store) (byte : Byte) : Type 0 where
