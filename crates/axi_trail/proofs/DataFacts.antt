@@ -33,8 +33,6 @@ pub beats_of-writes : (addresses : List Addr) → beats_of (map write_asked addr
 beats_of-writes [] = refl
 beats_of-writes (a ∷ addresses) = omega (arith, beats_of-writes addresses)
 
-
-
 -- the data of completed addresses has passed
 completed_marks : (addresses : List Addr) (passed : List Mark) → Agree passed (marks (map burst_asked addresses)) → IsPrefix (marks (map burst_asked (completed addresses passed))) passed
 completed_marks addresses passed agree =

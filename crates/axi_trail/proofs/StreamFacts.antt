@@ -38,4 +38,3 @@ taken_was_put takes puts queue run n =
     let whole : over puts n ≡ over (λ m. beat_taken (takes m) (queue m)) n ++ queue n = queue_is_rest takes puts queue run n in
     let part : IsPrefix (over (λ m. beat_taken (takes m) (queue m)) (suc n)) (over (λ m. beat_taken (takes m) (queue m)) n ++ queue n) = prefix_taken (takes n) (over (λ m. beat_taken (takes m) (queue m)) n) (queue n) in
     record { rest = part.rest; whole = whole ∙ part.whole }
-
