@@ -14,7 +14,7 @@ use Rattle.axi_trail.specs.Words.{InOrderOfId, number_of_address, number_of_resp
 use Rattle.burst_address.specs.Formulas.{beats_of}
 use Rattle.burst_address.specs.Legal.{IsLegal}
 use Rattle.flight.specs.Entries.{of_key}
-use Rattle.burst_address.specs.Lanes.{last_lane, first_lane}
+use Rattle.burst_address.specs.Lanes.{lanes_of}
 use Rattle.manager_end.specs.Beats.{data_beats, item_request}
 use Rattle.manager_end.specs.ManagerOrder.{AreInOrder, IsAt, note_at}
 use Rattle.manager_end.specs.ManagerState.{ManagerState, IsManager, entry_of, new_manager, writes_of, reads_of}
