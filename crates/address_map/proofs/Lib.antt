@@ -1,0 +1,4 @@
+pub mod RegionLemmas
+pub mod ApartLemmas
+pub mod PairLemmas
+pub mod PortLemmas

@@ -1,0 +1,4 @@
+pub mod Regions
+pub mod Order
+pub mod Maps
+pub mod Laws
