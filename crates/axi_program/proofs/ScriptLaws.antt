@@ -12,7 +12,7 @@ use Rattle.manager_end.proofs.NumberLemmas.{at-all}
 use Rattle.manager_end.specs.Script.{CanPush, IsScript, ScriptItem, awaited}
 use Rattle.manager_end.specs.declared.script.Txn.{Txn}
 use Rattle.manager_end.specs.declared.script.WriteByte.{WriteByte}
-use Rattle.memory_end.proofs.BeatLemmas.{legal-wider}
+use Rattle.burst_address.proofs.Legality.{legal-wider}
 use Rattle.net_rounds.specs.Due.{IsNumberedTraffic}
 use Rattle.traffic.specs.Accepted.{AreInOrder, Follows, IsTraffic, Suits, last_after, of_manager}
 use Rattle.traffic.specs.Traffic.{TrafficItem}
