@@ -5,7 +5,8 @@ use Rattle.std.specs.List.{AllByRecursion}
 use Rattle.std.proofs.lemmas.List.Elements.{All-from_recursion, All-nil}
 use Rattle.axi_beats.specs.declared.response.Resp.TheVariants.{Okay, DecErr}
 use Rattle.axi_history.specs.Answered.{Answered, HasItsBytes, IsAnsweredBefore, IsIssuedBefore, WaitsForAnswers, transactions_by}
-use Rattle.axi_history.specs.Delivered.{Delivered, HasAnswer, IsBeginningOf, IsOf, access_due, access_made, value_after}
+use Rattle.axi_history.specs.Delivered.{Delivered, HasAnswer, IsBeginningOf, IsOf, access_due, access_made, is_write_at}
+use Rattle.burst_address.specs.Accesses.{value_after}
 use Rattle.axi_history.specs.KnownHistories.{GoodHistory, answer, five_transactions, fixed_write, good_answers, good_events, good_issues, issue, other_read, read_outside, read_over_the_end, second_read}
 use Rattle.axi_history.specs.Records.{Answer, Event, Issue, Transaction, bytes_due, events_of}
 use Rattle.axi_history.proofs.KnownHistoryLemmas.{EachBetween, five, four, no, of-five, of-the-two-reads, one, one-way, pairs-of, six, split-of, three, two}
@@ -16,9 +17,9 @@ in-burst-order : (t : Transaction) → map access_made (events_of t.number good_
 in-burst-order t whole = ([], sym whole ∙ sym (append-nil (map access_made (events_of t.number good_events))))
 
 abbrev SeesLatest : Transaction → List Event → Event → List Event → Type 0
-SeesLatest t earlier e later = e.number ≡ t.number → e.write ≡ false → e.value ≡ value_after e.node e.address t.fill earlier
+SeesLatest t earlier e later = e.number ≡ t.number → e.write ≡ false → e.value ≡ value_after (is_write_at e.node e.address) (λ (x : Event). x.value) t.fill earlier
 
-reads-latest : (t : Transaction) → EachBetween (SeesLatest t) [] good_events → (earlier later : List Event) (e : Event) → good_events ≡ earlier ++ e ∷ later → e.number ≡ t.number → e.write ≡ false → e.value ≡ value_after e.node e.address t.fill earlier
+reads-latest : (t : Transaction) → EachBetween (SeesLatest t) [] good_events → (earlier later : List Event) (e : Event) → good_events ≡ earlier ++ e ∷ later → e.number ≡ t.number → e.write ≡ false → e.value ≡ value_after (is_write_at e.node e.address) (λ (x : Event). x.value) t.fill earlier
 reads-latest t each earlier later e are = split-of (SeesLatest t) good_events each earlier later e are
 
 good-delivered : Delivered five_transactions good_events good_answers
@@ -33,7 +34,7 @@ good-delivered = record {
   in_burst_order = of-five (λ t. IsBeginningOf (map access_made (events_of t.number good_events)) (map access_due (bytes_due t)))
       (in-burst-order fixed_write refl) (in-burst-order read_over_the_end refl) (in-burst-order other_read refl) (in-burst-order second_read refl) (in-burst-order read_outside refl);
   whole = of-five (λ t. HasAnswer t good_answers → map access_made (events_of t.number good_events) ≡ map access_due (bytes_due t)) (λ _. refl) (λ _. refl) (λ _. refl) (λ _. refl) (λ _. refl);
-  reads_latest = of-five (λ t. (earlier later : List Event) (e : Event) → good_events ≡ earlier ++ e ∷ later → e.number ≡ t.number → e.write ≡ false → e.value ≡ value_after e.node e.address t.fill earlier)
+  reads_latest = of-five (λ t. (earlier later : List Event) (e : Event) → good_events ≡ earlier ++ e ∷ later → e.number ≡ t.number → e.write ≡ false → e.value ≡ value_after (is_write_at e.node e.address) (λ (x : Event). x.value) t.fill earlier)
       (reads-latest fixed_write (six (λ _ w. one-way refl w) (λ _ w. one-way refl w) (no refl) (no refl) (no refl) (no refl)))
       (reads-latest read_over_the_end (six (no refl) (no refl) (no refl) (no refl) (λ _ _. refl) (no refl)))
       (reads-latest other_read (six (no refl) (no refl) (λ _ _. refl) (λ _ _. refl) (no refl) (no refl)))

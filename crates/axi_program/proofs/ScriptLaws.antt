@@ -10,7 +10,6 @@ use Rattle.burst_address.specs.Legal.{IsLegal}
 use Rattle.manager_end.specs.Script.{CanPush, IsScript, ScriptItem, awaited}
 use Rattle.manager_end.specs.declared.script.Txn.{Txn}
 use Rattle.manager_end.specs.declared.script.WriteByte.{WriteByte}
-use Rattle.memory_end.proofs.BeatLemmas.{legal-wider}
 use Rattle.net_rounds.specs.Due.{IsNumberedTraffic}
 use Rattle.traffic.specs.Accepted.{AreInOrder, Follows, IsTraffic, Suits, last_after, of_manager}
 use Rattle.traffic.specs.Traffic.{TrafficItem}
@@ -18,6 +17,7 @@ use Rattle.traffic.specs.declared.port.ManagerPort.{ManagerPort}
 use Rattle.axi_program.specs.Traffic.{IsBuiltIn, script_item, script_of}
 use Rattle.plain_lists.proofs.PlaceLemmas.{filter-all, at-all}
 use Rattle.net_rounds.specs.PortRanges.{FitsBeats}
+use Rattle.burst_address.proofs.Legality.{legal-wider}
 
 -- ---- one manager
 

@@ -19,7 +19,7 @@ use Rattle.manager_end.specs.ManagerTable.{manager_next, manager_out}
 use Rattle.manager_end.specs.Script.{ScriptItem, IsScript}
 use Rattle.plain_lists.specs.Keys.{of_key}
 use Rattle.axi_beats.specs.Lanes.{Span}
-use Rattle.burst_address.specs.Lanes.{last_lane, first_lane}
+use Rattle.burst_address.specs.Lanes.{lanes_of}
 
 -- the shares of a direction
 abbrev pub shares_of : Schedule → Bool → ℕ → Share

@@ -18,7 +18,7 @@ use Rattle.burst_address.specs.Lanes.{last_lane, first_lane}
 use Rattle.manager_end.specs.Beats.{data_beat, data_beats, item_request}
 use Rattle.manager_end.specs.ManagerTrail.{HasItem, IsItsOwn, IsScheduleOf, shares_of}
 use Rattle.manager_end.specs.Script.{ScriptItem, sent_bytes}
-use Rattle.memory_end.proofs.BeatLemmas.{lanes-ordered}
+use Rattle.burst_address.proofs.LaneBytes.{lanes-ordered}
 use Rattle.memory_end.specs.Accesses.{BeatOf, beats_of_parts, burst_status, span_of}
 use Rattle.memory_end.specs.Beats.{valid_status}
 use Rattle.memory_end.specs.MemoryTrail.{Suits}
