@@ -1,14 +1,13 @@
 -- Contracts of a link that carries what another one does.
-use Rattle.std.proofs.Common.{◌≡◌, ℕ, ◌<◌, ◌≤◌, ◌^◌, Bool, IsTrue, List, length, map, sym, ◌∙◌, ap, subst, arith, All}
+use Rattle.std.proofs.Common.{◌≡◌, ℕ, ◌<◌, ◌^◌, Bool, List, length, sym, ◌∙◌, ap, subst, arith, All}
 use Rattle.std.specs.Prelude.{flat_map}
 use Rattle.axi_beats.specs.declared.beat.Addr.{Addr}
 use Rattle.axi_beats.specs.declared.beat.WBeat.{WBeat}
-use Rattle.axi_beats.specs.declared.response.Resp.{Resp}
 use Rattle.flight.specs.Entries.{of_key}
-use Rattle.axi_trail.specs.LinkContracts.{Requests, without_id}
+use Rattle.axi_trail.specs.LinkContracts.{Requests}
 use Rattle.axi_trail.specs.Schedule.{Share, SameChain, Span, bytes_on}
 use Rattle.axi_trail.specs.Streams.{IsPrefix}
-use Rattle.axi_trail.specs.Words.{Asked, Reply, number_of_address, number_of_data, number_of_response, number_of_read_data}
+use Rattle.axi_trail.specs.Words.{Asked, Reply, number_of_read_data}
 use Rattle.axi_trail.proofs.PrefixFacts.{prefix_of_same}
 use Rattle.node_shape.specs.Carries.{AnsweredIsCarried, AskedIsCarried, IsSameShare}
 
