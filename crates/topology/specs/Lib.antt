@@ -1,3 +1,4 @@
+pub mod Accepted
 pub mod Document
 pub mod KnownDocuments
 pub mod Refused
