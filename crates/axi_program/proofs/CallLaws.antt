@@ -1,5 +1,6 @@
 -- What the top call's parts tell of the whole.
-use Rattle.std.proofs.Common.{◌≡◌, ◌<◌, ◌≤◌, ℕ, List, Option, Some, None, true, false, length, refl, sym, ap, ◌∙◌, subst, inl, inr}
+use Rattle.std.proofs.Common.{◌≡◌, ◌<◌, ◌≤◌, ℕ, List, [], Option, Some, None, Bool, true, false, length, refl, sym, ap, ◌∙◌, subst, inl, inr}
+use Rattle.std.specs.Prelude.{IfSome}
 use Rattle.std.proofs.lemmas.Bool.{le-ltb, lt-ltb}
 use Rattle.std.specs.Str.{is_utf8}
 use Rattle.manager_end.specs.Script.{ScriptItem}
@@ -8,6 +9,7 @@ use Rattle.refusals.specs.declared.cause.Cause.TheVariants.{InputTooLong, NotTex
 use Rattle.refusals.specs.declared.refusal.Refusal.{Refusal}
 use Rattle.axi_program.proofs.DocumentLaws.{refusal-over}
 use Rattle.axi_program.specs.Call.{ReadsWhole}
+use Rattle.axi_program.specs.DeviceBytes.{IsOver, IsWhole}
 use Rattle.axi_program.specs.Document.{input_limit, refusal_of, script_of_input}
 use Rattle.axi_program.specs.Outcome.{Outcome, Refuses, check_outcome, document_outcome, ending_of, input_outcome, outcome_by, outcome_of, run_outcome}
 use Rattle.axi_program.specs.Preparation.{IsPrepared, IsReadWhole}
@@ -54,6 +56,27 @@ pub outcome-over : (command : Command) (input : List ℕ) → input_limit < leng
 unfolding input_outcome check_outcome
 outcome-over (Run trace) input over = outcome-refuses trace input (refused_for InputTooLong) (refusal-over input over)
 outcome-over Check input over = rw (lt-ltb input_limit (length input) over) refl
+
+module _ {X : Type 0} where
+  -- what holds of each that may be there holds also of one more
+  pub map-some : (o : Option X) (P Q : X → Type 0) → ((x : X) → P x → Q x) → IfSome o P → IfSome o Q
+  map-some None P Q step holds = tt
+  map-some (Some x) P Q step holds = step x holds
+
+-- a text that was read whole is what was left, and nothing is left
+pub whole-told : (before now : Option (List ℕ)) (text : List ℕ) (P : List ℕ → Type 0) → IsWhole before now text → P text → IfSome before P
+whole-told None now text P whole holds = tt
+whole-told (Some all) now text P whole holds = subst P whole.0 holds
+
+pub whole-read : (before now : Option (List ℕ)) (text : List ℕ) → IsWhole before now text → IfSome before (λ all. now ≡ Some [])
+whole-read None now text whole = tt
+whole-read (Some all) now text whole = whole.1
+
+-- what a command makes of an input over the size is its refusal
+pub told-over : (command : Command) (work : Work) (left : Option (List ℕ)) → IsOver input_limit left → IsWorkOf (Refuses (refused_for InputTooLong)) work → IfSome left (λ input. IsWorkOf (input_outcome command input) work)
+told-over command work left over is =
+    map-some left (λ input. input_limit < length input) (λ input. IsWorkOf (input_outcome command input) work)
+    (λ input long. subst (λ (o : Outcome). IsWorkOf o work) (outcome-over command input long) is) over
 
 module _ {S : Type 0} (left : S → Option (List ℕ)) (source source' : S) (command : Option Command) (work : Work) (prepared : IsPrepared command left source source' work) where
   -- a source that was read for work that was done was read whole

@@ -99,7 +99,9 @@ impl Stop {
 }
 
 impl From<NoMemory> for Stop {
-    ghost from_gives = { λ _ stop. stop ≡ Stop.NoMemory };
+    ghost use Rattle.axi_program.specs.declared.status.Stop.TheVariants.{NoMemory};
+
+    ghost from_gives = { λ _ stop. stop ≡ NoMemory };
 
     fn from(_error: NoMemory) -> Stop {
         Stop::NoMemory

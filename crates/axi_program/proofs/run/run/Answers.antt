@@ -39,11 +39,11 @@ returns-in_err-finished-clause-err g c =
 
 pub returns-then-not-finished-clause-ending : goal.returns-then-not-finished-clause-ending
 returns-then-not-finished-clause-ending g c =
-    sym (ap ending_of (stalls c.args.trace c.args.net c.run_to_end.new.net c.requires c.in_ok-finished.ensures.ran (sym c.in_ok-finished.ensures.finished ∙ c.if-finished.false)))
+    sym (ap ending_of (stalls c.args.trace c.args.net c.run_to_end.new.net c.requires c.in_ok-finished.ensures.ran (sym c.in_ok-finished.ensures.finished ∙ c.if-not-finished.true)))
 
 pub returns-then-not-finished-clause-ok : goal.returns-then-not-finished-clause-ok
 returns-then-not-finished-clause-ok g c =
-    let is = stalls c.args.trace c.args.net c.run_to_end.new.net c.requires c.in_ok-finished.ensures.ran (sym c.in_ok-finished.ensures.finished ∙ c.if-finished.false) in
+    let is = stalls c.args.trace c.args.net c.run_to_end.new.net c.requires c.in_ok-finished.ensures.ran (sym c.in_ok-finished.ensures.finished ∙ c.if-not-finished.true) in
     subst (λ (text : List ℕ). Appends (g.K.Sink.written c.args.sink.now) (g.K.Sink.written c.run_to_end.new.sink) text) (lines-are c.args.trace c.args.net c.requires ∙ ap text_of (sym is)) c.in_ok-finished.ensures.ok
 
 pub returns-in_err-write_answers-clause-err : goal.returns-in_err-write_answers-clause-err
@@ -51,23 +51,23 @@ returns-in_err-write_answers-clause-err g c =
     let trace = c.args.trace in
     let lines = where_asked trace (run_trace (script_of_net c.args.net)) in
     let rest = where_asked trace separator_line ++ text_of_net c.run_to_end.new.net in
-    let is = answers trace c.args.net c.run_to_end.new.net c.requires c.in_ok-finished.ensures.ran (sym c.in_ok-finished.ensures.finished ∙ c.if-finished.true) in
+    let is = answers trace c.args.net c.run_to_end.new.net c.requires c.in_ok-finished.ensures.ran (sym c.in_ok-finished.ensures.finished ∙ c.if-not-finished.false) in
     let front = subst (λ (text : List ℕ). Appends (g.K.Sink.written c.args.sink.now) (g.K.Sink.written c.run_to_end.new.sink) text) (lines-are trace c.args.net c.requires) c.in_ok-finished.ensures.ok in
-    on-err c.from_residual.result _
+    on-err c.from_residual-in_err-write_answers.result _
     (subst (λ (text : List ℕ). AppendsPrefix (g.K.Sink.written c.args.sink.now) (g.K.Sink.written c.write_answers.new.sink) text) (ap text_of (sym is))
     (prefix-later (g.K.Sink.written c.args.sink.now) (g.K.Sink.written c.run_to_end.new.sink) (g.K.Sink.written c.write_answers.new.sink)
     lines rest [] (lines ++ rest) front c.in_err-write_answers.ensures.err (sym (append-nil (lines ++ rest)))))
 
 pub returns-clause-ending : goal.returns-clause-ending
 returns-clause-ending g c =
-    sym (ap ending_of (answers c.args.trace c.args.net c.run_to_end.new.net c.requires c.in_ok-finished.ensures.ran (sym c.in_ok-finished.ensures.finished ∙ c.if-finished.true)))
+    sym (ap ending_of (answers c.args.trace c.args.net c.run_to_end.new.net c.requires c.in_ok-finished.ensures.ran (sym c.in_ok-finished.ensures.finished ∙ c.if-not-finished.false)))
 
 pub returns-clause-ok : goal.returns-clause-ok
 returns-clause-ok g c =
     let trace = c.args.trace in
     let lines = where_asked trace (run_trace (script_of_net c.args.net)) in
     let rest = where_asked trace separator_line ++ text_of_net c.run_to_end.new.net in
-    let is = answers trace c.args.net c.run_to_end.new.net c.requires c.in_ok-finished.ensures.ran (sym c.in_ok-finished.ensures.finished ∙ c.if-finished.true) in
+    let is = answers trace c.args.net c.run_to_end.new.net c.requires c.in_ok-finished.ensures.ran (sym c.in_ok-finished.ensures.finished ∙ c.if-not-finished.false) in
     let front = subst (λ (text : List ℕ). Appends (g.K.Sink.written c.args.sink.now) (g.K.Sink.written c.run_to_end.new.sink) text) (lines-are trace c.args.net c.requires) c.in_ok-finished.ensures.ok in
     subst (λ (text : List ℕ). Appends (g.K.Sink.written c.args.sink.now) (g.K.Sink.written c.write_answers.new.sink) text) (ap text_of (sym is))
     (Appends-trans (g.K.Sink.written c.args.sink.now) (g.K.Sink.written c.run_to_end.new.sink) (g.K.Sink.written c.write_answers.new.sink) lines rest front c.in_ok-write_answers.ensures.ok)
