@@ -3,12 +3,12 @@ use Rattle.std.proofs.Common.{◌≡◌, ℕ, ◌<◌, ◌^◌, Bool, List, leng
 use Rattle.std.specs.Prelude.{flat_map}
 use Rattle.axi_beats.specs.declared.beat.Addr.{Addr}
 use Rattle.axi_beats.specs.declared.beat.WBeat.{WBeat}
-use Rattle.flight.specs.Entries.{of_key}
+use Rattle.plain_lists.specs.Keys.{of_key}
 use Rattle.axi_trail.specs.LinkContracts.{Requests}
 use Rattle.axi_trail.specs.Schedule.{Share, SameChain, Span, bytes_on}
-use Rattle.axi_trail.specs.Streams.{IsPrefix}
+use Rattle.plain_lists.specs.Prefixes.{IsPrefix}
 use Rattle.axi_trail.specs.Words.{Asked, Reply, number_of_read_data}
-use Rattle.axi_trail.proofs.PrefixFacts.{prefix_of_same}
+use Rattle.plain_lists.proofs.PrefixLemmas.{prefix_of_same}
 use Rattle.node_shape.specs.Carries.{AnsweredIsCarried, AskedIsCarried, IsSameShare}
 
 requests_carried : (above below : ℕ → Share) (wide narrow : ℕ) (issued : ℕ → Bool) (shown : Addr → Asked) (addresses : List Addr) (replies : List Reply) →
