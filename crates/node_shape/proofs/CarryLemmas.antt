@@ -2,10 +2,11 @@
 use Rattle.std.proofs.Common.{◌≡◌, ℕ, ◌<◌, ◌^◌, Bool, List, length, sym, ◌∙◌, ap, subst, arith, All}
 use Rattle.std.specs.Prelude.{flat_map}
 use Rattle.axi_beats.specs.declared.beat.Addr.{Addr}
+use Rattle.axi_beats.specs.Lanes.{Span}
 use Rattle.axi_beats.specs.declared.beat.WBeat.{WBeat}
 use Rattle.flight.specs.Entries.{of_key}
 use Rattle.axi_trail.specs.LinkContracts.{Requests}
-use Rattle.axi_trail.specs.Schedule.{Share, SameChain, Span, bytes_on}
+use Rattle.axi_trail.specs.Schedule.{Share, SameChain, bytes_on}
 use Rattle.axi_trail.specs.Streams.{IsPrefix}
 use Rattle.axi_trail.specs.Words.{Asked, Reply, number_of_read_data}
 use Rattle.axi_trail.proofs.PrefixFacts.{prefix_of_same}
