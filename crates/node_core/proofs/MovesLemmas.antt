@@ -3,8 +3,8 @@ use Rattle.std.proofs.Common.{◌≡◌, ◌<◌, ℕ, List, [], ◌∷◌, Opti
 use Rattle.std.proofs.lemmas.Bool.{eqb-true}
 use Rattle.axi_link.specs.LinkView.{LinkView}
 use Rattle.axi_link.specs.Moves.{takes_from, appended}
-use Rattle.axi_link.specs.Table.{link_of}
-use Rattle.axi_link.specs.Fits.{TakeFits, PutFits, FittingMovesCanBeMade}
+use Rattle.axi_link.specs.LinkWords.{link_of}
+use Rattle.node_core.specs.Fits.{TakeFits, PutFits, FittingMovesCanBeMade}
 
 module _ {X : Type 0} (queue_of : LinkView → List X) (links : List LinkView) (number : ℕ) where
   -- a take that fits the links has its head on the link that it is made on
