@@ -23,7 +23,7 @@ impl Beat for WBeat {
         self.strobe = from.strobe;
         self.last = from.last;
         self.tag = from.tag;
-        self.lanes = from.lanes;
+        self.lanes.assign(&from.lanes);
     }
 }
 
@@ -39,6 +39,6 @@ impl Beat for RBeat {
         self.resp = from.resp;
         self.last = from.last;
         self.tag = from.tag;
-        self.lanes = from.lanes;
+        self.lanes.assign(&from.lanes);
     }
 }

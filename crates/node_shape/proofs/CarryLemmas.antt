@@ -5,11 +5,12 @@ use Rattle.axi_beats.specs.declared.beat.Addr.{Addr}
 use Rattle.axi_beats.specs.declared.beat.WBeat.{WBeat}
 use Rattle.plain_lists.specs.Keys.{of_key}
 use Rattle.axi_trail.specs.LinkContracts.{Requests}
-use Rattle.axi_trail.specs.Schedule.{Share, SameChain, Span, bytes_on}
+use Rattle.axi_trail.specs.Schedule.{Share, SameChain, bytes_on}
 use Rattle.plain_lists.specs.Prefixes.{IsPrefix}
 use Rattle.axi_trail.specs.Words.{Asked, Reply, number_of_read_data}
 use Rattle.plain_lists.proofs.PrefixLemmas.{prefix_of_same}
 use Rattle.node_shape.specs.Carries.{AnsweredIsCarried, AskedIsCarried, IsSameShare}
+use Rattle.axi_beats.specs.Lanes.{Span}
 
 requests_carried : (above below : ℕ → Share) (wide narrow : ℕ) (issued : ℕ → Bool) (shown : Addr → Asked) (addresses : List Addr) (replies : List Reply) →
     narrow ≡ wide → ((t : ℕ) → IsSameShare (above t) (below t)) → ((t u : ℕ) → SameChain below t u → SameChain above t u) →
