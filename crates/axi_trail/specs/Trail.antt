@@ -6,10 +6,10 @@ use Rattle.axi_beats.specs.declared.beat.BBeat.{BBeat}
 use Rattle.axi_beats.specs.declared.beat.RBeat.{RBeat}
 use Rattle.axi_link.specs.LinkView.{LinkView, empty_link}
 use Rattle.axi_link.specs.Moves.{takes_from, appended, without_head, link_after}
-use Rattle.axi_link.specs.Table.{link_of}
 use Rattle.axi_link.specs.declared.out.Out.{Out}
 use Rattle.plain_lists.specs.Rounds.{over}
 use Rattle.plain_lists.specs.Prefixes.{IsPrefix}
+use Rattle.axi_link.specs.LinkWords.{link_of}
 
 -- the beats that one end of a link has passed on each channel, oldest first
 pub record Beats : Type 0 where

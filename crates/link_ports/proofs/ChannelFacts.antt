@@ -14,7 +14,6 @@ use Rattle.axi_history.specs.PortRules.{last_is_on_the_last_beat, strobes_are_on
 use Rattle.axi_history.proofs.SameLemmas.{address_itself, data_itself, response_itself, read_itself}
 use Rattle.axi_link.specs.LinkView.{LinkView}
 use Rattle.axi_link.specs.Moves.{takes_from}
-use Rattle.axi_link.specs.Table.{link_of}
 use Rattle.axi_link.specs.declared.out.Out.{Out}
 use Rattle.axi_trail.specs.LinkContracts.{Asks, Requests}
 use Rattle.axi_trail.specs.Schedule.{Share, Schedule, Progress, Grows}
@@ -32,6 +31,7 @@ use Rattle.link_ports.proofs.DataFacts.{lasts_kept, strobes_kept, left_at_first}
 use Rattle.link_ports.proofs.HandshakeFacts.{handshake_kept}
 use Rattle.link_ports.proofs.ViewFacts.{waiting_are_offered_again, transferred_are_trails, offered_are_trails}
 use Rattle.plain_lists.proofs.PrefixLemmas.{prefix_itself}
+use Rattle.axi_link.specs.LinkWords.{link_of}
 
 pub grows_itself : (now : Progress) → Grows now now
 grows_itself now = record { issued = λ t done. done; written = λ t done. done; filled = λ t. prefix_itself (now.filled t) }

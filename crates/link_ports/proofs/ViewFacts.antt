@@ -10,12 +10,12 @@ use Rattle.axi_history.specs.declared.port.Seen.{Seen}
 use Rattle.axi_history.specs.PortHistory.{offer_of, transfer_of, wait_of, transferred, waiting, offered, on_aw, on_w, on_b, on_ar, on_r}
 use Rattle.axi_link.specs.LinkView.{LinkView}
 use Rattle.axi_link.specs.Moves.{takes_from, appended, without_head}
-use Rattle.axi_link.specs.Table.{link_of}
 use Rattle.axi_link.specs.declared.out.Out.{Out}
 use Rattle.link_ports.specs.PortLaws.{IsOffered, TransferredAreTrails, OfferedAreTrails, WaitingAreOfferedAgain}
 use Rattle.link_ports.specs.PortView.{seen_address, seen_itself, seen_response, seen_read_beat, shown, port_round}
 use Rattle.plain_lists.specs.Rounds.{over}
 use Rattle.axi_trail.specs.Trail.{beat_taken}
+use Rattle.axi_link.specs.LinkWords.{link_of}
 
 module _ {X Y : Type 0} (seen_as : X → Y) where
   -- one round

@@ -3,8 +3,6 @@ use Rattle.std.proofs.Common.{◌≡◌, ◌<◌, ◌+◌, ◌∷◌, [], ℕ, s
 use Rattle.std.specs.Prelude.{All}
 use Rattle.std.proofs.lemmas.List.Elements.{All-from_recursion, All-nil}
 use Rattle.axi_beats.specs.declared.beat.WBeat.{WBeat}
-use Rattle.axi_link.proofs.MovesLemmas.{fitting_moves}
-use Rattle.axi_link.specs.Acted.{Acted, opened}
 use Rattle.axi_link.specs.LinkView.{LinkView, empty_link}
 use Rattle.manager_end.proofs.ManagerLaws.{manager-begins, manager-fits}
 use Rattle.manager_end.specs.ManagerState.{IsManager, ManagerState, new_manager}
@@ -29,6 +27,8 @@ use Rattle.net_rounds.specs.Network.{CanLink, Network, after_commit, after_decid
 use Rattle.net_rounds.specs.declared.ends.Ends.{Ends}
 use Rattle.net_rounds.specs.Notes.{AreNotes}
 use Rattle.plain_lists.specs.Numbered.{AllNumbered, numbered}
+use Rattle.node_core.proofs.MovesLemmas.{fitting_moves}
+use Rattle.node_core.specs.Acted.{Acted, opened}
 
 ram-config : IsMemoryConfig ram
 ram-config = record { bus = refl; base = refl; size = refl; end = lit≤ tt }
