@@ -122,9 +122,9 @@ module _ (u v : Unpaired) (a : Option RawAddr) (w : Option WBeat) (fresh : u.add
 
   pub left_in_two : with_offers None w v ≡ with_offers a w u
   left_in_two = sym (
-    ap (λ (xs : List RawAddr). unpaired_of xs u.passed (u.beats ++ option_to_list w)) (sym (append-nil adds))
-    ∙ more_left adds [] u.passed u.beats (option_to_list w) starts
-    ∙ ap (λ (p : Unpaired). with_offers None w p) between)
+      ap (λ (xs : List RawAddr). unpaired_of xs u.passed (u.beats ++ option_to_list w)) (sym (append-nil adds))
+      ∙ more_left adds [] u.passed u.beats (option_to_list w) starts
+      ∙ ap (λ (p : Unpaired). with_offers None w p) between)
 
   told : (bus : ℕ) → data_fault bus a w u
       ≡ least_broken ((9, last_is_kept a None u && last_is_kept None w v) ∷ (10, strobes_are_kept bus a None u && strobes_are_kept bus None w v) ∷ [])
