@@ -2,3 +2,4 @@ pub mod Lists
 pub mod Forms
 pub mod LinkForms
 pub mod PlanFacts
+pub mod Uppers
