@@ -3,3 +3,5 @@ pub mod Forms
 pub mod LinkForms
 pub mod PlanFacts
 pub mod Uppers
+pub mod Orders
+pub mod Paths
