@@ -1,2 +1,6 @@
 //! Directed graphs of numbered nodes: what is below a node and above it, cycles, and orders that lead downwards.
 #![tactic(auto)]
+
+pub use graph_laws::laws;
+
+mod graph_laws;

@@ -1,0 +1,3 @@
+pub mod Members
+pub mod Ways
+pub mod Levels
