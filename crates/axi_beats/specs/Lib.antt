@@ -1,2 +1,4 @@
 pub mod Bus
 pub mod Response
+pub mod Codes
+pub mod Lanes

@@ -1,4 +1,8 @@
 //! One beat of each channel, with the fields that the standard names. (Arm IHI 0022, channel signals.)
+//! The data lanes stand last in a beat, so that its small fields lie together.
+
+ghost use Rattle.std.specs.Prelude.{◌≡◌};
+ghost use Rattle.axi_beats.specs.Codes.{burst_code, burst_of_code};
 
 use crate::lanes::Lanes;
 use crate::response::Resp;
@@ -13,6 +17,31 @@ pub enum Burst {
     Incr,
     /// As `Incr`, but at its upper boundary the burst goes back to its lower one.
     Wrap,
+}
+
+impl Burst {
+    /// AxBURST of this kind: 0 FIXED, 1 INCR, 2 WRAP. (Arm IHI 0022, burst type.)
+    pub fn code(self) -> u8
+        ensures { result ≡ burst_code self }
+    {
+        match self {
+            Burst::Fixed => 0,
+            Burst::Incr => 1,
+            Burst::Wrap => 2,
+        }
+    }
+
+    /// The kind with this code on AxBURST. Code 3 is reserved, so it has none.
+    pub fn from_code(code: u8) -> Option<Burst>
+        ensures { result ≡ burst_of_code code }
+    {
+        match code {
+            0 => Some(Burst::Fixed),
+            1 => Some(Burst::Incr),
+            2 => Some(Burst::Wrap),
+            _ => None,
+        }
+    }
 }
 
 /// What a beat carries beside the standard's fields, so that a run can be followed: the number of
@@ -50,14 +79,14 @@ pub struct Addr {
 /// (Arm IHI 0022, write strobes.)
 #[derive(Clone, Copy, Default)]
 pub struct WBeat {
-    /// WDATA, by lanes.
-    pub lanes: Lanes,
     /// WSTRB: lane n is written where bit n is 1.
     pub strobe: u128,
     /// WLAST: this is the last beat of its burst.
     pub last: bool,
     /// What lets a run be followed.
     pub tag: Tag,
+    /// WDATA, by lanes.
+    pub lanes: Lanes,
 }
 
 /// A beat of B: the one answer to a write. (Arm IHI 0022, read and write response structure.)
@@ -77,12 +106,12 @@ pub struct BBeat {
 pub struct RBeat {
     /// RID, the ID of the read.
     pub id: u32,
-    /// RDATA, by lanes.
-    pub lanes: Lanes,
     /// RRESP.
     pub resp: Resp,
     /// RLAST: this is the last beat of its burst.
     pub last: bool,
     /// What lets a run be followed.
     pub tag: Tag,
+    /// RDATA, by lanes.
+    pub lanes: Lanes,
 }

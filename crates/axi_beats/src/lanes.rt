@@ -65,4 +65,11 @@ impl Lanes {
     {
         self.bytes[usize::from(n)] = b;
     }
+
+    /// Takes over all lanes of `from`.
+    pub fn assign(&mut self, from: &Lanes)
+        ensures { self.new ≡ from.now }
+    {
+        *self = *from;
+    }
 }

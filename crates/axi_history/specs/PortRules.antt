@@ -1,13 +1,14 @@
 -- The twelve rules of an AXI4 port (Arm IHI 0022, handshake process, transaction structure, exclusive accesses and
 -- transaction identifiers). Each rule is asked of a round and all the rounds before it. The channels are numbered
 -- 1 AW, 2 W, 3 B, 4 AR and 5 R.
-use Rattle.std.specs.Prelude.{ℕ, ◌+◌, ◌^◌, ◌%◌, ◌==◌, ◌&&◌, ◌||◌, ◌++◌, ◌∷◌, [], List, Bool, true, false, not, Option, Some, None, is_none, is_some, length, map, sum, zip, nat_lt, nat_le, if◌then◌else◌}
+use Rattle.std.specs.Prelude.{ℕ, ◌+◌, ◌^◌, ◌%◌, ◌==◌, ◌&&◌, ◌||◌, ◌++◌, ◌∷◌, [], List, Bool, true, false, not, Option, Some, None, is_none, is_some, unwrap_or, length, map, sum, zip, nat_lt, nat_le, if◌then◌else◌}
 use Rattle.std.specs.Option.{option_map}
 use Rattle.std.specs.Bool.{beq}
 use Rattle.std.proofs.Common.{suc}
+use Rattle.axi_beats.specs.Codes.{burst_of_code}
 use Rattle.axi_beats.specs.declared.beat.Addr.{Addr}
 use Rattle.axi_beats.specs.declared.beat.Burst.{Burst}
-use Rattle.axi_beats.specs.declared.beat.Burst.TheVariants.{Fixed, Incr, Wrap}
+use Rattle.axi_beats.specs.declared.beat.Burst.TheVariants.{Wrap}
 use Rattle.axi_beats.specs.declared.beat.Tag.{Tag}
 use Rattle.axi_beats.specs.declared.beat.WBeat.{WBeat}
 use Rattle.burst_address.specs.Formulas.{beat_at, beats_of, lower_lane, size_of, upper_lane}
@@ -65,17 +66,17 @@ module _ {X : Type 0} where
 
 -- ---- Rules 3 to 8, of an address
 
--- AxBURST: 0 FIXED, 1 INCR, 2 WRAP. The reserved code breaks rule 3, so that its kind doesn't count.
+-- the kind of a burst by its AxBURST; a code that has none breaks rule 3, so that the kind given here doesn't count
 abbrev pub kind_of : ℕ → Burst
-kind_of code = if code == 0 then Fixed else if code == 1 then Incr else Wrap
+kind_of code = unwrap_or (burst_of_code code) Wrap
 
 -- the request that an address makes
 abbrev pub request_of : RawAddr → Addr
 request_of a = record { id = a.id; addr = a.addr; len = a.len; size = a.size; burst = kind_of a.burst; tag = a.tag }
 
--- 3: the burst code is not the reserved one
+-- 3: the burst code has a kind: it is not the reserved one
 abbrev pub burst_code_is_known : RawAddr → Bool
-burst_code_is_known a = not (a.burst == 3)
+burst_code_is_known a = is_some (burst_of_code a.burst)
 
 -- 4: a beat is not wider than the bus
 abbrev pub beat_fits_the_bus : ℕ → RawAddr → Bool

@@ -6,7 +6,8 @@ use Rattle.axi_beats.specs.declared.beat.Addr.{Addr}
 use Rattle.axi_beats.specs.declared.beat.RBeat.{RBeat}
 use Rattle.axi_trail.specs.ContractLaws.{AskingGoesDown, AnsweringGoesUp, AskedThroughLink, AnsweredThroughLink}
 use Rattle.axi_trail.specs.LinkContracts.{Requests, without_id}
-use Rattle.axi_trail.specs.Schedule.{Share, Span, bytes_on}
+use Rattle.axi_beats.specs.Lanes.{Span}
+use Rattle.axi_trail.specs.Schedule.{Share, bytes_on}
 use Rattle.axi_trail.specs.Streams.{IsPrefix}
 use Rattle.axi_trail.specs.Trail.{IsBehind, IsFifo, trail_above, trail_below, seen_above, seen_below}
 use Rattle.axi_trail.specs.Words.{Mark, Asked, Reply, IsAnswered, InOrderOfId, marks_of, completed, mark_of_data, mark_of_reply, write_asked, burst_asked, write_reply, read_reply, number_of_address, number_of_data, number_of_response, number_of_read_data, id_of_asked, id_of_reply}

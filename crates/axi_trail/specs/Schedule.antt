@@ -1,15 +1,11 @@
 -- What one link has to carry for each transaction, as it follows from the network and the traffic alone.
 use Rattle.std.specs.Prelude.{◌≡◌, ◌<◌, ◌+◌, ◌++◌, ◌∷◌, [], ℕ, List, Bool, IsTrue, slice_range}
+use Rattle.axi_beats.specs.Lanes.{Span}
 use Rattle.axi_beats.specs.declared.beat.Addr.{Addr}
 use Rattle.axi_beats.specs.declared.beat.WBeat.{WBeat}
 use Rattle.axi_beats.specs.declared.beat.RBeat.{RBeat}
 use Rattle.axi_beats.specs.declared.response.Resp.{Resp}
 use Rattle.axi_trail.specs.Streams.{IsPrefix}
-
--- the data lanes of a beat from the lowest to the highest one, both included
-pub record Span : Type 0 where
-  pub low : ℕ
-  pub high : ℕ
 
 -- One transaction on one link, in one direction; all lists are empty where it doesn't come by.
 pub record Share : Type 0 where

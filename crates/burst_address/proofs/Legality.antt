@@ -1,6 +1,6 @@
 -- What a legal burst keeps, rule by rule.
-use Rattle.std.proofs.Common.{◌≡◌, ◌≤◌, ℕ, ◌^◌, ◌==◌, ◌||◌, Bool, true, false, cond, not, Option, Some, None, inl, inr, refl, arith}
-use Rattle.std.proofs.lemmas.Bool.{ltb-false, or_cases, eqb-true, not-false}
+use Rattle.std.proofs.Common.{◌≡◌, ◌≤◌, ℕ, ◌^◌, ◌==◌, ◌||◌, Bool, true, false, cond, not, Option, Some, None, inl, inr, refl, sym, ap, ◌∙◌, arith, ltb}
+use Rattle.std.proofs.lemmas.Bool.{le-ltb, ltb-false, or_cases, eqb-true, not-false}
 use Rattle.axi_beats.specs.declared.beat.Addr.{Addr}
 use Rattle.axi_beats.specs.declared.beat.Burst.TheVariants.{Wrap}
 use Rattle.burst_address.specs.declared.rule.BurstRule.{BurstRule}
@@ -62,3 +62,11 @@ wrap_length beats is =
       ]
       | inr a ↦ (4, eqb-true beats 16 a, omega arith)
     ]
+
+-- a burst that is legal on a bus is legal on each wider one
+pub legal-wider : (a : Addr) (bus wider : ℕ) → bus ≤ wider → IsLegal a bus → IsLegal a wider
+legal-wider a bus wider le legal =
+    let small : size_of a ≤ bus = legal-size a bus legal in
+    let here : ltb bus (size_of a) ≡ false = le-ltb bus (size_of a) small in
+    let there : ltb wider (size_of a) ≡ false = le-ltb wider (size_of a) (omega arith) in
+    ap (λ (b : Bool). cond b (Some Size) (length_part a)) there ∙ sym (ap (λ (b : Bool). cond b (Some Size) (length_part a)) here) ∙ legal

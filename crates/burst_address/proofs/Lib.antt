@@ -1,5 +1,9 @@
 pub mod Numbers
+pub mod Widths
 pub mod Runs
 pub mod Legality
 pub mod Beats
 pub mod Written
+pub mod LaneBytes
+pub mod Strobes
+pub mod Statuses

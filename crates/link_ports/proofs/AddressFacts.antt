@@ -1,6 +1,7 @@
 -- Each address on a link is a legal burst, so rules 3 to 8 are kept.
 use Rattle.std.proofs.Common.{◌≡◌, ℕ, Bool, true, false, not, cond, List, [], ◌∷◌, ◌++◌, Some, None, length, map, All, refl, ap, ◌∙◌, subst, arith, length-append}
 use Rattle.std.proofs.lemmas.List.{get_or_at, map-append}
+use Rattle.axi_beats.specs.Codes.{response_code}
 use Rattle.axi_beats.specs.declared.beat.Addr.{Addr}
 use Rattle.axi_beats.specs.declared.beat.Burst.{Burst}
 use Rattle.axi_beats.specs.declared.beat.Burst.TheVariants.{Fixed, Incr, Wrap}
@@ -17,7 +18,7 @@ use Rattle.burst_address.specs.Formulas.{size_of, beats_of}
 use Rattle.burst_address.specs.Legal.{IsLegal, is_too_wide, is_length_of, is_start_of, is_in_page}
 use Rattle.burst_address.specs.declared.rule.BurstRule.TheVariants.{Size, Length, WrapAlign, Page}
 use Rattle.flight.specs.Entries.{of_key}
-use Rattle.link_ports.specs.PortView.{seen_address, response_code}
+use Rattle.link_ports.specs.PortView.{seen_address}
 
 -- a burst that breaks none of four rules keeps rules 3 to 8
 no_rule_broken : (wide fits starts stays : Bool) →

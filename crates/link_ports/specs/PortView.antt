@@ -1,12 +1,9 @@
 -- What is seen of a link, round by round: the port that it is (Arm IHI 0022, handshake process and channel signals).
 use Rattle.std.specs.Prelude.{ℕ, suc, ◌∷◌, [], List, Bool, false, Option, Some, None}
+use Rattle.axi_beats.specs.Codes.{burst_code, response_code}
 use Rattle.axi_beats.specs.declared.beat.Addr.{Addr}
 use Rattle.axi_beats.specs.declared.beat.BBeat.{BBeat}
 use Rattle.axi_beats.specs.declared.beat.RBeat.{RBeat}
-use Rattle.axi_beats.specs.declared.beat.Burst.{Burst}
-use Rattle.axi_beats.specs.declared.beat.Burst.TheVariants.{Fixed, Incr, Wrap}
-use Rattle.axi_beats.specs.declared.response.Resp.{Resp}
-use Rattle.axi_beats.specs.declared.response.Resp.TheVariants.{Okay, SlvErr, DecErr}
 use Rattle.axi_history.specs.declared.port.PortKind.{PortKind}
 use Rattle.axi_history.specs.declared.port.PortRound.{PortRound}
 use Rattle.axi_history.specs.declared.port.RawAddr.{RawAddr}
@@ -18,18 +15,6 @@ use Rattle.axi_link.specs.Moves.{takes_from}
 use Rattle.axi_link.specs.Table.{link_of}
 use Rattle.axi_link.specs.declared.out.Out.{Out}
 use Rattle.axi_trail.specs.Streams.{over}
-
--- AxBURST of a burst
-abbrev pub burst_code : Burst → ℕ
-burst_code Fixed = 0
-burst_code Incr = 1
-burst_code Wrap = 2
-
--- BRESP or RRESP of a response; 1, EXOKAY, is none of them
-abbrev pub response_code : Resp → ℕ
-response_code Okay = 0
-response_code SlvErr = 2
-response_code DecErr = 3
 
 -- the beats as they are seen on the channels: no access is exclusive, and a W beat is seen as it is
 abbrev pub seen_address : Addr → RawAddr

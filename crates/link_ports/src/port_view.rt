@@ -3,9 +3,9 @@
 ghost use Rattle.std.specs.Prelude.{◌≡◌, option_map};
 ghost use Rattle.std.specs.Option.{option_copied};
 ghost use Rattle.axi_link.specs.Moves.{takes_from};
-ghost use Rattle.link_ports.specs.PortView.{burst_code, port_of as port_seen, response_code, seen_address, seen_read_beat, seen_response};
+ghost use Rattle.link_ports.specs.PortView.{port_of as port_seen, seen_address, seen_read_beat, seen_response};
 
-use axi_beats::{Addr, BBeat, Burst, RBeat, Resp, WBeat};
+use axi_beats::{Addr, BBeat, RBeat, WBeat};
 use axi_history::{PortKind, PortRound, RawAddr, RawB, RawR, Seen};
 use axi_link::{Link, Out};
 
@@ -56,7 +56,7 @@ fn address_shown(head: Option<&Addr>, taken: bool) -> Option<Seen<RawAddr>>
         addr: address.addr,
         len: address.len,
         size: address.size,
-        burst: burst_code(address.burst),
+        burst: address.burst.code(),
         lock: false,
         tag: address.tag,
     };
@@ -78,7 +78,7 @@ fn response_shown(head: Option<&BBeat>, taken: bool) -> Option<Seen<RawB>>
     let response = head?;
     let beat = RawB {
         id: response.id,
-        resp: response_code(response.resp),
+        resp: response.resp.code(),
         tag: response.tag,
     };
     Some(Seen { beat, taken })
@@ -92,31 +92,9 @@ fn read_beat_shown(head: Option<&RBeat>, taken: bool) -> Option<Seen<RawR>>
     let beat = RawR {
         id: read.id,
         lanes: read.lanes,
-        resp: response_code(read.resp),
+        resp: read.resp.code(),
         last: read.last,
         tag: read.tag,
     };
     Some(Seen { beat, taken })
-}
-
-/// AxBURST: 0 FIXED, 1 INCR, 2 WRAP. (Arm IHI 0022, burst type.)
-fn burst_code(burst: Burst) -> u8
-    ensures { result ≡ burst_code burst }
-{
-    match burst {
-        Burst::Fixed => 0,
-        Burst::Incr => 1,
-        Burst::Wrap => 2,
-    }
-}
-
-/// BRESP or RRESP: 0 OKAY, 2 SLVERR, 3 DECERR. (Arm IHI 0022, read and write response structure.)
-fn response_code(response: Resp) -> u8
-    ensures { result ≡ response_code response }
-{
-    match response {
-        Resp::Okay => 0,
-        Resp::SlvErr => 2,
-        Resp::DecErr => 3,
-    }
 }

@@ -14,7 +14,8 @@ use Rattle.burst_address.specs.Formulas.{beats_of}
 use Rattle.flight.specs.Entries.{of_key}
 use Rattle.axi_trail.proofs.StreamFacts.{prefix_nil}
 use Rattle.axi_trail.specs.LinkContracts.{Answers}
-use Rattle.axi_trail.specs.Schedule.{Schedule, Span, Progress, bytes_on}
+use Rattle.axi_beats.specs.Lanes.{Span}
+use Rattle.axi_trail.specs.Schedule.{Schedule, Progress, bytes_on}
 use Rattle.axi_trail.specs.Trail.{Beats}
 use Rattle.axi_trail.specs.Words.{number_of_response, number_of_read_data}
 use Rattle.manager_end.specs.Answer.{AnswerView, answered_in, is_last}

@@ -6,7 +6,8 @@ use Rattle.std.specs.List.{range_with_len}
 use Rattle.axi_beats.specs.declared.beat.Addr.{Addr}
 use Rattle.axi_link.specs.LinkView.{LinkView}
 use Rattle.axi_trail.specs.LinkContracts.{Asks, Answers, without_id}
-use Rattle.axi_trail.specs.Schedule.{Schedule, Share, Span, Progress, SameChain, bytes_on}
+use Rattle.axi_beats.specs.Lanes.{Span}
+use Rattle.axi_trail.specs.Schedule.{Schedule, Share, Progress, SameChain, bytes_on}
 use Rattle.axi_trail.specs.Trail.{Beats, no_beats, joined, moved_above}
 use Rattle.axi_trail.specs.Waiting.{held, request_of}
 use Rattle.axi_trail.specs.Words.{InOrderOfId, number_of_address, number_of_response, number_of_read_data, reads_asked, read_replies, writes_asked, write_replies}

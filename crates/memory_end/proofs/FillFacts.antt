@@ -7,7 +7,8 @@ use Rattle.std.proofs.lemmas.List.{length-map, map-append, drop_at, take_at}
 use Rattle.std.proofs.lemmas.Simd.{map-map}
 use Rattle.std.proofs.lemmas.List.FromFn.{length-range_with_len}
 use Rattle.axi_beats.specs.declared.beat.RBeat.{RBeat}
-use Rattle.axi_trail.specs.Schedule.{Span, bytes_on}
+use Rattle.axi_beats.specs.Lanes.{Span}
+use Rattle.axi_trail.specs.Schedule.{bytes_on}
 use Rattle.axi_trail.specs.Streams.{IsPrefix}
 use Rattle.axi_trail.proofs.PrefixFacts.{prefix_cons}
 use Rattle.axi_trail.proofs.StreamFacts.{prefix_itself, prefix_nil}

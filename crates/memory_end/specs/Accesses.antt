@@ -7,7 +7,8 @@ use Rattle.axi_beats.specs.declared.beat.WBeat.{WBeat}
 use Rattle.axi_beats.specs.declared.response.Resp.{Resp}
 use Rattle.axi_beats.specs.declared.response.Resp.TheVariants.{Okay}
 use Rattle.axi_beats.specs.Response.{worst_of}
-use Rattle.axi_trail.specs.Schedule.{Share, Span}
+use Rattle.axi_beats.specs.Lanes.{Span}
+use Rattle.axi_trail.specs.Schedule.{Share}
 use Rattle.burst_address.specs.Formulas.{beats_of}
 use Rattle.memory_end.specs.declared.config.MemoryConfig.{MemoryConfig}
 use Rattle.memory_end.specs.Beats.{Byte, first_lane, lane_count, lane_address, strobed_status, valid_lanes, written_bytes}

@@ -10,7 +10,8 @@ use Rattle.std.proofs.lemmas.List.FromFn.{length-range_with_len}
 use Rattle.axi_beats.specs.declared.beat.Addr.{Addr}
 use Rattle.axi_beats.specs.declared.beat.WBeat.{WBeat}
 use Rattle.axi_trail.specs.LinkContracts.{without_id}
-use Rattle.axi_trail.specs.Schedule.{SameChain, Share, Span}
+use Rattle.axi_beats.specs.Lanes.{Span}
+use Rattle.axi_trail.specs.Schedule.{SameChain, Share}
 use Rattle.burst_address.specs.Formulas.{beats_of}
 use Rattle.burst_address.specs.Legal.{IsLegal}
 use Rattle.manager_end.specs.Beats.{data_beat, data_beats, high_lane, low_lane, request_of}

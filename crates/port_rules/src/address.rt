@@ -7,8 +7,8 @@ use axi_beats::{Addr, Burst, WBeat};
 use axi_history::RawAddr;
 use burst_address::{BurstRule, lanes, legal};
 
-/// The request that an address makes. The reserved burst code 3 breaks rule 3, so that the kind that
-/// it is given here doesn't count.
+/// The request that an address makes. A burst code that has no kind breaks rule 3, so that the kind
+/// that it is given here doesn't count.
 fn request(a: &RawAddr) -> Addr
     ensures { result ≡ request_of a.now }
 {
@@ -17,11 +17,7 @@ fn request(a: &RawAddr) -> Addr
         addr: a.addr,
         len: a.len,
         size: a.size,
-        burst: match a.burst {
-            0 => Burst::Fixed,
-            1 => Burst::Incr,
-            _ => Burst::Wrap,
-        },
+        burst: Burst::from_code(a.burst).unwrap_or(Burst::Wrap),
         tag: a.tag,
     }
 }
@@ -31,7 +27,7 @@ pub(crate) fn address_fault(a: &RawAddr, bus: u8) -> Option<u8>
     requires { IsBusWidth bus }
     ensures { result ≡ least_broken (address_rules bus a.now) }
 {
-    if a.burst == 3 {
+    if Burst::from_code(a.burst).is_none() {
         return Some(3);
     }
     match legal(&request(a), bus) {
