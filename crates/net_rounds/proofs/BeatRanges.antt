@@ -23,7 +23,7 @@ use Rattle.burst_address.proofs.Numbers.{exponent_below}
 use Rattle.burst_address.specs.Bytes.{beat_bytes, bytes_before}
 use Rattle.burst_address.specs.Formulas.{beats_of}
 use Rattle.burst_address.specs.Legal.{IsLegal, is_length_of}
-use Rattle.link_ports.specs.PortView.{burst_code, response_code, seen_address, seen_read_beat, seen_response}
+use Rattle.link_ports.specs.PortView.{seen_address, seen_read_beat, seen_response}
 use Rattle.manager_end.specs.Beats.{beat_data, data_beat, lane_of, low_lane, request_of}
 use Rattle.manager_end.specs.Script.{ScriptItem}
 use Rattle.manager_end.specs.declared.script.WriteByte.{WriteByte}
@@ -40,6 +40,7 @@ use Rattle.plain_text.specs.ExactLaws.{AreBytes}
 use Rattle.trace_text.specs.Ranges.{IsOnBus, IsTraceAddress, IsTraceReadData, IsTraceResponse, IsTraceWriteData}
 use Rattle.net_rounds.proofs.Choosing.{All-slice_get}
 use Rattle.net_rounds.proofs.LaneRanges.{mapped-on_bus, placed-on_bus}
+use Rattle.axi_beats.specs.Codes.{burst_code, response_code}
 
 -- ---- codes
 
