@@ -20,25 +20,26 @@ use Rattle.node_core.proofs.RowLemmas.{beat_where-has}
 use Rattle.burst_address.proofs.Beats.{beat-count, bus-most}
 use Rattle.burst_address.proofs.Legality.{legal-length, legal-size, wrap_length}
 use Rattle.burst_address.proofs.Numbers.{exponent_below}
-use Rattle.burst_address.specs.Bytes.{beat_bytes, bytes_before}
+use Rattle.burst_address.specs.Bytes.{Byte, beat_bytes, bytes_before}
 use Rattle.burst_address.specs.Formulas.{beats_of}
 use Rattle.burst_address.specs.Legal.{IsLegal, is_length_of}
 use Rattle.link_ports.specs.PortView.{seen_address, seen_read_beat, seen_response}
-use Rattle.manager_end.specs.Beats.{beat_data, data_beat, lane_of, low_lane, request_of}
+use Rattle.manager_end.specs.Beats.{beat_data, data_beat, item_request, lane_of}
 use Rattle.manager_end.specs.Script.{ScriptItem}
 use Rattle.manager_end.specs.declared.script.WriteByte.{WriteByte}
 use Rattle.memory_end.proofs.LaneFacts.{lanes-within}
-use Rattle.memory_end.specs.Beats.{Byte, all_written, answered_byte, answered_lanes, first_lane, is_valid, lane_address, lane_count, valid_status, written_bytes}
+use Rattle.burst_address.specs.Lanes.{first_lane, is_valid, lane_address, lane_count}
+use Rattle.memory_end.specs.Beats.{answered_byte, answered_lanes, stored_bytes, valid_status, with_bytes}
 use Rattle.memory_end.specs.MemoryState.{MemoryState}
 use Rattle.memory_end.specs.MemoryTable.{after_ar, after_aw, after_b, after_r, after_w, answer_to, lacks_data, next_beat, oldest_lacking, put_read, put_response, store_after, store_with, with_beat, with_data}
 use Rattle.memory_end.specs.Status.{is_okay, read_status}
-use Rattle.memory_end.specs.Store.{Store, byte_at, byte_place, written, written_at}
+use Rattle.memory_end.specs.Store.{Store, byte_at, byte_place, with_byte, with_byte_at}
 use Rattle.memory_end.specs.declared.config.MemoryConfig.{MemoryConfig}
 use Rattle.memory_end.specs.declared.entry.ReadEntry.{ReadEntry}
 use Rattle.memory_end.specs.declared.entry.WriteEntry.{WriteEntry}
 use Rattle.plain_text.specs.ExactLaws.{AreBytes}
 use Rattle.trace_text.specs.Ranges.{IsOnBus, IsTraceAddress, IsTraceReadData, IsTraceResponse, IsTraceWriteData}
-use Rattle.net_rounds.proofs.Choosing.{All-slice_get}
+use Rattle.plain_lists.proofs.PlaceLemmas.{All-slice_get}
 use Rattle.net_rounds.proofs.LaneRanges.{mapped-on_bus, placed-on_bus}
 use Rattle.axi_beats.specs.Codes.{burst_code, response_code}
 
@@ -70,7 +71,7 @@ most-beats Wrap beats is =
     omega (arith, j.1, most)
 
 -- the request of a transaction
-pub request-in_range : (item : ScriptItem) (bus : ℕ) → IsBusWidth bus → IsLegal item.txn.request bus → item.txn.request.addr < 2 ^ 63 → item.txn.request.id < 2 ^ 32 → item.txn.number < 2 ^ 32 → IsAddressInRange (request_of item)
+pub request-in_range : (item : ScriptItem) (bus : ℕ) → IsBusWidth bus → IsLegal item.txn.request bus → item.txn.request.addr < 2 ^ 63 → item.txn.request.id < 2 ^ 32 → item.txn.number < 2 ^ 32 → IsAddressInRange (item_request item)
 request-in_range item bus wide legal start id number =
     let request = item.txn.request in
     let beats = most-beats request.burst (beats_of request) (legal-length request bus legal) in
@@ -98,7 +99,7 @@ pub data-in_range : (item : ScriptItem) (bus n : ℕ) → IsBusWidth bus → IsL
 data-in_range item bus n wide legal bytes number strobe =
     let request = item.txn.request in
     let Is : WriteByte → Type 0 = λ byte. byte.value < 256 in
-    let low = low_lane bus request n in
+    let low = first_lane request n bus in
     let sent = beat_data item n in
     let count = beat-count request bus n wide legal in
     let few = bus-most bus wide in
@@ -175,20 +176,20 @@ lane-of [] all k = omega arith
 lane-of (x ∷ xs) all zero = all.0
 lane-of (x ∷ xs) all (suc k) = lane-of xs all.1 k
 
-placed-stays : (store : Store) (place : Option ℕ) (value : ℕ) → value < 256 → All IsByte store.bytes → All IsByte (written_at store place value).bytes
+placed-stays : (store : Store) (place : Option ℕ) (value : ℕ) → value < 256 → All IsByte store.bytes → All IsByte (with_byte_at store place value).bytes
 placed-stays store None value less all = all
 placed-stays store (Some place) value less all = All-set IsByte store.bytes place value less all
 
-all-placed : (bytes : List Byte) (store : Store) → All (λ (byte : Byte). byte.value < 256) bytes → All IsByte store.bytes → All IsByte (all_written store bytes).bytes
+all-placed : (bytes : List Byte) (store : Store) → All (λ (byte : Byte). byte.value < 256) bytes → All IsByte store.bytes → All IsByte (with_bytes store bytes).bytes
 all-placed [] store new all = all
 all-placed (byte ∷ bytes) store new all =
-    all-placed bytes (written store byte.address byte.value) (All-tail (λ (b : Byte). b.value < 256) byte bytes new)
+    all-placed bytes (with_byte store byte.address byte.value) (All-tail (λ (b : Byte). b.value < 256) byte bytes new)
     (placed-stays store (byte_place store byte.address) byte.value (All-head (λ (b : Byte). b.value < 256) byte bytes new) all)
 
 beat-placed : (config : MemoryConfig) (o : Option WriteEntry) (w : WBeat) (store : Store) → AreBytes w.lanes → All IsByte store.bytes → All IsByte (store_with config o w store).bytes
 beat-placed config None w store lanes all = all
 beat-placed config (Some entry) w store lanes all =
-    all-placed (written_bytes config entry.request entry.taken w) store (All-map (λ (byte : Byte). byte.value < 256) _ _ (λ k d lt. lane-of w.lanes lanes _)) all
+    all-placed (stored_bytes config entry.request entry.taken w) store (All-map (λ (byte : Byte). byte.value < 256) _ _ (λ k d lt. lane-of w.lanes lanes _)) all
 
 pub bytes-stay : (config : MemoryConfig) (bus : ℕ) (o : Option WBeat) (entries : List WriteEntry) (store : Store) → IfSome o (IsTraceWriteData bus) → All IsByte store.bytes → All IsByte (store_after config o entries store).bytes
 bytes-stay config bus None entries store new all = all

@@ -10,7 +10,7 @@ use Rattle.axi_link.specs.LinkView.{LinkView}
 use Rattle.axi_link.specs.LinkWords.{head_of}
 use Rattle.axi_link.specs.declared.out.Out.{Out}
 use Rattle.link_ports.specs.PortView.{port_of, seen_address, seen_itself, seen_read_beat, seen_response, shown}
-use Rattle.manager_end.specs.Beats.{data_beat, request_of}
+use Rattle.manager_end.specs.Beats.{data_beat, item_request}
 use Rattle.manager_end.specs.ManagerState.{reads_of, writes_of}
 use Rattle.manager_end.specs.ManagerTable.{manager_out}
 use Rattle.manager_end.specs.Script.{ScriptItem}
@@ -66,7 +66,7 @@ module _ (p : Pair) (n : ℕ) (holds : PairHolds p) (range : PairInRange p) wher
   abbrev answers : Out
   answers = memory_out links p.memory.state
 
-  chosen-request : (write : Bool) (item : ScriptItem) → IsChosen script p.manager.state.bus write item → IsAddressInRange (request_of item)
+  chosen-request : (write : Bool) (item : ScriptItem) → IsChosen script p.manager.state.bus write item → IsAddressInRange (item_request item)
   chosen-request write item chosen =
       request-in_range item p.manager.state.bus holds.manager.bus_width chosen.request.legal chosen.request.small (All-contains (λ (i : ScriptItem). i.txn.request.id < 2 ^ 32) script item range.ids chosen.among)
       (All-contains (λ (i : ScriptItem). i.txn.number < 2 ^ 32) script item range.fits_beats.numbers chosen.among)
