@@ -4,10 +4,10 @@ ghost use Rattle.std.specs.Prelude.{◌≡◌, ◌≤◌, map, string_bytes, Non
 ghost use Rattle.axi_program.specs.Call.{DocumentsRunRight, IsComplete, ReadsWhole, Tells};
 ghost use Rattle.axi_program.specs.Faults.{Rose};
 ghost use Rattle.axi_program.specs.Words.{command_of as command_by};
-use crate::outside::source::{Failed, Source};
 
 use crate::outside::gate::Gate;
 use crate::outside::sink::Sink;
+use crate::outside::source::{Failed, Source};
 use crate::preparation::prepare;
 use crate::status::Status;
 use std::alloc::Global;

@@ -7,11 +7,11 @@ ghost use Rattle.burst_address.specs.Legal.{IsLegal};
 ghost use Rattle.manager_end.specs.Beats.{data_beat, lane_of, lanes_from, item_request, strobe_of};
 ghost use Rattle.manager_end.specs.ManagerInside.{IsWithin};
 ghost use Rattle.manager_end.specs.Placed.{placed};
-use crate::script::{Script, Txn, WriteByte};
-use axi_beats::{Addr, Lanes, Tag, WBeat};
 ghost use Rattle.node_core.specs.Rows.{put_of};
 
+use crate::script::{Script, Txn, WriteByte};
 use crate::sending::Sending;
+use axi_beats::{Addr, Lanes, Tag, WBeat};
 use burst_address::lanes;
 use node_core::set_put;
 
