@@ -5,11 +5,11 @@ ghost use Rattle.std.specs.Option.{option_map};
 ghost use Rattle.manager_end.specs.ManagerState.{is_directed, of_direction};
 ghost use Rattle.manager_end.specs.ManagerTable.{fits, ready, with_issued};
 ghost use Rattle.manager_end.specs.Placed.{placed};
-use crate::script::{Script, Txn};
 ghost use Rattle.plain_lists.specs.Keys.{without_oldest};
 ghost use Rattle.node_core.specs.Rows.{beat_where};
 
 use crate::entry::Entry;
+use crate::script::{Script, Txn};
 use axi_beats::NoMemory;
 use flight::Flight;
 use std::alloc::Global;

@@ -30,8 +30,6 @@ use Rattle.plain_lists.specs.Keys.{of_key}
 use Rattle.plain_lists.proofs.PlaceLemmas.{contains-at}
 use Rattle.plain_lists.proofs.RoundLemmas.{over-grows}
 
-
-
 module _ (script : List ScriptItem) (run : RunFacts script) where
   -- ---- how many accesses there are of a transaction
 

@@ -197,7 +197,6 @@ pub network-committed :
 unfolding after_commit
 network-committed net links moved = ap (λ (ls : List LinkView). record { nodes = net.nodes; links = ls; ends = net.ends }) moved
 
-
 -- what phase one leaves, in terms of what was lent to it
 pub decided-by :
     (round : ℕ) (now lent nodes : List Node) (seen links : List LinkView) →

@@ -3,11 +3,11 @@
 ghost use Rattle.std.specs.Prelude.{◌≡◌, ◌+◌, ◌<◌, ◌^◌, All, length, map};
 ghost use Rattle.net_nodes.specs.NodeTable.{CanNode, node_table};
 ghost use Rattle.net_rounds.specs.Network.{CanLink, link_moved};
+ghost use Rattle.plain_lists.specs.Numbered.{AllNumbered, numbered};
 
 use crate::ends::Ends;
 use axi_link::Link;
 use net_nodes::Node;
-ghost use Rattle.plain_lists.specs.Numbered.{AllNumbered, numbered};
 
 /// Phase one of round `round`, from 1: each node decides, on the links as they stand.
 #[tactic(auto, using(std::proofs::lemmas::List::Edits::map_over_more))]
