@@ -1,7 +1,7 @@
 -- Documents whose plans are known.
 use Rattle.std.specs.Prelude.{◌≡◌, ◌++◌, ◌+◌, ◌*◌, ℕ, List, [], ◌∷◌, Bool, false, true, codes, decimal, length, map}
 use Rattle.topology.specs.Document.{DocumentNode}
-use Rattle.topology.specs.KnownDocuments.{chooses, crossed_ways, manager, memory, of_id_width, passes, region, small_system, two_wide}
+use Rattle.topology.specs.KnownDocuments.{chooses, crossed_ways, manager, memory, region, small_system, two_wide}
 use Rattle.topology.specs.declared.kind.Kind.TheVariants as kind
 use Rattle.elaborate.specs.Path.{path_of, target_of}
 use Rattle.elaborate.specs.Plan.{PlanLink, PlanNode, plan_links, plan_nodes}

@@ -1,3 +1,4 @@
 pub mod Plan
 pub mod Path
+pub mod Laws
 pub mod KnownPlans

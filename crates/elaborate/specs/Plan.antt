@@ -58,25 +58,25 @@ module _ (nodes : List DocumentNode) where
     split_part = named_part part.Split (codes ".split") ((first_part place + 1) ∷ []) (first_link (inputs_of nodes place))
 
     -- a demux, whose last port leads to its error subordinate
-    abbrev pub demux_parts : List PlanNode
-    demux_parts = named_part part.Demux [] (entrances ++ (first_part place + 1) ∷ []) (link_of nodes place) ∷ error_part (codes ".err") ∷ []
+    abbrev pub demux_itself : PlanNode
+    demux_itself = named_part part.Demux [] (entrances ++ (first_part place + 1) ∷ []) (link_of nodes place)
 
     -- a crossbar's input: a demux, whose ports lead to the muxes of all targets and then to its error subordinate
-    abbrev pub input_parts : ℕ → List PlanNode
-    input_parts i =
-        named_part
-        part.Demux
-        (codes ".d" ++ decimal i)
+    abbrev pub input_demux : ℕ → PlanNode
+    input_demux i =
+        named_part part.Demux (codes ".d" ++ decimal i)
         (map (λ j. first_part place + 2 * length (uppers_of nodes place) + j) (numbers (length targets)) ++ (first_part place + 2 * i + 1) ∷ [])
         (slice_index_or (inputs_of nodes place) i no_link)
-        ∷ error_part (codes ".e" ++ decimal i) ∷ []
+
+    abbrev pub input_parts : ℕ → List PlanNode
+    input_parts i = input_demux i ∷ error_part (codes ".e" ++ decimal i) ∷ []
 
     -- a crossbar's target: a mux that leads to it
-    abbrev pub target_part : ℕ → PlanNode
-    target_part j = named_part part.Mux (codes ".m" ++ decimal j) (entrance place (slice_index_or targets j 0) ∷ []) (link_of nodes place)
+    abbrev pub target_mux : ℕ → PlanNode
+    target_mux j = named_part part.Mux (codes ".m" ++ decimal j) (entrance place (slice_index_or targets j 0) ∷ []) (link_of nodes place)
 
     abbrev pub crossbar_parts : List PlanNode
-    crossbar_parts = flat_map input_parts (numbers (length (uppers_of nodes place))) ++ map target_part (numbers (length targets))
+    crossbar_parts = flat_map input_parts (numbers (length (uppers_of nodes place))) ++ map target_mux (numbers (length targets))
 
     abbrev pub parts_by_kind : Kind → List PlanNode
     parts_by_kind kind.Manager = itself part.Manager ∷ []
@@ -88,7 +88,7 @@ module _ (nodes : List DocumentNode) where
     parts_by_kind kind.Up = itself part.Up ∷ []
     parts_by_kind kind.Down = split_part ∷ itself part.Down ∷ []
     parts_by_kind kind.Lite = split_part ∷ itself part.Lite ∷ []
-    parts_by_kind kind.Demux = demux_parts
+    parts_by_kind kind.Demux = demux_itself ∷ error_part (codes ".err") ∷ []
     parts_by_kind kind.Crossbar = crossbar_parts
 
   -- what a document node becomes, and what all of them become: the plan's nodes, numbered from 0

@@ -4,6 +4,8 @@
 
 pub use known::known_plans;
 pub use part::Part;
+pub use plan_laws::laws;
 
 mod known;
 mod part;
+mod plan_laws;

@@ -1,5 +1,8 @@
 pub mod Accepted
 pub mod Document
+pub mod Form
 pub mod KnownDocuments
 pub mod Refused
-pub mod Regions
+pub mod Shape
+pub mod Seen
+pub mod Node

@@ -1,7 +1,8 @@
 -- Which documents are refused. Each predicate is of the nodes and of one of them, by its number from 0.
 use Rattle.std.specs.Prelude.{◌≡◌, ◌==◌, ◌+◌, ◌%◌, ◌&&◌, ◌||◌, ◌++◌, ℕ, suc, List, [], ◌∷◌, Bool, false, Option, Some, None, length, find, map, nat_lt, nat_le, not, bytes_eq, is_none, sum, take, if◌then◌else◌}
 use Rattle.std.specs.List.{list_any}
-use Rattle.topology.specs.Regions.{Region, has_overlap, is_bad_span}
+use Rattle.address_map.specs.Regions.{has_overlap, is_bad_span}
+use Rattle.address_map.specs.declared.region.Region.{Region}
 use Rattle.node_graph.specs.Graph.{is_on_cycle, numbers}
 use Rattle.refusals.specs.declared.cause.Cause.{Cause}
 use Rattle.refusals.specs.declared.cause.Cause.TheVariants.{DuplicateName, UnknownName, FanIn, Loose, Cycle, BadRegion, Overlap, WidthMismatch, IdOverflow, LiteMismatch, TooLarge}

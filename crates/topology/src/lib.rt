@@ -2,8 +2,14 @@
 #![tactic(auto)]
 
 mod accepted;
+mod element;
+mod form;
 mod kind;
 mod known;
+mod node;
+mod read;
+mod row;
+mod value;
 
 pub use accepted::laws_of_accepted;
 pub use kind::{Kind, Span};

@@ -1,0 +1,11 @@
+use Rattle.std.proofs.Common.{◌≡◌, ◌++◌, drop}
+use Rattle.std.specs.Prelude.{filter_map}
+use Rattle.toml.specs.View.{view}
+use Rattle.topology.specs.Node.{regions_seen}
+use Rattle.topology.specs.Shape.{region_of}
+use Rattle.topology.proofs.node.copy_regions.Given as goal
+
+abbrev pub invariant-loop-value : goal.invariant-loop-value
+invariant-loop-value l =
+    regions_seen l.regions.items ++ filter_map (λ value. region_of (view value)) (drop l.value-index l.values)
+    ≡ filter_map (λ value. region_of (view value)) l.values
