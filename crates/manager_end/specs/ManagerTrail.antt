@@ -14,7 +14,7 @@ use Rattle.axi_trail.specs.Words.{InOrderOfId, number_of_address, number_of_resp
 use Rattle.burst_address.specs.Formulas.{beats_of}
 use Rattle.burst_address.specs.Legal.{IsLegal}
 use Rattle.flight.specs.Entries.{of_key}
-use Rattle.burst_address.specs.Lanes.{lanes_of}
+use Rattle.burst_address.specs.Lanes.{valid_span}
 use Rattle.manager_end.specs.Beats.{data_beats, item_request}
 use Rattle.manager_end.specs.ManagerOrder.{AreInOrder, IsAt, note_at}
 use Rattle.manager_end.specs.ManagerState.{ManagerState, IsManager, entry_of, new_manager, writes_of, reads_of}
@@ -27,7 +27,7 @@ shares_of schedule write = if write then schedule.writes else schedule.reads
 
 -- the valid lanes of each beat of a burst on a bus
 abbrev pub spans_of : ℕ → Addr → List Span
-spans_of bus request = map (λ n. lanes_of request n bus) (range_with_len 0 (beats_of request))
+spans_of bus request = map (λ n. valid_span request n bus) (range_with_len 0 (beats_of request))
 
 -- The schedule of the link below a manager has this transaction as it is: as one request, with its own data, and the
 -- valid lanes of its beats wanted.

@@ -12,7 +12,7 @@ use Rattle.manager_end.specs.ManagerState.{ManagerState, new_manager}
 use Rattle.manager_end.specs.Script.{IsScript, ScriptItem}
 use Rattle.manager_end.specs.declared.script.Txn.{Txn}
 use Rattle.memory_end.specs.MemoryState.{new_memory}
-use Rattle.memory_end.specs.Store.{line_of}
+use Rattle.memory_end.specs.Store.{line_number}
 use Rattle.memory_end.specs.declared.config.MemoryConfig.{MemoryConfig}
 use Rattle.net_nodes.specs.declared.node.Node.{Node}
 use Rattle.net_nodes.specs.declared.node.Node.TheVariants.{Manager, Memory}
@@ -24,7 +24,7 @@ ram = record { base = 0; size = 8192; bus = 4; fill = 0 }
 
 -- one of the first beats of a burst lies on this line of 128 bytes: the bytes of a beat lie in one line
 abbrev pub reaches_line : ℕ → Addr → ℕ → Bool
-reaches_line line request beats = list_any (λ n. line_of (beat_at request n) == line) (range_with_len 0 beats)
+reaches_line line request beats = list_any (λ n. line_number (beat_at request n) == line) (range_with_len 0 beats)
 
 -- a transaction writes a beat on this line
 abbrev pub touches_line : ℕ → Txn → Bool
