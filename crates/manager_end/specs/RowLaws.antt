@@ -4,11 +4,11 @@ use Rattle.std.specs.Prelude.{◌≡◌, ◌<◌, ◌≤◌, ◌==◌, ℕ, List
 use Rattle.axi_beats.specs.declared.beat.BBeat.{BBeat}
 use Rattle.axi_beats.specs.declared.beat.RBeat.{RBeat}
 use Rattle.axi_link.specs.LinkView.{LinkView}
-use Rattle.axi_link.specs.Table.{has_room, head_of}
 use Rattle.manager_end.specs.Beats.{data_beat, item_request}
 use Rattle.manager_end.specs.ManagerState.{ManagerState, reads_of, writes_of}
 use Rattle.manager_end.specs.ManagerTable.{below, fits, manager_out}
 use Rattle.manager_end.specs.Script.{ScriptItem}
+use Rattle.axi_link.specs.LinkWords.{has_room, head_of}
 
 -- what a manager does in a round, row by row
 pub record DoesItsRows (links : List LinkView) (s : ManagerState) : Type 0 where

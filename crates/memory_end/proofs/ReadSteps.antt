@@ -6,7 +6,6 @@ use Rattle.axi_beats.specs.declared.beat.Addr.{Addr}
 use Rattle.axi_beats.specs.declared.beat.RBeat.{RBeat}
 use Rattle.axi_beats.specs.declared.beat.WBeat.{WBeat}
 use Rattle.axi_link.specs.LinkView.{LinkView}
-use Rattle.axi_link.specs.Table.{has_room, head_of, passing}
 use Rattle.axi_trail.specs.LinkContracts.{WholeBeforeTheNext, without_id}
 use Rattle.axi_trail.specs.Schedule.{Schedule}
 use Rattle.axi_trail.specs.Streams.{IsPrefix}
@@ -25,6 +24,8 @@ use Rattle.memory_end.proofs.ChainFacts.{none_later}
 use Rattle.memory_end.proofs.ReadAccess.{IsNextRead, accessed-read}
 use Rattle.memory_end.proofs.ReadTracks.{count-read_marks, head-pending, held-asked, held-put, held_reads, length-read_marks, next_read, read_marks, tracks-asked, tracks-put}
 use Rattle.memory_end.proofs.WriteTracks.{one_of}
+use Rattle.axi_link.specs.LinkWords.{has_room, head_of}
+use Rattle.node_core.specs.Rows.{beat_where}
 
 -- what holds of the open reads
 pub record ReadsStand (schedule : Schedule) (entries : List ReadEntry) (ar : List Addr) (r : List RBeat) : Type 0 where
@@ -82,10 +83,10 @@ module _ (schedule : Schedule) (s : MemoryState) (w : List WBeat) (ar : List Add
 
     pub step-r : (link : LinkView) (entries : List ReadEntry) → All (IsReadEntry s.config) entries → ReadsStand schedule entries ar r → Accessed schedule s.config s.store w r all → IsAfterR entries (put_read s.config s.store link entries)
     step-r link [] each stand accessed =
-        let go : (room : Bool) → IsAfterR [] (passing room None) = elim [ true ↦ quiet [] stand accessed | false ↦ quiet [] stand accessed ] in
+        let go : (room : Bool) → IsAfterR [] (beat_where room None) = elim [ true ↦ quiet [] stand accessed | false ↦ quiet [] stand accessed ] in
         go (has_room link.depth link.r)
     step-r link (e ∷ es) each stand accessed =
-        let go : (room : Bool) → IsAfterR (e ∷ es) (passing room (Some (next_beat s.config s.store e))) = elim [ true ↦ put-next e es (each 0 e (omega arith)) stand accessed | false ↦ quiet (e ∷ es) stand accessed ] in
+        let go : (room : Bool) → IsAfterR (e ∷ es) (beat_where room (Some (next_beat s.config s.store e))) = elim [ true ↦ put-next e es (each 0 e (omega arith)) stand accessed | false ↦ quiet (e ∷ es) stand accessed ] in
         go (has_room link.depth link.r)
 
 -- after a round's AR

@@ -3,13 +3,13 @@ use Rattle.std.specs.Prelude.{◌++◌, [], ℕ, List, Bool, true, false, Option
 use Rattle.axi_beats.specs.declared.beat.WBeat.{WBeat}
 use Rattle.axi_beats.specs.declared.beat.RBeat.{RBeat}
 use Rattle.axi_link.specs.LinkView.{LinkView}
-use Rattle.axi_link.specs.Table.{head_of}
 use Rattle.burst_address.specs.Bytes.{Byte}
 use Rattle.memory_end.specs.declared.entry.WriteEntry.{WriteEntry}
 use Rattle.memory_end.specs.declared.entry.ReadEntry.{ReadEntry}
 use Rattle.memory_end.specs.Beats.{stored_bytes, read_bytes}
 use Rattle.memory_end.specs.MemoryState.{MemoryState}
 use Rattle.memory_end.specs.MemoryTable.{memory_w, memory_r, oldest_lacking}
+use Rattle.axi_link.specs.LinkWords.{head_of}
 
 -- an access to a byte: the number that the beat's tag carries, the byte with its address, and whether it was written
 pub record Access : Type 0 where

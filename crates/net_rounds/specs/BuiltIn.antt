@@ -4,7 +4,6 @@
 use Rattle.std.specs.Prelude.{◌==◌, ◌*◌, ◌/◌, ◌&&◌, ◌∷◌, [], ℕ, Bool, List, All, Option, Some, None, filter, max, sum_by}
 use Rattle.std.specs.List.{list_any, range_with_len}
 use Rattle.axi_beats.specs.declared.beat.Addr.{Addr}
-use Rattle.axi_link.specs.Acted.{opened}
 use Rattle.axi_link.specs.LinkView.{empty_link}
 use Rattle.burst_address.specs.Formulas.{beat_at, beats_of, size_of}
 use Rattle.burst_address.specs.Legal.{IsLegal}
@@ -17,6 +16,7 @@ use Rattle.memory_end.specs.declared.config.MemoryConfig.{MemoryConfig}
 use Rattle.net_nodes.specs.declared.node.Node.{Node}
 use Rattle.net_nodes.specs.declared.node.Node.TheVariants.{Manager, Memory}
 use Rattle.net_rounds.specs.Network.{Network}
+use Rattle.node_core.specs.Acted.{opened}
 
 -- the memory
 abbrev pub ram : MemoryConfig

@@ -1,3 +1,4 @@
 pub mod Members
 pub mod Ways
 pub mod Levels
+pub mod Uppers

@@ -1,3 +1,5 @@
 pub mod Graph
 pub mod Order
 pub mod Laws
+pub mod Simple
+pub mod Inside
