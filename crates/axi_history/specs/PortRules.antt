@@ -11,7 +11,8 @@ use Rattle.axi_beats.specs.declared.beat.Burst.{Burst}
 use Rattle.axi_beats.specs.declared.beat.Burst.TheVariants.{Wrap}
 use Rattle.axi_beats.specs.declared.beat.Tag.{Tag}
 use Rattle.axi_beats.specs.declared.beat.WBeat.{WBeat}
-use Rattle.burst_address.specs.Formulas.{beat_at, beats_of, lower_lane, size_of, upper_lane}
+use Rattle.burst_address.specs.Formulas.{beats_of, size_of}
+use Rattle.burst_address.specs.Lanes.{first_lane, last_lane}
 use Rattle.burst_address.specs.Legal.{is_in_page, is_length_of, is_start_of, is_too_wide}
 use Rattle.axi_history.specs.declared.port.PortRound.{PortRound}
 use Rattle.axi_history.specs.declared.port.RawAddr.{RawAddr}
@@ -154,7 +155,7 @@ strobes_within lower upper strobe = strobe % 2 ^ lower == 0 && nat_lt strobe (2 
 abbrev pub has_strobes_on_valid_lanes : ℕ → RawAddr → ℕ → WBeat → Bool
 has_strobes_on_valid_lanes bus a n w =
     nat_lt a.len n
-    || strobes_within (lower_lane bus (beat_at (request_of a) n)) (upper_lane (size_of (request_of a)) bus (beat_at (request_of a) n)) w.strobe
+    || strobes_within (first_lane (request_of a) n bus) (last_lane (request_of a) n bus) w.strobe
 
 abbrev pub strobes_are_on_valid_lanes : ℕ → List PortRound → Bool
 strobes_are_on_valid_lanes bus history =

@@ -17,8 +17,8 @@ abbrev pub last_lane : Addr → ℕ → ℕ → ℕ
 last_lane request beat bus = upper_lane (size_of request) bus (beat_at request beat)
 
 -- both as a span
-abbrev pub lanes_of : Addr → ℕ → ℕ → Span
-lanes_of request beat bus = record { low = first_lane request beat bus; high = last_lane request beat bus }
+abbrev pub valid_span : Addr → ℕ → ℕ → Span
+valid_span request beat bus = record { low = first_lane request beat bus; high = last_lane request beat bus }
 
 -- how many valid lanes it has
 abbrev pub lane_count : Addr → ℕ → ℕ → ℕ

@@ -1,7 +1,8 @@
 //! The address of each beat, and its valid lanes. (Arm IHI 0022, burst address structure.)
 ghost use Rattle.std.specs.Prelude.{◌≡◌, ◌+◌, ◌*◌, ◌/◌, ◌%◌, ◌^◌, ◌<◌, ◌≤◌};
 ghost use Rattle.axi_beats.specs.Bus.{IsBusWidth};
-ghost use Rattle.burst_address.specs.Formulas.{aligned, incr_address, wrap_address, size_of, beats_of, beat_at, lower_lane, upper_lane};
+ghost use Rattle.burst_address.specs.Formulas.{aligned, incr_address, wrap_address, size_of, beats_of, beat_at};
+ghost use Rattle.burst_address.specs.Lanes.{first_lane, last_lane};
 ghost use Rattle.burst_address.specs.Legal.{IsLegal};
 
 use axi_beats::{Addr, Burst};
@@ -29,8 +30,8 @@ pub fn lanes(a: &Addr, n: u32, bus: u8) -> (u8, u8)
     requires start { a.now.addr < 2 ^ 63 }
     requires bus { IsBusWidth bus }
     requires legal { IsLegal a.now bus }
-    ensures lower { result.0 ≡ lower_lane bus (beat_at a.now n) }
-    ensures upper { result.1 ≡ upper_lane (size_of a.now) bus (beat_at a.now n) }
+    ensures lower { result.0 ≡ first_lane a.now n bus }
+    ensures upper { result.1 ≡ last_lane a.now n bus }
 {
     let address = beat_address(a, n);
     let last = aligned_address(address, a.size) + (beat_size(a.size) - 1);

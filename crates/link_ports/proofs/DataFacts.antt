@@ -13,7 +13,6 @@ use Rattle.axi_trail.specs.LinkContracts.{without_id}
 use Rattle.axi_trail.specs.Schedule.{Share}
 use Rattle.axi_trail.specs.Words.{marks, burst_asked, burst_marks, mark_of_data, number_of_data, number_of_address}
 use Rattle.axi_trail.proofs.FilterFacts.{length-burst_marks}
-use Rattle.burst_address.specs.Formulas.{beat_at, lower_lane, size_of, upper_lane}
 use Rattle.link_ports.specs.LegalSchedule.{IsDataOf}
 use Rattle.link_ports.specs.PortView.{seen_address}
 use Rattle.link_ports.proofs.AddressFacts.{seen_is_asked}
@@ -22,6 +21,7 @@ use Rattle.plain_lists.specs.Prefixes.{IsPrefix, Agree}
 use Rattle.plain_lists.proofs.KeyLemmas.{of_key-append, of_key-cons, of_key-skip}
 use Rattle.plain_lists.proofs.PrefixLemmas.{prefix_total, prefix_length, prefix_same, prefix_of_same, prefix_append, prefix_trans, prefix_cut}
 use Rattle.plain_lists.specs.Keys.{of_key}
+use Rattle.burst_address.specs.Lanes.{first_lane, last_lane}
 
 -- a question about each addressed beat, of the first address and of the others
 next_address : (bus : ℕ) (question : RawAddr → ℕ → WBeat → Bool) (a : RawAddr) (addresses : List RawAddr) (beats : List WBeat) (burst : List WBeat) (others : List (List WBeat)) →
@@ -62,12 +62,12 @@ strobes_due : (bus : ℕ) (a : Addr) (burst beats : List WBeat) → IsDataOf bus
 strobes_due bus a burst beats is_data front =
     each_by_place (has_strobes_on_valid_lanes bus (seen_address a)) 0 burst (λ n past within.
     let same : get_or beats n past ≡ get_or burst n past = ap (λ t. get_or t n past) front.whole ∙ get_or_append_left burst front.rest past n within in
-    let kept : strobes_within (lower_lane bus (beat_at a n)) (upper_lane (size_of a) bus (beat_at a n)) (get_or burst n past).strobe ≡ true =
-    ap (λ (w : WBeat). strobes_within (lower_lane bus (beat_at a n)) (upper_lane (size_of a) bus (beat_at a n)) w.strobe) (sym same) ∙ is_data.strobes n past (omega (arith, prefix_length front)) in
+    let kept : strobes_within (first_lane a n bus) (last_lane a n bus) (get_or burst n past).strobe ≡ true =
+    ap (λ (w : WBeat). strobes_within (first_lane a n bus) (last_lane a n bus) w.strobe) (sym same) ∙ is_data.strobes n past (omega (arith, prefix_length front)) in
     let place : 0 + n ≡ n = omega arith in
     subst (λ (i : ℕ). has_strobes_on_valid_lanes bus (seen_address a) i (get_or burst n past) ≡ true) (sym place)
-    (or_right (nat_lt a.len n) (strobes_within (lower_lane bus (beat_at (request_of (seen_address a)) n)) (upper_lane (size_of (request_of (seen_address a))) bus (beat_at (request_of (seen_address a)) n)) (get_or burst n past).strobe)
-    (ap (λ (x : Addr). strobes_within (lower_lane bus (beat_at x n)) (upper_lane (size_of x) bus (beat_at x n)) (get_or burst n past).strobe) (seen_is_asked a) ∙ kept)))
+    (or_right (nat_lt a.len n) (strobes_within (first_lane (request_of (seen_address a)) n bus) (last_lane (request_of (seen_address a)) n bus) (get_or burst n past).strobe)
+    (ap (λ (x : Addr). strobes_within (first_lane x n bus) (last_lane x n bus) (get_or burst n past).strobe) (seen_is_asked a) ∙ kept)))
 
 -- what is left of a transaction's share, where these addresses and these beats are still to be looked at
 pub record IsLeft (bus : ℕ) (addresses : List Addr) (beats : List WBeat) (t : ℕ) (share : Share) : Type 0 where

@@ -11,9 +11,7 @@ use Rattle.axi_trail.specs.LinkContracts.{Asks, Answers, Requests}
 use Rattle.axi_trail.specs.Schedule.{Share}
 use Rattle.axi_trail.specs.Trail.{Beats, no_beats, moved_below, trail_above, trail_below}
 use Rattle.axi_trail.specs.Words.{Asked, Reply, burst_asked}
-use Rattle.axi_trail.proofs.ExampleFacts as trails
 use Rattle.axi_trail.proofs.SlackFacts.{asking_goes_down, answering_goes_up}
-use Rattle.burst_address.specs.Formulas.{beat_at, lower_lane, size_of, upper_lane}
 use Rattle.burst_address.specs.Legal.{IsLegal}
 use Rattle.link_ports.specs.Example.{ExamplePort, HastyPort, ExampleKeepsContracts, manager_moves, memory_moves, links_between}
 use Rattle.link_ports.specs.LegalSchedule.{IsDataOf, IsLegalSchedule}
@@ -21,6 +19,8 @@ use Rattle.link_ports.proofs.ChannelFacts.{grows_itself}
 use Rattle.plain_lists.specs.Prefixes.{IsPrefix}
 use Rattle.plain_lists.specs.Rounds.{over}
 use Rattle.plain_lists.proofs.PrefixLemmas.{prefix_same, prefix_of_same, prefix_itself, prefix_nil}
+use Rattle.burst_address.specs.Lanes.{first_lane, last_lane}
+use Rattle.axi_trail.proofs.ExampleFacts as trails
 
 pub example_port : ExamplePort
 example_port = (record { depth = 2; opens = refl; moves = λ n. refl }, refl, refl)
@@ -34,7 +34,7 @@ one_beat : IsDataOf 4 (record write_address { id = 0 }) (write_data_beat ∷ [])
 one_beat = record {
   whole = refl;
   strobes = λ n past within.
-      subst (λ (k : ℕ). strobes_within (lower_lane 4 (beat_at (record write_address { id = 0 }) k)) (upper_lane (size_of write_address) 4 (beat_at (record write_address { id = 0 }) k)) (get_or (write_data_beat ∷ []) k past).strobe ≡ true)
+      subst (λ (k : ℕ). strobes_within (first_lane (record write_address { id = 0 }) k 4) (last_lane (record write_address { id = 0 }) k 4) (get_or (write_data_beat ∷ []) k past).strobe ≡ true)
       (let first : 0 ≡ n = omega arith in first) refl;
 }
 

@@ -6,14 +6,14 @@ use Rattle.axi_beats.specs.declared.beat.Addr.{Addr}
 use Rattle.axi_beats.specs.declared.beat.WBeat.{WBeat}
 use Rattle.axi_history.specs.PortRules.{strobes_within}
 use Rattle.axi_trail.specs.Schedule.{Schedule}
-use Rattle.burst_address.specs.Formulas.{beat_at, lower_lane, size_of, upper_lane}
+use Rattle.burst_address.specs.Lanes.{first_lane, last_lane}
 use Rattle.burst_address.specs.Legal.{IsLegal}
 
 -- the write data of a burst: AxLEN + 1 beats, each of which has its strobes on its valid lanes alone
 pub record IsDataOf (bus : ℕ) (burst : Addr) (beats : List WBeat) : Type 0 where
   pub whole : length beats ≡ burst.len + 1
   pub strobes : (n : ℕ) (past : WBeat) → n < length beats →
-      IsTrue (strobes_within (lower_lane bus (beat_at burst n)) (upper_lane (size_of burst) bus (beat_at burst n)) (slice_index_or beats n past).strobe)
+      IsTrue (strobes_within (first_lane burst n bus) (last_lane burst n bus) (slice_index_or beats n past).strobe)
 
 -- each part of each transaction is a legal burst, and each part of a write has its data
 pub record IsLegalSchedule (bus : ℕ) (schedule : Schedule) : Type 0 where

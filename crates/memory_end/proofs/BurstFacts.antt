@@ -1,42 +1,35 @@
 -- A memory's beats in the terms of bursts.
-use Rattle.std.proofs.Common.{◌≡◌, ℕ, ◌+◌, ◌-◌, ◌*◌, ◌/◌, ◌%◌, ◌==◌, ◌&&◌, ◌<◌, ◌≤◌, suc, zero, Bool, true, false, cond, List, [], ◌∷◌, ◌++◌, Option, Some, None, length, map, get_or, refl, sym, ◌∙◌, ap, subst, arith, inl, inr, leb, ltb, true≢false, IsTrue, append-nil, append_assoc, length-append}
-use Rattle.std.specs.Prelude.{All, Contains, filter, slice_get, slice_index}
-use Rattle.std.specs.Int.{bit_at}
-use Rattle.std.specs.List.{AllByRecursion, range_with_len}
-use Rattle.std.proofs.lemmas.Bool.{cases_lt, lt-leb, le-ltb}
-use Rattle.std.proofs.lemmas.List.{map-append}
+use Rattle.std.proofs.Common.{◌≡◌, ℕ, ◌+◌, ◌*◌, ◌%◌, ◌<◌, ◌≤◌, suc, zero, Bool, true, false, cond, List, [], ◌∷◌, ◌++◌, length, map, get_or, refl, sym, ◌∙◌, ap, subst, arith, inl, inr, IsTrue, append-nil, append_assoc, length-append}
+use Rattle.std.specs.Prelude.{All, Contains, filter, slice_index}
+use Rattle.std.proofs.lemmas.Bool.{cases_lt}
 use Rattle.std.proofs.lemmas.List.Elements.{All-append, filter-append}
-use Rattle.std.proofs.lemmas.List.FromFn.{length-range_with_len}
-use Rattle.std.proofs.lemmas.Nat.{div-add-mod', mod-mul-add, mod_below}
-use Rattle.std.proofs.lemmas.Simd.{map-map}
-use Rattle.axi_beats.specs.Bus.{IsBusWidth}
+use Rattle.std.proofs.lemmas.Nat.{div-add-mod', mod_below}
 use Rattle.axi_beats.specs.declared.beat.Addr.{Addr}
 use Rattle.axi_beats.specs.declared.beat.WBeat.{WBeat}
 use Rattle.axi_beats.specs.declared.response.Resp.TheVariants.{Okay, DecErr}
 use Rattle.burst_address.proofs.Beats.{beat-count, beat-line}
 use Rattle.burst_address.proofs.Written.{written-more, written-past}
 use Rattle.burst_address.specs.Bytes.{beat_bytes, beat_written, burst_bytes, bytes_before, written_bytes as burst_written, Byte}
-use Rattle.burst_address.specs.Formulas.{aligned, beat_at, beats_of, size_of}
+use Rattle.burst_address.specs.Formulas.{beat_at, beats_of}
 use Rattle.burst_address.specs.Legal.{IsLegal}
-use Rattle.memory_end.specs.Beats.{strobed_status, stored_bytes}
+use Rattle.memory_end.specs.Beats.{stored_bytes}
 use Rattle.memory_end.specs.BurstBytes.{LinesAreOfBurst, ReadsBurstBytes, WritesBeatBytes, WritesBurstBytes, inside_of, all_stored_bytes}
 use Rattle.memory_end.specs.MemoryState.{AreLinesAmong, IsMemoryConfig}
 use Rattle.memory_end.specs.Status.{is_inside, is_okay, read_status, write_status}
-use Rattle.memory_end.specs.Store.{line_of}
+use Rattle.memory_end.specs.Store.{line_number}
 use Rattle.memory_end.specs.declared.config.MemoryConfig.{MemoryConfig}
 use Rattle.memory_end.proofs.BeatLemmas.{is_inside-lane}
 use Rattle.plain_lists.proofs.RangeLemmas.{range-below, range-split}
 use Rattle.burst_address.proofs.LaneBytes.{beats-in_lines, lanes-are_bytes}
 use Rattle.burst_address.proofs.Strobes.{strobed-are_written}
 use Rattle.burst_address.proofs.Widths.{width-bounds, word-in_line}
-use Rattle.burst_address.specs.Lanes.{first_lane, is_strobed, is_valid, lane_address, lane_bytes, lane_count, strobed_lanes, valid_lanes, word_address}
+use Rattle.burst_address.specs.Lanes.{lane_address, lane_bytes, strobed_lanes, valid_lanes, word_address}
 use Rattle.burst_address.specs.LaneLaws.{AllStrobeValidLanes, StrobesValidLanes}
-use Rattle.burst_address.specs.Status.{worst_among}
 
 module _ (config : MemoryConfig) (lines : List ℕ) (a : Addr) (is : IsMemoryConfig config) (legal : IsLegal a config.bus) where
   -- what is asked of a byte's line
   abbrev IsKept : ℕ → Type 0
-  IsKept byte = IsTrue (is_inside config byte) → Contains lines (line_of byte)
+  IsKept byte = IsTrue (is_inside config byte) → Contains lines (line_number byte)
 
   -- a beat's bytes are in the memory where its word is
   inside-byte : (n k d : ℕ) → k < length (beat_bytes a n) → is_inside config (get_or (beat_bytes a n) k d) ≡ is_inside config (word_address a n config.bus)

@@ -8,7 +8,7 @@ use Rattle.std.proofs.lemmas.Simd.{map-map}
 use Rattle.std.proofs.lemmas.List.FromFn.{length-range_with_len}
 use Rattle.axi_beats.specs.declared.beat.RBeat.{RBeat}
 use Rattle.axi_trail.specs.Schedule.{bytes_on}
-use Rattle.memory_end.specs.Accesses.{BeatOf, allowed_bytes, read_addresses, span_of}
+use Rattle.memory_end.specs.Accesses.{BeatOf, allowed_bytes, read_addresses, beat_span}
 use Rattle.memory_end.specs.Beats.{answered_byte, answered_lanes, read_bytes}
 use Rattle.memory_end.specs.MemoryState.{IsMemoryConfig}
 use Rattle.memory_end.specs.Status.{is_okay, read_status}
@@ -21,7 +21,9 @@ use Rattle.plain_lists.proofs.RangeLemmas.{map-range-agree, range-split}
 use Rattle.axi_beats.specs.Lanes.{Span}
 use Rattle.burst_address.specs.Accesses.{answered_bytes}
 use Rattle.burst_address.specs.Bytes.{Byte}
-use Rattle.burst_address.specs.Lanes.{first_lane, lane_address, lane_count, valid_lanes}
+use Rattle.burst_address.specs.Lanes.{first_lane, lane_address, lane_count, valid_lanes, last_lane}
+use Rattle.burst_address.proofs.LaneBytes.{lanes-ordered}
+use Rattle.burst_address.specs.Legal.{IsLegal}
 
 -- how many are allowed
 abbrev pub count_allowed : List Bool → ℕ
@@ -92,15 +94,15 @@ bytes_on-more (b ∷ beats) r (s ∷ lanes) span rest e =
     ∙ sym (append_assoc (slice_range b.lanes s.low (s.high + 1)) (bytes_on beats lanes) (slice_range r.lanes span.low (span.high + 1)))
 
 -- a part of a list that tells each lane
-slice-range : (g : ℕ → ℕ) (end low count : ℕ) → 0 < count → low + count ≤ end → slice_range (map g (range_with_len 0 end)) low (low + count - 1 + 1) ≡ map g (range_with_len low count)
-slice-range g end low count some le =
+slice-range : (g : ℕ → ℕ) (end low count : ℕ) → low + count ≤ end → slice_range (map g (range_with_len 0 end)) low (low + count) ≡ map g (range_with_len low count)
+slice-range g end low count le =
     let whole : end ≡ low + (count + (end - (low + count))) = omega arith in
     let first : 0 + low ≡ low = omega arith in
-    let size : low + count - 1 + 1 - low ≡ count = omega arith in
-    ap (λ n. slice_range (map g (range_with_len 0 n)) low (low + count - 1 + 1)) whole
-    ∙ ap (λ t. slice_range (map g t) low (low + count - 1 + 1)) (range-split 0 low (count + (end - (low + count))))
-    ∙ ap (λ t. slice_range t low (low + count - 1 + 1)) (map-append g (range_with_len 0 low) (range_with_len (0 + low) (count + (end - (low + count)))))
-    ∙ ap (take (low + count - 1 + 1 - low)) (drop_at (map g (range_with_len 0 low)) (map g (range_with_len (0 + low) (count + (end - (low + count))))) low (length-map (range_with_len 0 low) g ∙ length-range_with_len 0 low))
+    let size : low + count - low ≡ count = omega arith in
+    ap (λ n. slice_range (map g (range_with_len 0 n)) low (low + count)) whole
+    ∙ ap (λ t. slice_range (map g t) low (low + count)) (range-split 0 low (count + (end - (low + count))))
+    ∙ ap (λ t. slice_range t low (low + count)) (map-append g (range_with_len 0 low) (range_with_len (0 + low) (count + (end - (low + count)))))
+    ∙ ap (take (low + count - low)) (drop_at (map g (range_with_len 0 low)) (map g (range_with_len (0 + low) (count + (end - (low + count))))) low (length-map (range_with_len 0 low) g ∙ length-range_with_len 0 low))
     ∙ ap (λ n. take n (map g (range_with_len (0 + low) (count + (end - (low + count)))))) size
     ∙ ap (λ n. take count (map g (range_with_len n (count + (end - (low + count)))))) first
     ∙ ap (λ t. take count (map g t)) (range-split low count (end - (low + count)))
@@ -108,19 +110,22 @@ slice-range g end low count some le =
     ∙ take_at (map g (range_with_len low count)) (map g (range_with_len (low + count) (end - (low + count)))) count (length-map (range_with_len low count) g ∙ length-range_with_len low count)
 
 -- the lanes of an answer beat that are wanted have the bytes that were read for it
-pub filled-beat : (config : MemoryConfig) (store : Store) (b : BeatOf) → IsMemoryConfig config →
-    slice_range (answered_lanes config store b.request b.beat) (span_of config b).low ((span_of config b).high + 1)
+pub filled-beat : (config : MemoryConfig) (store : Store) (b : BeatOf) → IsMemoryConfig config → IsLegal b.request config.bus →
+    slice_range (answered_lanes config store b.request b.beat) (beat_span config b).low ((beat_span config b).high + 1)
     ≡ answered_bytes (allowed_bytes config b) (map (λ (byte : Byte). byte.value) (read_bytes config store b.request b.beat))
-filled-beat config store b is =
+filled-beat config store b is legal =
     let bounds : (0 < lane_count b.request b.beat config.bus) × (first_lane b.request b.beat config.bus + lane_count b.request b.beat config.bus ≤ config.bus) × (config.bus ≤ 128) = lanes-within b.request b.beat config.bus is.bus in
-    of_lanes (first_lane b.request b.beat config.bus) (lane_count b.request b.beat config.bus) (λ lane. lane_address b.request b.beat config.bus lane) bounds.0 (omega (arith, bounds.1, bounds.2))
+    let last : last_lane b.request b.beat config.bus + 1 ≡ first_lane b.request b.beat config.bus + lane_count b.request b.beat config.bus =
+    omega (arith, lanes-ordered b.request b.beat config.bus is.bus legal) in
+    ap (slice_range (answered_lanes config store b.request b.beat) (first_lane b.request b.beat config.bus)) last
+    ∙ of_lanes (first_lane b.request b.beat config.bus) (lane_count b.request b.beat config.bus) (λ lane. lane_address b.request b.beat config.bus lane) (omega (arith, bounds.1, bounds.2))
   where
-    of_lanes : (low count : ℕ) (address : ℕ → ℕ) → 0 < count → low + count ≤ 128 →
-        slice_range (map (λ lane. cond (leb low lane && ltb lane (low + count)) (answered_byte config store (address lane)) 0) (range_with_len 0 128)) low (low + count - 1 + 1)
+    of_lanes : (low count : ℕ) (address : ℕ → ℕ) → low + count ≤ 128 →
+        slice_range (map (λ lane. cond (leb low lane && ltb lane (low + count)) (answered_byte config store (address lane)) 0) (range_with_len 0 128)) low (low + count)
         ≡ answered_bytes (map (λ lane. is_okay (read_status config (address lane))) (range_with_len low count))
         (map (λ (byte : Byte). byte.value) (map (λ lane. record { address = address lane; value = byte_at store (address lane) }) (filter (λ lane. is_okay (read_status config (address lane))) (range_with_len low count))))
-    of_lanes low count address some le =
-        slice-range (λ lane. cond (leb low lane && ltb lane (low + count)) (answered_byte config store (address lane)) 0) 128 low count some le
+    of_lanes low count address le =
+        slice-range (λ lane. cond (leb low lane && ltb lane (low + count)) (answered_byte config store (address lane)) 0) 128 low count le
         ∙ map-range-agree (λ lane. cond (leb low lane && ltb lane (low + count)) (answered_byte config store (address lane)) 0) (λ lane. answered_byte config store (address lane)) low count
         (λ k from below. ap (λ c. cond (c && ltb k (low + count)) (answered_byte config store (address k)) 0) (le-leb low k from) ∙ ap (λ c. cond (true && c) (answered_byte config store (address k)) 0) (lt-ltb k (low + count) below))
         ∙ sym (filled-tested (λ lane. is_okay (read_status config (address lane))) (λ lane. byte_at store (address lane)) (range_with_len low count))

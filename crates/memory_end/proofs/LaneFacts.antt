@@ -1,5 +1,5 @@
 -- What is known of the lanes of a beat: that they lie on the bus, and that they don't depend on the request's ID.
-use Rattle.std.proofs.Common.{◌≡◌, ℕ, ◌+◌, ◌/◌, ◌%◌, ◌<◌, ◌≤◌, suc, List, [], ◌∷◌, refl, ap, arith, ◌∙◌}
+use Rattle.std.proofs.Common.{◌≡◌, ℕ, ◌+◌, ◌<◌, ◌≤◌, suc, List, [], ◌∷◌, refl, ap, arith}
 use Rattle.axi_beats.specs.Response.{worst_of}
 use Rattle.axi_beats.specs.Bus.{IsBusWidth}
 use Rattle.axi_beats.specs.declared.beat.Addr.{Addr}
@@ -9,11 +9,10 @@ use Rattle.burst_address.proofs.LaneBytes.{lanes-on_bus}
 use Rattle.burst_address.proofs.Widths.{width-bounds, word-in_line}
 use Rattle.burst_address.specs.Formulas.{beat_at}
 use Rattle.burst_address.specs.Lanes.{first_lane, lane_address, lane_count, word_address}
-use Rattle.memory_end.specs.Accesses.{allowed_bytes, burst_status, read_addresses, span_of}
+use Rattle.memory_end.specs.Accesses.{allowed_bytes, burst_status, read_addresses, beat_span}
 use Rattle.memory_end.specs.Beats.{strobed_status, stored_bytes}
 use Rattle.memory_end.specs.MemoryState.{IsMemoryConfig}
 use Rattle.memory_end.specs.Status.{is_inside}
-use Rattle.memory_end.specs.Store.{line_of}
 use Rattle.memory_end.specs.declared.config.MemoryConfig.{MemoryConfig}
 use Rattle.memory_end.proofs.BeatLemmas.{is_inside-lane}
 
@@ -34,7 +33,7 @@ reads-without_id config a n = refl
 pub allowed-without_id : (config : MemoryConfig) (a : Addr) (n : ℕ) → allowed_bytes config (record { request = without_id a; beat = n }) ≡ allowed_bytes config (record { request = a; beat = n })
 allowed-without_id config a n = refl
 
-pub span-without_id : (config : MemoryConfig) (a : Addr) (n : ℕ) → span_of config (record { request = without_id a; beat = n }) ≡ span_of config (record { request = a; beat = n })
+pub span-without_id : (config : MemoryConfig) (a : Addr) (n : ℕ) → beat_span config (record { request = without_id a; beat = n }) ≡ beat_span config (record { request = a; beat = n })
 span-without_id config a n = refl
 
 -- a beat has a valid lane, and its valid lanes are lanes of the bus

@@ -11,7 +11,7 @@ use Rattle.axi_beats.specs.declared.response.Resp.TheVariants.{Okay, DecErr}
 use Rattle.axi_trail.specs.LinkContracts.{without_id}
 use Rattle.axi_trail.specs.Schedule.{ComesBefore, Schedule, Share, bytes_on}
 use Rattle.axi_trail.specs.Words.{number_of_read_data}
-use Rattle.memory_end.specs.Accesses.{BeatOf, accesses_of, allowed_before, allowed_bytes, beats_of_parts, due_reads, read_addresses, span_of, writes_at}
+use Rattle.memory_end.specs.Accesses.{BeatOf, accesses_of, allowed_before, allowed_bytes, beats_of_parts, due_reads, read_addresses, writes_at, beat_span}
 use Rattle.memory_end.specs.Beats.{read_bytes}
 use Rattle.memory_end.specs.Events.{Access, accesses}
 use Rattle.memory_end.specs.MemoryState.{IsMemoryConfig}
@@ -32,6 +32,7 @@ use Rattle.burst_address.specs.Accesses.{answered_bytes, value_after}
 use Rattle.burst_address.specs.Bytes.{Byte}
 use Rattle.burst_address.specs.Lanes.{lane_address, valid_lanes}
 use Rattle.burst_address.proofs.AccessValues.{value_after-append}
+use Rattle.burst_address.specs.Legal.{IsLegal}
 
 -- a byte that is read is in the memory, and has the value that the store has
 record IsStored (config : MemoryConfig) (store : Store) (byte : Byte) : Type 0 where
@@ -78,7 +79,8 @@ module _ (schedule : Schedule) (config : MemoryConfig) (store : Store) (e : Read
   -- what the beat is of its transaction, and that nothing has come of later ones
   pub record IsNextRead : Type 0 where
     pub is_config : IsMemoryConfig config
-    pub lanes : (schedule.reads e.request.tag.txn).lanes ≡ map (span_of config) (beats_of_parts (schedule.reads e.request.tag.txn).parts)
+    pub legal : IsLegal e.request config.bus
+    pub lanes : (schedule.reads e.request.tag.txn).lanes ≡ map (beat_span config) (beats_of_parts (schedule.reads e.request.tag.txn).parts)
     pub rest : List BeatOf
     pub place : drop (length (of_key number_of_read_data e.request.tag.txn r)) (beats_of_parts (schedule.reads e.request.tag.txn).parts) ≡ record { request = without_id e.request; beat = e.put } ∷ rest
     pub none_later : (after : ℕ) → ComesBefore schedule.reads e.request.tag.txn after → length (of_key number_of_read_data after r) ≡ 0
@@ -142,14 +144,14 @@ module _ (schedule : Schedule) (config : MemoryConfig) (store : Store) (e : Read
 
     wanted : bytes_on (of_key number_of_read_data t (r ++ beat ∷ [])) share.lanes ≡ bytes_on (of_key number_of_read_data t r) share.lanes ++ answered_bytes (allowed_bytes config now) (map (λ (b : Byte). b.value) bytes_read)
     wanted =
-        let spans : drop so_far share.lanes ≡ span_of config now ∷ map (span_of config) next.rest =
+        let spans : drop so_far share.lanes ≡ beat_span config now ∷ map (beat_span config) next.rest =
         ap (drop so_far) next.lanes
-        ∙ drop-map (span_of config) so_far (beats_of_parts share.parts)
-        ∙ ap (map (span_of config)) next.place
-        ∙ ap (λ (s : Span). s ∷ map (span_of config) next.rest) (span-without_id config e.request e.put) in
+        ∙ drop-map (beat_span config) so_far (beats_of_parts share.parts)
+        ∙ ap (map (beat_span config)) next.place
+        ∙ ap (λ (s : Span). s ∷ map (beat_span config) next.rest) (span-without_id config e.request e.put) in
         ap (λ xs. bytes_on xs share.lanes) own-beats
-        ∙ bytes_on-more (of_key number_of_read_data t r) beat share.lanes (span_of config now) (map (span_of config) next.rest) spans
-        ∙ ap (λ xs. bytes_on (of_key number_of_read_data t r) share.lanes ++ xs) (filled-beat config store now next.is_config)
+        ∙ bytes_on-more (of_key number_of_read_data t r) beat share.lanes (beat_span config now) (map (beat_span config) next.rest) spans
+        ∙ ap (λ xs. bytes_on (of_key number_of_read_data t r) share.lanes ++ xs) (filled-beat config store now next.is_config next.legal)
 
     answered-own : bytes_on (of_key number_of_read_data t (r ++ beat ∷ [])) share.lanes
         ≡ answered_bytes (allowed_before config share (length (of_key number_of_read_data t (r ++ beat ∷ [])))) (map (λ (a : Access). a.byte.value) (accesses_of false t (all ++ new)))

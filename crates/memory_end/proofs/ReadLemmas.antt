@@ -7,7 +7,7 @@ use Rattle.std.proofs.lemmas.List.{get_or-set_same, get_or-set_other}
 use Rattle.std.proofs.lemmas.Option.{slice_get-get_or, unwrap_or-slice_get}
 use Rattle.flight.specs.Entries.{place_of}
 use Rattle.flight.proofs.EntryFacts.{some-inner}
-use Rattle.memory_end.specs.Store.{Store, IsStore, ReadsWritten, ReadsOthers, line_of, byte_place, byte_at, with_byte_at}
+use Rattle.memory_end.specs.Store.{Store, IsStore, ReadsWritten, ReadsOthers, line_number, byte_place, byte_at, with_byte_at}
 use Rattle.memory_end.proofs.StoreLemmas.{place_of-first}
 
 -- a list has one value at a place, whatever is told beyond its end
@@ -42,12 +42,12 @@ byte_at-kept store address place e =
     ap (λ o. unwrap_or (option_and_then (slice_get store.bytes) o) store.fill) e ∙ unwrap_or-slice_get store.bytes place store.fill
 
 -- a byte whose line is kept has a place
-byte_place-kept : (store : Store) (address : ℕ) → IsStore store → Contains store.lines (line_of address) → (place : ℕ) × (byte_place store address ≡ Some place) × (place < length store.bytes)
+byte_place-kept : (store : Store) (address : ℕ) → IsStore store → Contains store.lines (line_number address) → (place : ℕ) × (byte_place store address ≡ Some place) × (place < length store.bytes)
 byte_place-kept store address is kept =
     let (k, lt, at) = kept in
-    let here : get_or store.lines k 0 ≡ line_of address = get_or-within store.lines k 0 (line_of address) lt ∙ at in
-    let first : place_of (line_of address) store.lines ≡ Some k =
-    place_of-first (line_of address) store.lines k lt here (λ j less same.
+    let here : get_or store.lines k 0 ≡ line_number address = get_or-within store.lines k 0 (line_number address) lt ∙ at in
+    let first : place_of (line_number address) store.lines ≡ Some k =
+    place_of-first (line_number address) store.lines k lt here (λ j less same.
     let below : get_or store.lines j 0 < get_or store.lines k 0 = is.ascending j k 0 less lt in absurd (omega arith)) in
     let whole : length store.bytes ≡ 128 * length store.lines = is.whole in
     (128 * k + address % 128, ap (option_map (λ place. 128 * place + address % 128)) first, omega arith)
@@ -60,22 +60,22 @@ reads-written store address value is kept =
     ∙ get_or-set_same store.bytes place value store.fill lt
 
 -- a kept place is that of its line and of its offset
-place-inner : (store : Store) (address place : ℕ) → byte_place store address ≡ Some place → (k : ℕ) × (place_of (line_of address) store.lines ≡ Some k) × (128 * k + address % 128 ≡ place)
+place-inner : (store : Store) (address place : ℕ) → byte_place store address ≡ Some place → (k : ℕ) × (place_of (line_number address) store.lines ≡ Some k) × (128 * k + address % 128 ≡ place)
 place-inner store address place e =
-    let go : (o : Option ℕ) → place_of (line_of address) store.lines ≡ o → option_map (λ k. 128 * k + address % 128) o ≡ Some place → (k : ℕ) × (place_of (line_of address) store.lines ≡ Some k) × (128 * k + address % 128 ≡ place) =
+    let go : (o : Option ℕ) → place_of (line_number address) store.lines ≡ o → option_map (λ k. 128 * k + address % 128) o ≡ Some place → (k : ℕ) × (place_of (line_number address) store.lines ≡ Some k) × (128 * k + address % 128 ≡ place) =
     elim [
       | None ↦ λ is h. absurd (cc)
       | Some k ↦ λ is h. (k, is, some-inner (128 * k + address % 128) place h)
     ]
-    in go (place_of (line_of address) store.lines) refl e
+    in go (place_of (line_number address) store.lines) refl e
 
 -- two addresses of one place are the same
 place-once : (store : Store) (a b place : ℕ) → byte_place store a ≡ Some place → byte_place store b ≡ Some place → b ≡ a
 place-once store a b place at_a at_b =
     let (k, k_is, k_at) = place-inner store a place at_a in
     let (l, l_is, l_at) = place-inner store b place at_b in
-    let (k_lt, k_line) = place_of-found store.lines (line_of a) k k_is in
-    let (l_lt, l_line) = place_of-found store.lines (line_of b) l l_is in
+    let (k_lt, k_line) = place_of-found store.lines (line_number a) k k_is in
+    let (l_lt, l_line) = place_of-found store.lines (line_number b) l l_is in
     let same : l ≡ k = omega arith in
     let line : b / 128 ≡ a / 128 = sym l_line ∙ ap (λ (n : ℕ). get_or store.lines n 0) same ∙ k_line in
     omega arith

@@ -1,5 +1,5 @@
 -- The read channels of a memory in a round.
-use Rattle.std.proofs.Common.{◌≡◌, ℕ, Bool, true, false, List, [], ◌∷◌, ◌++◌, Option, Some, None, length, map, drop, refl, sym, ◌∙◌, ap, subst, append-nil}
+use Rattle.std.proofs.Common.{◌≡◌, ℕ, Bool, true, false, List, [], ◌∷◌, ◌++◌, Option, Some, None, length, map, drop, refl, sym, ◌∙◌, ap, subst, append-nil, arith}
 use Rattle.std.proofs.lemmas.List.{length-map}
 use Rattle.axi_beats.specs.declared.beat.Addr.{Addr}
 use Rattle.axi_beats.specs.declared.beat.RBeat.{RBeat}
@@ -10,7 +10,7 @@ use Rattle.axi_trail.specs.Schedule.{Schedule}
 use Rattle.axi_trail.specs.Words.{burst_asked, number_of_address, number_of_asked, number_of_read_data}
 use Rattle.memory_end.specs.Accesses.{BeatOf, beats_of_parts}
 use Rattle.memory_end.specs.Events.{Access, beat_reads}
-use Rattle.memory_end.specs.MemoryState.{IsMemoryConfig, MemoryState}
+use Rattle.memory_end.specs.MemoryState.{IsMemoryConfig, MemoryState, IsReadEntry}
 use Rattle.memory_end.specs.MemoryTable.{after_ar, after_r, next_beat, put_read}
 use Rattle.memory_end.specs.MemoryTrail.{Suits}
 use Rattle.memory_end.specs.Tracks.{TracksReads, read_waiting}
@@ -25,6 +25,7 @@ use Rattle.plain_lists.proofs.KeyLemmas.{of_key-map}
 use Rattle.plain_lists.specs.Keys.{of_key}
 use Rattle.axi_link.specs.LinkWords.{has_room, head_of}
 use Rattle.node_core.specs.Rows.{beat_where}
+use Rattle.std.specs.Prelude.{All}
 
 -- what holds of the open reads
 pub record ReadsStand (schedule : Schedule) (entries : List ReadEntry) (ar : List Addr) (r : List RBeat) : Type 0 where
@@ -55,12 +56,13 @@ module _ (schedule : Schedule) (s : MemoryState) (w : List WBeat) (ar : List Add
   }
 
   module _ (is_config : IsMemoryConfig s.config) (suits : Suits s.config schedule) (asked : ReadsAsked schedule ar) where
-    next-is : (e : ReadEntry) (es : List ReadEntry) → TracksReads schedule.reads (e ∷ es) ar r → IsNextRead schedule s.config s.store e w r all
-    next-is e es is =
+    next-is : (e : ReadEntry) (es : List ReadEntry) → IsReadEntry s.config e → TracksReads schedule.reads (e ∷ es) ar r → IsNextRead schedule s.config s.store e w r all
+    next-is e es entry is =
         let found : (rest : List BeatOf) × (drop (length (of_key number_of_read_data e.request.tag.txn r)) (beats_of_parts (schedule.reads e.request.tag.txn).parts) ≡ record { request = without_id e.request; beat = e.put } ∷ rest) =
         next_read schedule.reads e es ar r (asked.parts e.request.tag.txn) is in
         record {
           is_config = is_config;
+          legal = entry.request.legal;
           lanes = (suits e.request.tag.txn).lanes;
           rest = found.0;
           place = found.1;
@@ -70,21 +72,21 @@ module _ (schedule : Schedule) (s : MemoryState) (w : List WBeat) (ar : List Add
               (head-pending schedule.reads e es ar r is) chain;
         }
 
-    put-next : (e : ReadEntry) (es : List ReadEntry) → ReadsStand schedule (e ∷ es) ar r → Accessed schedule s.config s.store w r all → IsAfterR (e ∷ es) (Some (next_beat s.config s.store e))
-    put-next e es stand accessed = record {
+    put-next : (e : ReadEntry) (es : List ReadEntry) → IsReadEntry s.config e → ReadsStand schedule (e ∷ es) ar r → Accessed schedule s.config s.store w r all → IsAfterR (e ∷ es) (Some (next_beat s.config s.store e))
+    put-next e es entry stand accessed = record {
       stand = record {
         held = held-put s.config s.store schedule.reads e es ar r stand.held;
         tracks = tracks-put s.config s.store schedule.reads e es ar r (suits e.request.tag.txn).read_responses (asked.parts e.request.tag.txn) stand.held stand.tracks;
       };
-      accessed = accessed-read schedule s.config s.store e w r all accessed (next-is e es stand.tracks);
+      accessed = accessed-read schedule s.config s.store e w r all accessed (next-is e es entry stand.tracks);
     }
 
-    pub step-r : (link : LinkView) (entries : List ReadEntry) → ReadsStand schedule entries ar r → Accessed schedule s.config s.store w r all → IsAfterR entries (put_read s.config s.store link entries)
-    step-r link [] stand accessed =
+    pub step-r : (link : LinkView) (entries : List ReadEntry) → All (IsReadEntry s.config) entries → ReadsStand schedule entries ar r → Accessed schedule s.config s.store w r all → IsAfterR entries (put_read s.config s.store link entries)
+    step-r link [] each stand accessed =
         let go : (room : Bool) → IsAfterR [] (beat_where room None) = elim [ true ↦ quiet [] stand accessed | false ↦ quiet [] stand accessed ] in
         go (has_room link.depth link.r)
-    step-r link (e ∷ es) stand accessed =
-        let go : (room : Bool) → IsAfterR (e ∷ es) (beat_where room (Some (next_beat s.config s.store e))) = elim [ true ↦ put-next e es stand accessed | false ↦ quiet (e ∷ es) stand accessed ] in
+    step-r link (e ∷ es) each stand accessed =
+        let go : (room : Bool) → IsAfterR (e ∷ es) (beat_where room (Some (next_beat s.config s.store e))) = elim [ true ↦ put-next e es (each 0 e (omega arith)) stand accessed | false ↦ quiet (e ∷ es) stand accessed ] in
         go (has_room link.depth link.r)
 
 -- after a round's AR

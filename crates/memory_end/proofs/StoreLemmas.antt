@@ -11,7 +11,7 @@ use Rattle.axi_beats.specs.declared.beat.WBeat.{WBeat}
 use Rattle.flight.specs.Entries.{place_of}
 use Rattle.burst_address.specs.Lanes.{lane_bytes}
 use Rattle.memory_end.specs.Beats.{with_bytes}
-use Rattle.memory_end.specs.Store.{Store, line_of, byte_place, with_byte_at}
+use Rattle.memory_end.specs.Store.{Store, line_number, byte_place, with_byte_at}
 
 -- the first place of a key is where it stands and no earlier place has it
 pub place_of-first : (key : ℕ) (xs : List ℕ) (i : ℕ) → i < length xs → get_or xs i 0 ≡ key → ((j : ℕ) → j < i → get_or xs j 0 ≢ key) → place_of key xs ≡ Some i
@@ -47,7 +47,7 @@ place_of-searched xs key (Err i) ascend found =
     ]))
 
 -- the byte of a lane is kept behind that of lane 0, where the word lies in one line
-byte_place-lane : (store : Store) (word k place : ℕ) → word % 128 + k < 128 → place_of (line_of word) store.lines ≡ Some place → byte_place store (word + k) ≡ Some (128 * place + word % 128 + k)
+byte_place-lane : (store : Store) (word k place : ℕ) → word % 128 + k < 128 → place_of (line_number word) store.lines ≡ Some place → byte_place store (word + k) ≡ Some (128 * place + word % 128 + k)
 byte_place-lane store word k place lt e =
     let line : (word + k) / 128 ≡ word / 128 = omega arith in
     let offset : 128 * place + (word + k) % 128 ≡ 128 * place + word % 128 + k = omega arith in
@@ -56,7 +56,7 @@ byte_place-lane store word k place lt e =
     ∙ ap (λ n. Some n) offset
 
 -- the bytes of a word whose line is kept are written one by one
-pub all_written-kept : (store : Store) (word bus place : ℕ) (w : WBeat) (lanes : List ℕ) → word % 128 + bus ≤ 128 → place_of (line_of word) store.lines ≡ Some place → AllByRecursion (λ k. k < bus) lanes →
+pub all_written-kept : (store : Store) (word bus place : ℕ) (w : WBeat) (lanes : List ℕ) → word % 128 + bus ≤ 128 → place_of (line_number word) store.lines ≡ Some place → AllByRecursion (λ k. k < bus) lanes →
     with_bytes store (lane_bytes word w lanes)
     ≡ record { lines = store.lines; bytes = fold (λ written lane. slice_set written (128 * place + word % 128 + lane) (slice_index w.lanes lane)) store.bytes lanes; fill = store.fill }
 all_written-kept store word bus place w [] le e below = refl
@@ -67,7 +67,7 @@ all_written-kept store word bus place w (k ∷ ks) le e below =
     ∙ all_written-kept (with_byte_at store (Some (128 * place + word % 128 + k)) (slice_index w.lanes k)) word bus place w ks le e rest
 
 -- those of a word whose line isn't kept are lost
-pub all_written-lost : (store : Store) (word bus : ℕ) (w : WBeat) (lanes : List ℕ) → word % 128 + bus ≤ 128 → place_of (line_of word) store.lines ≡ None → AllByRecursion (λ k. k < bus) lanes → with_bytes store (lane_bytes word w lanes) ≡ store
+pub all_written-lost : (store : Store) (word bus : ℕ) (w : WBeat) (lanes : List ℕ) → word % 128 + bus ≤ 128 → place_of (line_number word) store.lines ≡ None → AllByRecursion (λ k. k < bus) lanes → with_bytes store (lane_bytes word w lanes) ≡ store
 all_written-lost store word bus w [] le e below = refl
 all_written-lost store word bus w (k ∷ ks) le e below =
     let (lt, rest) = below in

@@ -5,7 +5,6 @@ use Rattle.std.proofs.lemmas.List.{length-drop, length-take-le, take-append-le, 
 use Rattle.axi_beats.specs.declared.beat.Addr.{Addr}
 use Rattle.axi_beats.specs.declared.beat.WBeat.{WBeat}
 use Rattle.axi_beats.specs.declared.response.Resp.{Resp}
-use Rattle.axi_beats.specs.declared.response.Resp.TheVariants.{Okay, SlvErr, DecErr}
 use Rattle.axi_beats.specs.Response.{worst_of}
 use Rattle.axi_trail.specs.Waiting.{Waiting, beats_by, pending}
 use Rattle.axi_trail.proofs.WaitingFacts.{pending-past, pending-within}

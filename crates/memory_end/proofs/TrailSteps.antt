@@ -88,7 +88,7 @@ memory-steps schedule now round links s trail all keep can asks later =
     let reads : ReadsAsked schedule trail.ar = record { parts = asks.reads.asks_only_its_parts; whole = asks.reads.whole_before_the_next } in
     let stand : ReadsStand schedule s.read_entries trail.ar trail.r = record { held = keep.accessed.reads_held; tracks = keep.accessed.tracks_reads } in
     let read : IsAfterR schedule s trail.w trail.ar trail.r all s.read_entries (memory_r links s) =
-    step-r schedule s trail.w trail.ar trail.r all keep.is_memory.config keep.suits reads (memory_link links s) s.read_entries stand (accessed-of schedule s trail all keep.accessed) in
+    step-r schedule s trail.w trail.ar trail.r all keep.is_memory.config keep.suits reads (memory_link links s) s.read_entries keep.is_memory.reads stand (accessed-of schedule s trail all keep.accessed) in
     let read_events : List Access = beat_reads s (memory_r links s) (head_of s.read_entries) in
     let write_events : List Access = beat_writes s (memory_w links s) (oldest_lacking s.write_entries) in
     let written : IsAfterW schedule s trail.aw trail.w trail.b (trail.r ++ one_of (memory_r links s)) (all ++ read_events) (memory_w links s) =

@@ -16,7 +16,7 @@ use Rattle.memory_end.specs.Beats.{with_bytes, stored_bytes}
 use Rattle.memory_end.specs.Events.{Access, accesses}
 use Rattle.memory_end.specs.MemoryState.{AreLinesAmong, IsMemoryConfig}
 use Rattle.memory_end.specs.Status.{is_inside, is_okay, write_status}
-use Rattle.memory_end.specs.Store.{IsStore, Store, byte_at, byte_place, line_of, with_byte}
+use Rattle.memory_end.specs.Store.{IsStore, Store, byte_at, byte_place, with_byte, line_number}
 use Rattle.memory_end.specs.declared.config.MemoryConfig.{MemoryConfig}
 use Rattle.memory_end.proofs.AccessFacts.{accesses_of-append, accesses_of-opposite, accesses_of-other, accesses_of-own, bytes-of_accesses, order-more, order-other, stands_among}
 use Rattle.memory_end.proofs.Accessed.{Accessed, nil-of_map}
@@ -34,12 +34,12 @@ use Rattle.burst_address.specs.Lanes.{is_strobed, lane_address, lane_bytes, stro
 use Rattle.burst_address.proofs.AccessValues.{value_after-append}
 
 -- bytes on lines that are kept are left in the store
-left-written : (number address : ℕ) (lines : List ℕ) (bytes : List Byte) (store : Store) → IsStore store → store.lines ≡ lines → AllByRecursion (λ (b : Byte). Contains lines (line_of b.address)) bytes →
+left-written : (number address : ℕ) (lines : List ℕ) (bytes : List Byte) (store : Store) → IsStore store → store.lines ≡ lines → AllByRecursion (λ (b : Byte). Contains lines (line_number b.address)) bytes →
     value_after (writes_at address) (λ (a : Access). a.byte.value) (byte_at store address) (accesses number true bytes) ≡ byte_at (with_bytes store bytes) address
 left-written number address lines [] store is same kept = refl
 left-written number address lines (b ∷ bytes) store is same kept =
     let keeps : Keeps store (with_byte store b.address b.value) = with_byte_at-keeps store (byte_place store b.address) b.value in
-    let here : Contains store.lines (line_of b.address) = subst (λ (ls : List ℕ). Contains ls (line_of b.address)) (sym same) kept.0 in
+    let here : Contains store.lines (line_number b.address) = subst (λ (ls : List ℕ). Contains ls (line_number b.address)) (sym same) kept.0 in
     let one : cond (b.address == address) b.value (byte_at store address) ≡ byte_at (with_byte store b.address b.value) address = elim (cases_eq b.address address) [
       | inl own ↦
           ap (λ c. cond c b.value (byte_at store address)) (eq-eqb b.address address own)
@@ -53,16 +53,16 @@ left-written number address lines (b ∷ bytes) store is same kept =
 
 -- the bytes of a beat are on lines that are kept
 pub lines-written : (config : MemoryConfig) (lines : List ℕ) (a : Addr) (n : ℕ) (x : WBeat) → IsMemoryConfig config → AreLinesAmong config lines a → n ≤ a.len →
-    AllByRecursion (λ (b : Byte). Contains lines (line_of b.address)) (stored_bytes config a n x)
+    AllByRecursion (λ (b : Byte). Contains lines (line_number b.address)) (stored_bytes config a n x)
 lines-written config lines a n x is among le = on (strobed_lanes config.bus x) (filter-range-below (is_strobed x) 0 config.bus config.bus (omega arith))
   where
     on : (lanes : List ℕ) → AllByRecursion (λ k. k < config.bus) lanes →
-        AllByRecursion (λ (b : Byte). Contains lines (line_of b.address)) (lane_bytes (word_address a n config.bus) x (filter (λ lane. is_okay (write_status config (lane_address a n config.bus lane))) lanes))
+        AllByRecursion (λ (b : Byte). Contains lines (line_number b.address)) (lane_bytes (word_address a n config.bus) x (filter (λ lane. is_okay (write_status config (lane_address a n config.bus lane))) lanes))
     on [] below = tt
     on (k ∷ lanes) below =
-        let rest : AllByRecursion (λ (b : Byte). Contains lines (line_of b.address)) (lane_bytes (word_address a n config.bus) x (filter (λ lane. is_okay (write_status config (lane_address a n config.bus lane))) lanes)) = on lanes below.1 in
+        let rest : AllByRecursion (λ (b : Byte). Contains lines (line_number b.address)) (lane_bytes (word_address a n config.bus) x (filter (λ lane. is_okay (write_status config (lane_address a n config.bus lane))) lanes)) = on lanes below.1 in
         let go : (b : Bool) → is_inside config (lane_address a n config.bus k) ≡ b →
-        AllByRecursion (λ (b : Byte). Contains lines (line_of b.address))
+        AllByRecursion (λ (b : Byte). Contains lines (line_number b.address))
         (lane_bytes (word_address a n config.bus) x (cond (is_okay (cond b Okay DecErr)) (k ∷ filter (λ lane. is_okay (write_status config (lane_address a n config.bus lane))) lanes) (filter (λ lane. is_okay (write_status config (lane_address a n config.bus lane))) lanes))) =
         elim [
           | true ↦ λ inside.
@@ -88,7 +88,7 @@ module _ (schedule : Schedule) (config : MemoryConfig) (store : Store) (a : Addr
   -- what the beat is of its transaction, and that nothing has come of later ones
   pub record IsNextWrite : Type 0 where
     pub is_store : IsStore store
-    pub lines : AllByRecursion (λ (b : Byte). Contains store.lines (line_of b.address)) (stored_bytes config a n x)
+    pub lines : AllByRecursion (λ (b : Byte). Contains store.lines (line_number b.address)) (stored_bytes config a n x)
     pub own : x.tag.txn ≡ a.tag.txn
     pub rest : List (BeatOf × WBeat)
     pub place : drop (length (of_key number_of_data a.tag.txn w)) (beats_with_data (schedule.writes a.tag.txn)) ≡ (record { request = without_id a; beat = n }, x) ∷ rest

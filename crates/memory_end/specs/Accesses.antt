@@ -1,5 +1,5 @@
 -- The accesses that are due of a transaction at a memory, beat by beat, and what they leave behind.
-use Rattle.std.specs.Prelude.{◌==◌, ◌&&◌, ◌+◌, ◌-◌, ◌∷◌, [], ℕ, suc, List, Bool, true, false, map, filter, flat_map, take, zip, if◌then◌else◌}
+use Rattle.std.specs.Prelude.{◌==◌, ◌&&◌, ℕ, List, Bool, map, filter, flat_map, take, zip}
 use Rattle.std.specs.Bool.{beq}
 use Rattle.std.specs.List.{range_with_len}
 use Rattle.axi_beats.specs.declared.beat.Addr.{Addr}
@@ -9,7 +9,7 @@ use Rattle.axi_beats.specs.Lanes.{Span}
 use Rattle.axi_trail.specs.Schedule.{Share}
 use Rattle.burst_address.specs.Formulas.{beats_of}
 use Rattle.burst_address.specs.Bytes.{Byte}
-use Rattle.burst_address.specs.Lanes.{first_lane, lane_address, lane_count, valid_lanes}
+use Rattle.burst_address.specs.Lanes.{lane_address, valid_lanes, valid_span}
 use Rattle.burst_address.specs.Status.{worst_of_data}
 use Rattle.memory_end.specs.declared.config.MemoryConfig.{MemoryConfig}
 use Rattle.memory_end.specs.Beats.{stored_bytes}
@@ -56,11 +56,8 @@ abbrev pub burst_status : MemoryConfig → Addr → ℕ → List WBeat → Resp
 burst_status config request n beats = worst_of_data (write_status config) request n config.bus beats
 
 -- the lanes that a beat of a read answers
-abbrev pub span_of : MemoryConfig → BeatOf → Span
-span_of config b = record {
-  low = first_lane b.request b.beat config.bus;
-  high = first_lane b.request b.beat config.bus + lane_count b.request b.beat config.bus - 1;
-}
+abbrev pub beat_span : MemoryConfig → BeatOf → Span
+beat_span config b = valid_span b.request b.beat config.bus
 
 -- the accesses of a transaction in a direction
 abbrev pub accesses_of : Bool → ℕ → List Access → List Access

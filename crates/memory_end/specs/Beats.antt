@@ -1,6 +1,6 @@
 -- What a beat reads and writes at a memory, and the status of its bytes (Arm IHI 0022, data read and write structure, read
 -- and write response structure).
-use Rattle.std.specs.Prelude.{◌==◌, ◌+◌, ◌-◌, ◌&&◌, ℕ, Bool, List, map, filter, fold, if◌then◌else◌}
+use Rattle.std.specs.Prelude.{ℕ, List, map, filter, fold, if◌then◌else◌}
 use Rattle.std.specs.List.{range_with_len}
 use Rattle.axi_beats.specs.declared.beat.Addr.{Addr}
 use Rattle.axi_beats.specs.declared.beat.WBeat.{WBeat}

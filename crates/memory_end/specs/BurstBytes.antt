@@ -1,7 +1,6 @@
 -- A memory's beats in the terms of bursts: their lines, and the bytes that they read and write (Arm IHI 0022, burst
 -- address structure).
-use Rattle.std.specs.Prelude.{◌≡◌, ◌↔◌, ◌<◌, ◌≤◌, ◌++◌, ◌∷◌, [], ℕ, suc, List, Some, All, Contains, IsTrue, filter, flat_map, length, map, slice_get, zip}
-use Rattle.axi_beats.specs.Bus.{IsBusWidth}
+use Rattle.std.specs.Prelude.{◌≡◌, ◌↔◌, ◌≤◌, ◌++◌, ◌∷◌, [], ℕ, suc, List, All, Contains, IsTrue, filter, flat_map, length, map, zip}
 use Rattle.axi_beats.specs.declared.beat.Addr.{Addr}
 use Rattle.axi_beats.specs.declared.beat.WBeat.{WBeat}
 use Rattle.axi_trail.specs.Schedule.{Share}
@@ -13,14 +12,14 @@ use Rattle.memory_end.specs.Accesses.{beats_of_parts, due_reads, due_writes, rea
 use Rattle.memory_end.specs.Beats.{stored_bytes}
 use Rattle.memory_end.specs.MemoryState.{AreLinesAmong, IsMemoryConfig}
 use Rattle.memory_end.specs.Status.{is_inside}
-use Rattle.memory_end.specs.Store.{line_of}
+use Rattle.memory_end.specs.Store.{line_number}
 use Rattle.memory_end.specs.declared.config.MemoryConfig.{MemoryConfig}
 
 -- the lines of a request's beats are those of its burst's bytes
 abbrev pub LinesAreOfBurst : Type 0
 LinesAreOfBurst =
     (config : MemoryConfig) (lines : List ℕ) (a : Addr) → IsMemoryConfig config → IsLegal a config.bus →
-    AreLinesAmong config lines a ↔ All (λ byte. IsTrue (is_inside config byte) → Contains lines (line_of byte)) (burst_bytes a)
+    AreLinesAmong config lines a ↔ All (λ byte. IsTrue (is_inside config byte) → Contains lines (line_number byte)) (burst_bytes a)
 
 -- a beat of a read reads those of the burst's bytes that lie in the memory
 abbrev pub ReadsBurstBytes : Type 0

@@ -9,7 +9,7 @@ use Rattle.memory_end.specs.declared.config.MemoryConfig.{MemoryConfig}
 use Rattle.memory_end.specs.declared.entry.WriteEntry.{WriteEntry}
 use Rattle.memory_end.specs.declared.entry.ReadEntry.{ReadEntry}
 use Rattle.memory_end.specs.Status.{is_inside}
-use Rattle.memory_end.specs.Store.{Store, IsStore, new_store, byte_at, line_of}
+use Rattle.memory_end.specs.Store.{Store, IsStore, new_store, byte_at, line_number}
 
 -- its arguments, the number of its link, its open writes and reads in the order in which they came, and its bytes
 pub record MemoryState : Type 0 where
@@ -49,7 +49,7 @@ pub record IsRequest (bus : ℕ) (request : Addr) : Type 0 where
 abbrev pub AreLinesAmong : MemoryConfig → List ℕ → Addr → Type 0
 AreLinesAmong config lines request =
     (beat : ℕ) → beat ≤ request.len → IsTrue (is_inside config (word_address request beat config.bus)) →
-    Contains lines (line_of (word_address request beat config.bus))
+    Contains lines (line_number (word_address request beat config.bus))
 
 -- a write that the memory can do, on lines that it keeps
 pub record IsWriteEntry (config : MemoryConfig) (lines : List ℕ) (entry : WriteEntry) : Type 0 where

@@ -10,7 +10,7 @@ use Rattle.axi_trail.specs.Trail.{Beats, no_beats, joined, moved_below}
 use Rattle.axi_trail.specs.Waiting.{held}
 use Rattle.axi_trail.specs.Words.{number_of_address, number_of_data, number_of_read_data}
 use Rattle.burst_address.specs.Formulas.{beats_of}
-use Rattle.memory_end.specs.Accesses.{BeatOf, accesses_of, allowed_before, beats_of_parts, burst_status, due_reads, due_writes, span_of, writes_at}
+use Rattle.memory_end.specs.Accesses.{BeatOf, accesses_of, allowed_before, beats_of_parts, burst_status, due_reads, due_writes, writes_at, beat_span}
 use Rattle.memory_end.specs.Beats.{valid_status}
 use Rattle.memory_end.specs.Events.{Access, memory_events}
 use Rattle.memory_end.specs.MemoryState.{MemoryState, IsMemory, IsMemoryConfig, new_memory}
@@ -29,7 +29,7 @@ pub record SuitsShare (config : MemoryConfig) (writes reads : Share) : Type 0 wh
   pub write_data : map (λ (beats : List WBeat). length beats) writes.write_data ≡ map beats_of writes.parts
   pub responses : writes.responses ≡ map (λ (p : Addr × List WBeat). burst_status config p.0 0 p.1) (zip writes.parts writes.write_data)
   pub read_responses : reads.responses ≡ map (λ (b : BeatOf). valid_status config b.request b.beat) (beats_of_parts reads.parts)
-  pub lanes : reads.lanes ≡ map (span_of config) (beats_of_parts reads.parts)
+  pub lanes : reads.lanes ≡ map (beat_span config) (beats_of_parts reads.parts)
 
 -- the schedule of the link above a memory is one of its own
 abbrev pub Suits : MemoryConfig → Schedule → Type 0

@@ -19,12 +19,12 @@ abbrev pub new_store : List ℕ → ℕ → Store
 new_store lines fill = record { lines = lines; bytes = replicate (128 * length lines) fill; fill = fill }
 
 -- the line of an address
-abbrev pub line_of : ℕ → ℕ
-line_of address = address / 128
+abbrev pub line_number : ℕ → ℕ
+line_number address = address / 128
 
 -- where the byte of an address is kept, if its line is
 abbrev pub byte_place : Store → ℕ → Option ℕ
-byte_place store address = option_map (λ place. 128 * place + address % 128) (place_of (line_of address) store.lines)
+byte_place store address = option_map (λ place. 128 * place + address % 128) (place_of (line_number address) store.lines)
 
 -- the byte of an address
 abbrev pub byte_at : Store → ℕ → ℕ
@@ -47,7 +47,7 @@ with_byte store address value = with_byte_at store (byte_place store address) va
 -- what is written at an address whose line is kept is read there
 abbrev pub ReadsWritten : Type 0
 ReadsWritten =
-    (store : Store) (address value : ℕ) → IsStore store → Contains store.lines (line_of address) →
+    (store : Store) (address value : ℕ) → IsStore store → Contains store.lines (line_number address) →
     byte_at (with_byte store address value) address ≡ value
 
 -- what is written at an address changes no other one

@@ -5,7 +5,7 @@ ghost use Rattle.std.specs.Prelude.{slice_index, slice_set, AllPairs, IfOk, IfSo
 ghost use Rattle.flight.specs.Entries.{place_of};
 ghost use Rattle.burst_address.specs.Lanes.{is_strobed, lane_bytes, strobed_lanes};
 ghost use Rattle.memory_end.specs.Beats.{with_bytes};
-ghost use Rattle.memory_end.specs.Store.{new_store, byte_at, lanes_between, line_of};
+ghost use Rattle.memory_end.specs.Store.{new_store, byte_at, lanes_between, line_number};
 
 use axi_beats::{Lanes, NoMemory, WBeat};
 use std::alloc::Global;
@@ -85,7 +85,7 @@ impl ByteStore {
 
     /// The byte at an address whose line has this place.
     fn byte_in(&self, place: Option<usize>, address: u64) -> u8
-        requires place { place ≡ place_of (line_of address) self.now.lines }
+        requires place { place ≡ place_of (line_number address) self.now.lines }
         requires within { IfSome place (λ place. place < length self.now.lines) }
         ensures { result ≡ byte_at self.now address }
     {

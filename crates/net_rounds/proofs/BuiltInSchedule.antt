@@ -12,7 +12,7 @@ use Rattle.manager_end.specs.Answer.{AnswerView}
 use Rattle.manager_end.specs.Beats.{data_beats, item_request}
 use Rattle.manager_end.specs.ManagerTable.{manager_out}
 use Rattle.manager_end.specs.Script.{ScriptItem}
-use Rattle.memory_end.specs.Accesses.{BeatOf, accesses_of, allowed_before, beats_of_parts, burst_status, span_of}
+use Rattle.memory_end.specs.Accesses.{BeatOf, accesses_of, allowed_before, beats_of_parts, burst_status, beat_span}
 use Rattle.memory_end.specs.Beats.{valid_status}
 use Rattle.memory_end.specs.Events.{Access, memory_events}
 use Rattle.memory_end.specs.MemoryTable.{memory_out}
@@ -44,7 +44,7 @@ read_share item =
     record {
       parts = part ∷ [];
       write_data = [];
-      lanes = map (span_of ram) (beats_of_parts (part ∷ []));
+      lanes = map (beat_span ram) (beats_of_parts (part ∷ []));
       responses = map (λ (b : BeatOf). valid_status ram b.request b.beat) (beats_of_parts (part ∷ []));
       chain = item.txn.request.id ∷ 1 ∷ [];
     }

@@ -7,6 +7,7 @@ use Rattle.std.proofs.lemmas.Bool.{and_from, and_parts, cases_Bool, cases_order,
 use Rattle.std.proofs.lemmas.List.{get_or_default, length-map}
 use Rattle.std.proofs.lemmas.List.Elements.{All-contains, All-contains_itself}
 use Rattle.std.proofs.lemmas.List.FromFn.{length-range_with_len}
+use Rattle.std.proofs.lemmas.Simd.{map-map}
 use Rattle.axi_beats.specs.declared.beat.Addr.{Addr}
 use Rattle.axi_beats.specs.declared.beat.WBeat.{WBeat}
 use Rattle.axi_trail.specs.LinkContracts.{without_id}
@@ -18,8 +19,7 @@ use Rattle.burst_address.specs.Lanes.{last_lane, first_lane}
 use Rattle.manager_end.specs.Beats.{data_beat, data_beats, item_request}
 use Rattle.manager_end.specs.ManagerTrail.{HasItem, IsItsOwn, IsScheduleOf, shares_of}
 use Rattle.manager_end.specs.Script.{ScriptItem, sent_bytes}
-use Rattle.burst_address.proofs.LaneBytes.{lanes-ordered}
-use Rattle.memory_end.specs.Accesses.{BeatOf, beats_of_parts, burst_status, span_of}
+use Rattle.memory_end.specs.Accesses.{BeatOf, beats_of_parts, burst_status, beat_span}
 use Rattle.memory_end.specs.Beats.{valid_status}
 use Rattle.memory_end.specs.MemoryTrail.{Suits}
 use Rattle.net_rounds.proofs.BuiltInSchedule.{no_share, schedule_of, read_share, share_at, share_of, write_share}
@@ -194,23 +194,6 @@ pub data-count : (item : ScriptItem) → length (data_beats item 4) ≡ beats_of
 data-count item =
     length-map (range_with_len 0 (beats_of item.txn.request)) (data_beat item 4) ∙ length-range_with_len 0 (beats_of item.txn.request)
 
--- the memory counts the valid lanes, and the manager ends at the highest one
-abbrev span : ℕ → ℕ → Span
-span low high = record { low = low; high = high }
-
-beat-span : (item : ScriptItem) → IsTrafficItem item → (n : ℕ) → span_of ram (beat_of item n) ≡ span (first_lane item.txn.request n 4) (last_lane item.txn.request n 4)
-beat-span item known n =
-    counted (first_lane item.txn.request n 4) (last_lane item.txn.request n 4) (lanes-ordered item.txn.request n 4 refl known.legal)
-  where
-    counted : (low high : ℕ) → low ≤ high → span low (low + (high - low + 1) - 1) ≡ span low high
-    counted low high ordered = let last : low + (high - low + 1) - 1 ≡ high = omega arith in ap (span low) last
-
-beat-spans :
-    (item : ScriptItem) → IsTrafficItem item → (numbers : List ℕ) →
-    map (span_of ram) (map (beat_of item) numbers) ≡ map (λ n. span (first_lane item.txn.request n 4) (last_lane item.txn.request n 4)) numbers
-beat-spans item known [] = refl
-beat-spans item known (n ∷ numbers) = ap₂ (λ (one : Span) (more : List Span). one ∷ more) (beat-span item known n) (beat-spans item known numbers)
-
 -- the schedule has each transaction as it is
 has-write : (script : List ScriptItem) (item : ScriptItem) → IsTrafficItem item → item.txn.write ≡ true → (schedule_of script).writes item.txn.number ≡ write_share item → HasItem (schedule_of script) 4 item
 has-write script item known direction own = record {
@@ -225,8 +208,8 @@ has-read script item known direction own = record {
   parts = ap (λ b. ((if b then (schedule_of script).writes else (schedule_of script).reads) item.txn.number).parts) direction ∙ ap (λ (s : Share). s.parts) own;
   write_data = λ is. absurd (true≢false (sym is ∙ direction));
   lanes = λ is.
-      ap (λ (s : Share). s.lanes) own ∙ ap (map (span_of ram)) (part-beats item)
-      ∙ beat-spans item known (range_with_len 0 (beats_of item.txn.request));
+      ap (λ (s : Share). s.lanes) own ∙ ap (map (beat_span ram)) (part-beats item)
+      ∙ map-map (beat_span ram) (beat_of item) (range_with_len 0 (beats_of item.txn.request));
   id_fits = known.id_fits;
 }
 
@@ -285,7 +268,7 @@ pub record SuitsWrites (writes : Share) : Type 0 where
 
 pub record SuitsReads (reads : Share) : Type 0 where
   pub responses : reads.responses ≡ map (λ (b : BeatOf). valid_status ram b.request b.beat) (beats_of_parts reads.parts)
-  pub lanes : reads.lanes ≡ map (span_of ram) (beats_of_parts reads.parts)
+  pub lanes : reads.lanes ≡ map (beat_span ram) (beats_of_parts reads.parts)
 
 write-suits : (item : ScriptItem) → SuitsWrites (write_share item)
 write-suits item = record { write_data = ap (λ count. count ∷ []) (data-count item); responses = refl }

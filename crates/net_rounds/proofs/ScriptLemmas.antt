@@ -14,16 +14,16 @@ use Rattle.manager_end.proofs.ScriptLemmas.{script-item}
 use Rattle.manager_end.specs.Script.{IsScript, ScriptItem}
 use Rattle.manager_end.specs.declared.script.Txn.{Txn}
 use Rattle.memory_end.specs.MemoryState.{IsRequest}
-use Rattle.memory_end.specs.Store.{line_of}
+use Rattle.memory_end.specs.Store.{line_number}
 use Rattle.net_rounds.specs.BuiltIn.{is_touched_by, lines_below, reaches_line, touches_line}
 use Rattle.plain_lists.proofs.RangeLemmas.{range-more}
 
 -- ---- one more beat of a burst
 
 -- it reaches the line, or one before it does
-pub reaches-more : (line : ℕ) (request : Addr) (beat : ℕ) → reaches_line line request (beat + 1) ≡ (reaches_line line request beat || (line_of (beat_at request beat) == line))
+pub reaches-more : (line : ℕ) (request : Addr) (beat : ℕ) → reaches_line line request (beat + 1) ≡ (reaches_line line request beat || (line_number (beat_at request beat) == line))
 reaches-more line request beat =
-    let here : ℕ → Bool = λ n. line_of (beat_at request n) == line in
+    let here : ℕ → Bool = λ n. line_number (beat_at request n) == line in
     ap (list_any here) (range-more 0 beat) ∙ list_any-append here (range_with_len 0 beat) ((0 + beat) ∷ [])
     ∙ ap (λ b. reaches_line line request beat || b) (or-false (here (0 + beat)) ∙ ap here (zero-add beat))
 

@@ -4,7 +4,6 @@
 use Rattle.std.specs.Prelude.{◌==◌, ◌*◌, ◌/◌, ◌&&◌, ◌∷◌, [], ℕ, Bool, List, All, Option, Some, None, filter, max, sum_by}
 use Rattle.std.specs.List.{list_any, range_with_len}
 use Rattle.axi_beats.specs.declared.beat.Addr.{Addr}
-use Rattle.node_core.specs.Acted.{opened}
 use Rattle.axi_link.specs.LinkView.{empty_link}
 use Rattle.burst_address.specs.Formulas.{beat_at, beats_of, size_of}
 use Rattle.burst_address.specs.Legal.{IsLegal}
@@ -12,11 +11,12 @@ use Rattle.manager_end.specs.ManagerState.{ManagerState, new_manager}
 use Rattle.manager_end.specs.Script.{IsScript, ScriptItem}
 use Rattle.manager_end.specs.declared.script.Txn.{Txn}
 use Rattle.memory_end.specs.MemoryState.{new_memory}
-use Rattle.memory_end.specs.Store.{line_of}
+use Rattle.memory_end.specs.Store.{line_number}
 use Rattle.memory_end.specs.declared.config.MemoryConfig.{MemoryConfig}
 use Rattle.net_nodes.specs.declared.node.Node.{Node}
 use Rattle.net_nodes.specs.declared.node.Node.TheVariants.{Manager, Memory}
 use Rattle.net_rounds.specs.Network.{Network}
+use Rattle.node_core.specs.Acted.{opened}
 
 -- the memory
 abbrev pub ram : MemoryConfig
@@ -24,7 +24,7 @@ ram = record { base = 0; size = 8192; bus = 4; fill = 0 }
 
 -- one of the first beats of a burst lies on this line of 128 bytes: the bytes of a beat lie in one line
 abbrev pub reaches_line : ℕ → Addr → ℕ → Bool
-reaches_line line request beats = list_any (λ n. line_of (beat_at request n) == line) (range_with_len 0 beats)
+reaches_line line request beats = list_any (λ n. line_number (beat_at request n) == line) (range_with_len 0 beats)
 
 -- a transaction writes a beat on this line
 abbrev pub touches_line : ℕ → Txn → Bool

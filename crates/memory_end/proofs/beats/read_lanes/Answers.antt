@@ -2,8 +2,8 @@ use Rattle.std.proofs.Common.{◌≡◌, ◌+◌, ◌-◌, ◌∙◌, ℕ, sym, 
 use Rattle.std.proofs.lemmas.Nat.{div-add-mod'}
 use Rattle.axi_beats.specs.declared.beat.Addr.{Addr}
 use Rattle.burst_address.proofs.LaneBytes.{lanes-ordered}
-use Rattle.burst_address.specs.Formulas.{beat_at, size_of, upper_lane}
-use Rattle.burst_address.specs.Lanes.{first_lane, lane_count, word_address}
+use Rattle.burst_address.specs.Formulas.{beat_at}
+use Rattle.burst_address.specs.Lanes.{first_lane, lane_count, last_lane, word_address}
 use Rattle.memory_end.specs.Status.{is_inside}
 use Rattle.memory_end.specs.Store.{lanes_between}
 use Rattle.memory_end.proofs.BeatLemmas.{answered-inside, answered-outside, inside-beat}
@@ -21,8 +21,8 @@ read_lanes-requires-clause-order c =
     let ordered = lanes-ordered c.args.entry.now.request c.args.entry.now.put c.args.config.now.bus c.requires.config.bus c.requires.entry.request.legal in
     let low : c.lanes-low.result.0 ≡ first_lane c.args.entry.now.request c.args.entry.now.put c.args.config.now.bus =
     c.lanes-low.ensures.lower ∙ ap (λ n. first_lane c.args.entry.now.request n c.args.config.now.bus) c.from.ensures in
-    let high : c.lanes-low.result.1 ≡ upper_lane (size_of c.args.entry.now.request) c.args.config.now.bus (beat_at c.args.entry.now.request c.args.entry.now.put) =
-    c.lanes-low.ensures.upper ∙ ap (λ n. upper_lane (size_of c.args.entry.now.request) c.args.config.now.bus (beat_at c.args.entry.now.request n)) c.from.ensures in
+    let high : c.lanes-low.result.1 ≡ last_lane c.args.entry.now.request c.args.entry.now.put c.args.config.now.bus =
+    c.lanes-low.ensures.upper ∙ ap (λ n. last_lane c.args.entry.now.request n c.args.config.now.bus) c.from.ensures in
     omega (arith, ordered, low, high)
 
 pub returns : goal.returns
@@ -31,8 +31,8 @@ returns c =
     let n : ℕ = c.args.entry.now.put in
     let bus : ℕ = c.args.config.now.bus in
     let low : c.lanes-low.result.0 ≡ first_lane request n bus = c.lanes-low.ensures.lower ∙ ap (λ k. first_lane request k bus) c.from.ensures in
-    let high : c.lanes-low.result.1 ≡ upper_lane (size_of request) bus (beat_at request n) =
-    c.lanes-low.ensures.upper ∙ ap (λ k. upper_lane (size_of request) bus (beat_at request k)) c.from.ensures in
+    let high : c.lanes-low.result.1 ≡ last_lane request n bus =
+    c.lanes-low.ensures.upper ∙ ap (λ k. last_lane request k bus) c.from.ensures in
     let ordered = lanes-ordered request n bus c.requires.config.bus c.requires.entry.request.legal in
     let split : word_address request n bus + first_lane request n bus ≡ beat_at request n = div-add-mod' (beat_at request n) bus in
     let word : c.args.address - c.lanes-low.result.0 ≡ word_address request n bus = omega (arith, low, split, c.requires.address) in

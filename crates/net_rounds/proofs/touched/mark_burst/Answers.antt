@@ -1,6 +1,6 @@
 use Rattle.std.proofs.Common.{◌≡◌, ◌<◌, ◌+◌, ◌||◌, ◌==◌, ◌/◌, Bool, true, false, length, get_or, sym, ap, ◌∙◌, arith}
 use Rattle.std.proofs.lemmas.List.{length-set}
-use Rattle.memory_end.specs.Store.{line_of}
+use Rattle.memory_end.specs.Store.{line_number}
 use Rattle.net_rounds.proofs.ScriptLemmas.{flag-kept, flag-marked, reaches-more}
 use Rattle.net_rounds.specs.BuiltIn.{reaches_line}
 use Rattle.net_rounds.proofs.touched.mark_burst.Goals as goal
@@ -14,7 +14,7 @@ loop-beat-preserved c line low =
     let seen : Bool = reaches_line line request c.loop-beat.beat in
     let before : get_or c.loop-beat.touched line false ≡ (was || seen) = c.loop-beat.invariant line low in
     let now : (was || (seen || (at == line))) ≡ (was || reaches_line line request (c.loop-beat.beat + 1)) =
-    ap (λ address. was || (seen || (line_of address == line))) c.beat_address.ensures.address ∙ ap (λ b. was || b) (sym (reaches-more line request c.loop-beat.beat)) in
+    ap (λ address. was || (seen || (line_number address == line))) c.beat_address.ensures.address ∙ ap (λ b. was || b) (sym (reaches-more line request c.loop-beat.beat)) in
     elim c.if-line-lt-LINES.branch [
       | then-line-lt-LINES w ↦
           let long = sym (ap length w.touched-is ∙ length-set c.loop-beat.touched at true) ∙ c.if-line-lt-LINES.array_long in

@@ -4,7 +4,7 @@ use Rattle.std.specs.List.{AllByRecursion}
 use Rattle.std.specs.Vec.{with_items}
 use Rattle.std.proofs.lemmas.List.{with_items_is}
 use Rattle.flight.specs.Entries.{place_of}
-use Rattle.memory_end.specs.Store.{Store, line_of}
+use Rattle.memory_end.specs.Store.{Store, line_number}
 use Rattle.memory_end.specs.StoreInside.{store_view}
 use Rattle.memory_end.specs.Beats.{with_bytes}
 use Rattle.memory_end.proofs.StoreLemmas.{all_written-kept, all_written-lost}
@@ -16,8 +16,8 @@ pub returns-in-Some : goal.returns-in-Some
 returns-in-Some c =
     let lanes : List ℕ = strobed_lanes c.args.bus c.args.beat.now in
     let view : Store = store_view c.self.inside in
-    let place : place_of (line_of c.args.word) view.lines ≡ Some c.in-Some.place =
-    sym (ap (place_of (line_of c.args.word)) c.deref.ensures.value) ∙ sym c.line_place.ensures.place ∙ c.in-Some.is in
+    let place : place_of (line_number c.args.word) view.lines ≡ Some c.in-Some.place =
+    sym (ap (place_of (line_number c.args.word)) c.deref.ensures.value) ∙ sym c.line_place.ensures.place ∙ c.in-Some.is in
     let below : AllByRecursion (λ k. k < c.args.bus) lanes = filter-range-below (is_strobed c.args.beat.now) 0 c.args.bus c.args.bus (omega arith) in
     let new : (with_items c.self.inside.bytes c.write_lanes.new.bytes).items ≡ c.write_lanes.new.bytes =
     with_items_is c.self.inside.bytes c.write_lanes.new.bytes (c.write_lanes.auto.bytes ∙ c.deref_mut.ensures.len) in
@@ -33,8 +33,8 @@ pub returns-in_default : goal.returns-in_default
 returns-in_default c =
     let lanes : List ℕ = strobed_lanes c.args.bus c.args.beat.now in
     let view : Store = store_view c.self.inside in
-    let place : place_of (line_of c.args.word) view.lines ≡ None =
-    sym (ap (place_of (line_of c.args.word)) c.deref.ensures.value) ∙ sym c.line_place.ensures.place ∙ c.in_default.is in
+    let place : place_of (line_number c.args.word) view.lines ≡ None =
+    sym (ap (place_of (line_number c.args.word)) c.deref.ensures.value) ∙ sym c.line_place.ensures.place ∙ c.in_default.is in
     let below : AllByRecursion (λ k. k < c.args.bus) lanes = filter-range-below (is_strobed c.args.beat.now) 0 c.args.bus c.args.bus (omega arith) in
     let done : view ≡ with_bytes view (lane_bytes c.args.word c.args.beat.now lanes) =
     sym (all_written-lost view c.args.word c.args.bus c.args.beat.now lanes c.requires place below) in
