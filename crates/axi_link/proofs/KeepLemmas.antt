@@ -4,14 +4,8 @@ use Rattle.std.proofs.Common.{◌++◌, ◌∷◌, [], ℕ, List, Option, Some, 
 use Rattle.std.specs.Prelude.{All, IfSome}
 use Rattle.std.proofs.lemmas.List.Elements.{All-append, All-drop, All-nil, All-push}
 use Rattle.axi_link.specs.Moves.{appended, left_of, takes_from, without_head}
-use Rattle.axi_link.specs.Table.{passing}
 
 module _ {X : Type 0} (P : X → Type 0) where
-  -- what holds of a head holds of what is taken of it
-  pub passing-has : (holds : Bool) (o : Option X) → IfSome o P → IfSome (passing holds o) P
-  passing-has true o has = has
-  passing-has false o has = tt
-
   pub All-without_head : (taken : Bool) (xs : List X) → All P xs → All P (without_head taken xs)
   All-without_head true xs all = All-drop P 1 xs all
   All-without_head false xs all = all

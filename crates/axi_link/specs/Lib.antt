@@ -1,6 +1,4 @@
-pub mod Acted
-pub mod Fits
 pub mod LinkInside
 pub mod LinkView
 pub mod Moves
-pub mod Table
+pub mod LinkWords

@@ -7,14 +7,10 @@
 //! (Arm IHI 0022, basic read and write transactions: handshake process.)
 #![tactic(auto)]
 
-mod laws;
 mod link;
 mod out;
-mod row;
 #[cfg(test)]
 mod tests;
 
-pub use laws::fitting_moves_can_be_made;
 pub use link::{Link, crosses_threads};
 pub use out::Out;
-pub use row::{link_at, set_put, set_take};

@@ -22,13 +22,13 @@ fn beats_come_in_the_order_in_which_they_went(rt: HostRuntime) -> Result<(), Fai
     for (id, room) in [(7, true), (8, false)] {
         assert!(rt; link.room_aw());
         let mut upper = Out::default();
-        set_put(&mut upper.aw_put, 3, Some(&address(id)));
+        upper.aw_put = Some((3, address(id)));
         link.commit(3, &upper, &quiet);
         assert_eq!(rt; link.room_aw(), room, "after {id}");
         assert_eq!(rt; link.head_aw().map(|beat| beat.id), Some(7), "after {id}");
     }
     let mut lower = Out::default();
-    set_take(&mut lower.aw_take, 3, true);
+    lower.aw_take = Some(3);
     assert!(rt; link.head_aw().is_some());
     link.commit(3, &quiet, &lower);
     assert_eq!(rt; link.head_aw().map(|beat| beat.id), Some(8));
@@ -39,7 +39,7 @@ fn beats_come_in_the_order_in_which_they_went(rt: HostRuntime) -> Result<(), Fai
 fn a_beat_for_another_link_is_left_alone(rt: HostRuntime) -> Result<(), Fail> {
     let mut link = Link::new(rt.alloc(), 1)?;
     let mut lower = Out::default();
-    set_put(&mut lower.b_put, 4, Some(&BBeat::default()));
+    lower.b_put = Some((4, BBeat::default()));
     link.commit(3, &Out::default(), &lower);
     assert!(rt; link.head_b().is_none() && link.room_b());
     assert!(rt; link.head_w().is_none() && link.room_w());

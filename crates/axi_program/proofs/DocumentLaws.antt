@@ -1,6 +1,6 @@
 -- Why an input is refused.
 use Rattle.std.proofs.Common.{◌≡◌, ℕ, ◌<◌, ◌≤◌, ◌∙◌, ◌==◌, true, false, Bool, List, [], ◌∷◌, ◌++◌, Option, Some, None, length, length-append, drop, refl, sym, ap, subst, arith}
-use Rattle.std.specs.Prelude.{IfSome, IsUtf8, is_some, option_and_then}
+use Rattle.std.specs.Prelude.{IfSome, IsUtf8, is_some}
 use Rattle.std.proofs.lemmas.Bool.{eqb-true, le-ltb, lt-ltb}
 use Rattle.std.proofs.lemmas.List.{nil_from_length}
 use Rattle.std.proofs.lemmas.Str.{IsUtf8-from_is_utf8}
@@ -10,8 +10,9 @@ use Rattle.plain_text.specs.Lines.{lines}
 use Rattle.plain_text.specs.Separator.{cut, has_separator, begins_with_separator, separator}
 use Rattle.plain_text.specs.SeparatorLaws.{IsSeparatorLine, is_cut_at_front}
 use Rattle.axi_program.specs.Document.{input_limit, refusal_of, traffic_lines}
-use Rattle.axi_program.specs.Refusals.{input_too_long, no_separator, not_built, not_text, traffic_refusal}
-use Rattle.axi_program.specs.Traffic.{fault_of}
+use Rattle.refusals.specs.Refusal.{refused_at, refused_for}
+use Rattle.refusals.specs.declared.cause.Cause.TheVariants.{InputTooLong, NoSeparator, NotBuilt, NotText}
+use Rattle.axi_program.specs.Traffic.{refusal_of_traffic}
 
 -- what isn't UTF-8 doesn't pass the test for it
 pub no-text : (bytes : List ℕ) → ¬ IsUtf8 bytes → is_utf8 bytes ≡ false
@@ -20,23 +21,23 @@ no-text bytes never =
     in go (is_utf8 bytes) refl
 
 -- an input of more bytes than are taken
-pub refusal-over : (input : List ℕ) → input_limit < length input → refusal_of input ≡ Some input_too_long
+pub refusal-over : (input : List ℕ) → input_limit < length input → refusal_of input ≡ Some (refused_for InputTooLong)
 refusal-over input over = rw (lt-ltb input_limit (length input) over) refl
 
 module _ (input : List ℕ) (within : length input ≤ input_limit) where
-  pub refusal-not_text : is_utf8 input ≡ false → refusal_of input ≡ Some not_text
+  pub refusal-not_text : is_utf8 input ≡ false → refusal_of input ≡ Some (refused_for NotText)
   refusal-not_text no_text = rw (le-ltb input_limit (length input) within, no_text) refl
 
   module _ (text : is_utf8 input ≡ true) where
-    pub refusal-no_separator : has_separator (lines input) ≡ false → refusal_of input ≡ Some no_separator
+    pub refusal-no_separator : has_separator (lines input) ≡ false → refusal_of input ≡ Some (refused_for NoSeparator)
     refusal-no_separator none = rw (le-ltb input_limit (length input) within, text, none) refl
 
-    pub refusal-late : has_separator (lines input) ≡ true → begins_with_separator (lines input) ≡ false → refusal_of input ≡ Some (not_built 0)
+    pub refusal-late : has_separator (lines input) ≡ true → begins_with_separator (lines input) ≡ false → refusal_of input ≡ Some (refused_at NotBuilt 0)
     refusal-late some late = rw (le-ltb input_limit (length input) within, text, some, late) refl
 
     pub refusal-traffic :
         has_separator (lines input) ≡ true → begins_with_separator (lines input) ≡ true →
-        refusal_of input ≡ option_and_then traffic_refusal (fault_of (traffic_lines input))
+        refusal_of input ≡ refusal_of_traffic (traffic_lines input)
     refusal-traffic some first = rw (le-ltb input_limit (length input) within, text, some, first) refl
 
 -- a text that is cut at its first separator

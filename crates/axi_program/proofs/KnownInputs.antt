@@ -1,7 +1,8 @@
 -- Known values of what an input says, worked by hand.
 use Rattle.std.proofs.Common.{◌≡◌, [], ◌∷◌, Some, None, true, false, refl}
 use Rattle.std.specs.Prelude.{codes, map}
-use Rattle.burst_address.specs.declared.rule.BurstRule.TheVariants.{Page}
+use Rattle.refusals.specs.Refusal.{refused_at, refused_burst, refused_for}
+use Rattle.refusals.specs.declared.cause.Cause.TheVariants.{BadId, BadLine, NoSeparator, NotBuilt, UnknownManager}
 use Rattle.plain_text.specs.Numbers.{number_in, read_byte_pair, read_decimal, read_hexadecimal}
 use Rattle.plain_text.specs.Words.{words}
 use Rattle.traffic.specs.Data.{is_pair, pair_byte}
@@ -10,7 +11,6 @@ use Rattle.traffic.specs.Orders.{order_of}
 use Rattle.traffic.specs.Ports.{port_of}
 use Rattle.axi_beats.specs.declared.beat.Burst.TheVariants.{Incr, Wrap}
 use Rattle.axi_program.specs.Document.{refusal_by_lines, script_of_input}
-use Rattle.axi_program.specs.Refusals.{bad_id, bad_line, illegal_burst, no_separator, not_built, unknown_manager}
 
 -- the causes, each before those that come after it
 refusals :
@@ -27,13 +27,13 @@ refusals :
     ∷ [])
     ≡ None
     ∷ None
-    ∷ Some no_separator
-    ∷ Some no_separator
-    ∷ Some (not_built 0)
-    ∷ Some (bad_line 5)
-    ∷ Some (unknown_manager 2)
-    ∷ Some (bad_id 2)
-    ∷ Some (illegal_burst 1 Page)
+    ∷ Some (refused_for NoSeparator)
+    ∷ Some (refused_for NoSeparator)
+    ∷ Some (refused_at NotBuilt 0)
+    ∷ Some (refused_at BadLine 5)
+    ∷ Some (refused_at UnknownManager 2)
+    ∷ Some (refused_at BadId 2)
+    ∷ Some (refused_burst 1 4)
     ∷ []
 unfolding words said_by form_of order_of read_of wait_of start_of size_named burst_named beats_named read_decimal read_hexadecimal number_in port_of
 refusals = refl

@@ -5,16 +5,26 @@ use Rattle.std.specs.Fmt.{digits}
 use Rattle.axi_beats.specs.declared.beat.Addr.{Addr}
 use Rattle.axi_beats.specs.declared.beat.Burst.TheVariants.{Incr}
 use Rattle.axi_beats.specs.declared.response.Resp.TheVariants.{Okay, SlvErr, DecErr}
-use Rattle.burst_address.specs.declared.rule.BurstRule.TheVariants.{Page}
+use Rattle.refusals.specs.Refusal.{refused_at, refused_burst, refused_for}
+use Rattle.refusals.specs.declared.cause.Cause.TheVariants.{BadId, BadLine, BadTraceLine, InputTooLong, NoSeparator, NotBuilt, NotText, TooMuchTraffic, UnknownManager}
 use Rattle.manager_end.specs.declared.script.WriteByte.{WriteByte}
 use Rattle.plain_text.specs.Printing.{pairs}
-use Rattle.axi_program.specs.Refusals.{bad_id, bad_line, bad_trace_line, illegal_burst, input_too_long, no_separator, not_built, not_text, too_much_traffic, unknown_manager}
 use Rattle.axi_program.specs.Text.{refusal_line, rounds_line, run_text}
 use Rattle.trace_text.specs.AnswerLine.{answer_line}
 
 refusal_lines :
     map refusal_line
-    (input_too_long ∷ not_text ∷ no_separator ∷ bad_line 3 ∷ unknown_manager 1 ∷ bad_id 1 ∷ illegal_burst 1 Page ∷ too_much_traffic ∷ bad_trace_line 9 ∷ not_built 0 ∷ [])
+    (refused_for InputTooLong
+    ∷ refused_for NotText
+    ∷ refused_for NoSeparator
+    ∷ refused_at BadLine 3
+    ∷ refused_at UnknownManager 1
+    ∷ refused_at BadId 1
+    ∷ refused_burst 1 4
+    ∷ refused_for TooMuchTraffic
+    ∷ refused_at BadTraceLine 9
+    ∷ refused_at NotBuilt 0
+    ∷ [])
     ≡ codes "refused 1 InputTooLong\n"
     ∷ codes "refused 2 NotText\n"
     ∷ codes "refused 3 NoSeparator\n"

@@ -5,15 +5,16 @@ use Rattle.std.specs.List.{cons_option}
 use Rattle.std.specs.Option.{option_or}
 use Rattle.std.specs.Str.{bytes_eq}
 use Rattle.burst_address.specs.Legal.{broken_rule}
-use Rattle.traffic.specs.Faults.{burst_fault, fault_by, least, least_fault, request_of}
+use Rattle.refusals.specs.Refusal.{refused_at, refused_burst, refused_for}
+use Rattle.refusals.specs.declared.cause.Cause.TheVariants.{BadId, TooMuchTraffic, UnknownManager}
+use Rattle.refusals.specs.declared.refusal.Refusal.{Refusal}
+use Rattle.traffic.specs.LineRefusals.{burst_refusal, least, least_refusal, refusal_by, request_of, rule_number}
 use Rattle.traffic.specs.Line.{Access, Line, Passed, Waits, Asks, line_of}
 use Rattle.traffic.specs.Orders.{Order, Holds, Issues, is_too_much, issued, order_by, order_of, orders_of}
 use Rattle.traffic.specs.Ports.{place_of, port_of}
-use Rattle.traffic.specs.Traffic.{items_after, refusal_of, traffic_of}
-use Rattle.traffic.specs.declared.fault.TrafficFault.{TrafficFault}
-use Rattle.traffic.specs.declared.fault.TrafficFault.TheVariants.{BadId, IllegalBurst, TooMuchTraffic, UnknownManager}
+use Rattle.traffic.specs.Traffic.{items_after, traffic_of, traffic_refusal}
 use Rattle.traffic.specs.declared.port.ManagerPort.{ManagerPort}
-use Rattle.axi_program.specs.Traffic.{IsBuiltIn, built_in_manager, built_in_managers, fault_of, manager_name, script_of, script_of_lines}
+use Rattle.axi_program.specs.Traffic.{IsBuiltIn, built_in_manager, built_in_managers, manager_name, refusal_of_traffic, script_of, script_of_lines}
 
 -- the place and the manager of a name, where there is one manager
 abbrev place_by : Bool → Option ℕ
@@ -37,9 +38,9 @@ one-port port name =
     in go (bytes_eq port.name.now name) refl
 
 -- why a burst is refused of a manager with a bus and IDs of these widths
-abbrev fault_at : ℕ → Access → ℕ → ℕ → Option TrafficFault
-fault_at number access bus id_width =
-    cond (nat_lt access.start.id (2 ^ id_width)) (option_map (λ rule. IllegalBurst number rule) (broken_rule (request_of access) bus)) (Some (BadId number))
+abbrev refusal_at : ℕ → Access → ℕ → ℕ → Option Refusal
+refusal_at number access bus id_width =
+    cond (nat_lt access.start.id (2 ^ id_width)) (option_map (λ rule. refused_burst number (rule_number rule)) (broken_rule (request_of access) bus)) (Some (refused_at BadId number))
 
 module _ (port : ManagerPort) (is : IsBuiltIn port) where
   abbrev ours : List ManagerPort
@@ -67,37 +68,37 @@ module _ (port : ManagerPort) (is : IsBuiltIn port) where
   same-orders (line ∷ more) = ap₂ (λ (o : Option Order) (rest : List Order). cons_option o rest) (same-order line) (same-orders more)
 
   -- why they are refused
-  same-fault_at : (number : ℕ) (access : Access) → fault_at number access port.bus port.id_width ≡ fault_at number access 4 4
-  same-fault_at number access = ap₂ (λ (bus id_width : ℕ). fault_at number access bus id_width) is.bus is.id_width
+  same-refusal_at : (number : ℕ) (access : Access) → refusal_at number access port.bus port.id_width ≡ refusal_at number access 4 4
+  same-refusal_at number access = ap₂ (λ (bus id_width : ℕ). refusal_at number access bus id_width) is.bus is.id_width
 
-  same-burst : (number : ℕ) (access : Access) (name : List ℕ) → burst_fault number access (port_of ours name) ≡ burst_fault number access (port_of built_in_managers name)
+  same-burst : (number : ℕ) (access : Access) (name : List ℕ) → burst_refusal number access (port_of ours name) ≡ burst_refusal number access (port_of built_in_managers name)
   same-burst number access name =
-      let go : (named : Bool) → burst_fault number access (cond named (Some port) None) ≡ cond named (fault_at number access 4 4) (Some (UnknownManager number)) =
-      λ named. elim named as (λ named. burst_fault number access (cond named (Some port) None) ≡ cond named (fault_at number access 4 4) (Some (UnknownManager number))) [ true ↦ same-fault_at number access | false ↦ refl ] in
-      let own : (named : Bool) → burst_fault number access (cond named (Some built_in_manager) None) ≡ cond named (fault_at number access 4 4) (Some (UnknownManager number)) =
-      λ named. elim named as (λ named. burst_fault number access (cond named (Some built_in_manager) None) ≡ cond named (fault_at number access 4 4) (Some (UnknownManager number))) [ true ↦ refl | false ↦ refl ] in
-      ap (burst_fault number access) (one-port port name) ∙ go (bytes_eq port.name.now name)
-      ∙ ap (λ (named : Bool). cond named (fault_at number access 4 4) (Some (UnknownManager number))) (same-name name)
-      ∙ sym (own (bytes_eq manager_name name)) ∙ sym (ap (burst_fault number access) (one-port built_in_manager name))
+      let go : (named : Bool) → burst_refusal number access (cond named (Some port) None) ≡ cond named (refusal_at number access 4 4) (Some (refused_at UnknownManager number)) =
+      λ named. elim named as (λ named. burst_refusal number access (cond named (Some port) None) ≡ cond named (refusal_at number access 4 4) (Some (refused_at UnknownManager number))) [ true ↦ same-refusal_at number access | false ↦ refl ] in
+      let own : (named : Bool) → burst_refusal number access (cond named (Some built_in_manager) None) ≡ cond named (refusal_at number access 4 4) (Some (refused_at UnknownManager number)) =
+      λ named. elim named as (λ named. burst_refusal number access (cond named (Some built_in_manager) None) ≡ cond named (refusal_at number access 4 4) (Some (refused_at UnknownManager number))) [ true ↦ refl | false ↦ refl ] in
+      ap (burst_refusal number access) (one-port port name) ∙ go (bytes_eq port.name.now name)
+      ∙ ap (λ (named : Bool). cond named (refusal_at number access 4 4) (Some (refused_at UnknownManager number))) (same-name name)
+      ∙ sym (own (bytes_eq manager_name name)) ∙ sym (ap (burst_refusal number access) (one-port built_in_manager name))
 
   same-known : (name : List ℕ) → is_some (port_of ours name) ≡ is_some (port_of built_in_managers name)
   same-known name =
       let go : (named : Bool) (p : ManagerPort) → is_some (cond named (Some p) None) ≡ named = λ named p. elim named as (λ named. is_some (cond named (Some p) None) ≡ named) [ true ↦ refl | false ↦ refl ] in
       ap is_some (one-port port name) ∙ go (bytes_eq port.name.now name) port ∙ same-name name ∙ sym (go (bytes_eq manager_name name) built_in_manager) ∙ sym (ap is_some (one-port built_in_manager name))
 
-  same-fault_by : (number : ℕ) (said : Option Line) → fault_by ours number said ≡ fault_by built_in_managers number said
-  same-fault_by number None = refl
-  same-fault_by number (Some Passed) = refl
-  same-fault_by number (Some (Waits name)) = ap (λ (known : Bool). cond known None (Some (UnknownManager number))) (same-known name)
-  same-fault_by number (Some (Asks access)) = same-burst number access access.start.manager
+  same-refusal_by : (number : ℕ) (said : Option Line) → refusal_by ours number said ≡ refusal_by built_in_managers number said
+  same-refusal_by number None = refl
+  same-refusal_by number (Some Passed) = refl
+  same-refusal_by number (Some (Waits name)) = ap (λ (known : Bool). cond known None (Some (refused_at UnknownManager number))) (same-known name)
+  same-refusal_by number (Some (Asks access)) = same-burst number access access.start.manager
 
-  same-least_fault : (number : ℕ) (lines : List (List ℕ)) → least_fault ours number lines ≡ least_fault built_in_managers number lines
-  same-least_fault number [] = refl
-  same-least_fault number (line ∷ more) = ap₂ (λ (here later : Option TrafficFault). least here later) (same-fault_by number (line_of line)) (same-least_fault (number + 1) more)
+  same-least_refusal : (number : ℕ) (lines : List (List ℕ)) → least_refusal ours number lines ≡ least_refusal built_in_managers number lines
+  same-least_refusal number [] = refl
+  same-least_refusal number (line ∷ more) = ap₂ (λ (here later : Option Refusal). least here later) (same-refusal_by number (line_of line)) (same-least_refusal (number + 1) more)
 
-  pub same-refusal : (lines : List (List ℕ)) → refusal_of ours lines ≡ fault_of lines
+  pub same-refusal : (lines : List (List ℕ)) → traffic_refusal ours lines ≡ refusal_of_traffic lines
   same-refusal lines =
-      ap₂ (λ (fault : Option TrafficFault) (orders : List Order). option_or fault (cond (is_too_much (issued orders)) (Some TooMuchTraffic) None)) (same-least_fault 1 lines) (same-orders lines)
+      ap₂ (λ (refusal : Option Refusal) (orders : List Order). option_or refusal (cond (is_too_much (issued orders)) (Some (refused_for TooMuchTraffic)) None)) (same-least_refusal 1 lines) (same-orders lines)
 
   pub same-script : (lines : List (List ℕ)) → script_of (traffic_of ours lines) ≡ script_of_lines lines
   same-script lines = ap (λ (orders : List Order). script_of (items_after [] orders)) (same-orders lines)

@@ -20,13 +20,14 @@ use Rattle.net_rounds.specs.Notes.{AreNotes}
 use Rattle.net_rounds.specs.Run.{run_length}
 use Rattle.axi_program.proofs.TextLaws.{answer_lines-next}
 use Rattle.axi_program.specs.Faults.{Rose}
-use Rattle.axi_program.specs.Outcome.{Answers, Stalls, noted_answers, parting, run_end, run_outcome, run_rounds, text_of, traced}
+use Rattle.axi_program.specs.Opening.{IsOpening, opening_net, script_of_net}
+use Rattle.axi_program.specs.Outcome.{Answers, Stalls, noted_answers, run_end, run_outcome, run_rounds, run_trace, text_of}
 use Rattle.axi_program.specs.Pieces.{line_at, text_of_net}
-use Rattle.axi_program.specs.Text.{answer_lines, rounds_line, run_text}
+use Rattle.axi_program.specs.Text.{answer_lines, rounds_line, run_text, separator_line, where_asked}
 use Rattle.trace_text.specs.AnswerLine.{answer_line}
-use Rattle.axi_program.specs.Trace.{HasRun, traced_by}
+use Rattle.axi_program.specs.Trace.{HasRun, lines_of_run}
 use Rattle.axi_program.specs.Traffic.{manager_name}
-use Rattle.axi_program.specs.Transfers.{AppendsPrefix}
+use Rattle.axi_program.specs.DeviceBytes.{AppendsPrefix}
 
 -- the item of a transaction that is told
 pub item-at : (script : List ScriptItem) (place : ℕ) (txn : Txn) → option_map (λ (item : ScriptItem). item.txn) (slice_get script place) ≡ Some txn → (item : ScriptItem) × (slice_get script place ≡ Some item) × (item.txn ≡ txn)
@@ -154,54 +155,56 @@ text-by_manager net s is = ap (λ (o : Option ManagerState). answer_lines (scrip
 run-script : (script : List ScriptItem) (n : ℕ) → script_of_manager (first_manager (after_rounds n (built_in script)).nodes) ≡ script
 run-script script n = ap (λ net. script_of_manager (first_manager net.nodes)) (after_rounds-built_in script n) ∙ pair_after-script (built_in_pair script) n
 
--- the network of a script before its run
-abbrev pub built : List ScriptItem → NetView
-built script = record { network = built_in script; rounds = 0; decided = false; most = bound script }
+-- a network that was built stands before its first round, with its own script
+pub opens : (script : List ScriptItem) (net : NetView) → net ≡ opening_net script → script_of_net net ≡ script
+opens script net is = ap script_of_net is ∙ run-script script 0
 
-run-end : (script : List ScriptItem) (net : NetView) → HasRun (built script) net → net.network ≡ run_end script
-unfolding run_end run_rounds
-run-end script net has = has.network ∙ ap (λ (n : ℕ). after_rounds n (built_in script)) has.rounds
+pub is-opening : (script : List ScriptItem) (net : NetView) → net ≡ opening_net script → IsOpening net
+is-opening script net is = is ∙ ap opening_net (sym (opens script net is))
 
-pub outcome-stalls : (trace : Bool) (script : List ScriptItem) (net : NetView) → HasRun (built script) net → is_finished net.network ≡ false → run_outcome trace script ≡ Stalls (traced trace script)
-unfolding run_outcome
-outcome-stalls trace script net has running =
-    ap (λ (b : Bool). cond b (Answers (traced trace script ++ (parting trace ++ run_text script (noted_answers (run_end script)) (run_rounds script)))) (Stalls (traced trace script))) (ap is_finished (sym (run-end script net has)) ∙ running)
+-- a network after the run of a script
+module _ (script : List ScriptItem) (net : NetView) (has : HasRun (opening_net script) net) where
+  run-end : net.network ≡ run_end script
+  unfolding run_end run_rounds
+  run-end = has.network ∙ ap (λ (n : ℕ). after_rounds n (built_in script)) has.rounds
 
-run-text : (script : List ScriptItem) (net : NetView) → HasRun (built script) net → run_text script (noted_answers (run_end script)) (run_rounds script) ≡ text_of_net net
-unfolding run_rounds text_of_net
-run-text script net has =
-    let same = run-end script net has in
-    let own : script_of_manager (first_manager net.network.nodes) ≡ script = ap (λ (now : Network). script_of_manager (first_manager now.nodes)) has.network ∙ run-script script net.rounds in
-    ap (λ (s : List ScriptItem). run_text s (noted_answers (run_end script)) (run_length (built_in script) (bound script))) (sym own)
-    ∙ ap (λ (now : Network). run_text (script_of_manager (first_manager net.network.nodes)) (noted_answers now) (run_length (built_in script) (bound script))) (sym same)
-    ∙ ap (λ (n : ℕ). run_text (script_of_manager (first_manager net.network.nodes)) (noted_answers net.network) n) (sym has.rounds)
+  run-text : run_text script (noted_answers (run_end script)) (run_rounds script) ≡ text_of_net net
+  unfolding run_rounds text_of_net
+  run-text =
+      let same = run-end in
+      let own : script_of_net net ≡ script = ap (λ (now : Network). script_of_manager (first_manager now.nodes)) has.network ∙ run-script script net.rounds in
+      ap (λ (s : List ScriptItem). run_text s (noted_answers (run_end script)) (run_length (built_in script) (bound script))) (sym own)
+      ∙ ap (λ (now : Network). run_text (script_of_net net) (noted_answers now) (run_length (built_in script) (bound script))) (sym same)
+      ∙ ap (λ (n : ℕ). run_text (script_of_net net) (noted_answers net.network) n) (sym has.rounds)
 
-pub outcome-answers :
-    (trace : Bool) (script : List ScriptItem) (net : NetView) → HasRun (built script) net → is_finished net.network ≡ true →
-    run_outcome trace script ≡ Answers (traced trace script ++ (parting trace ++ text_of_net net))
-unfolding run_outcome
-outcome-answers trace script net has finished =
-    ap (λ (b : Bool). cond b (Answers (traced trace script ++ (parting trace ++ run_text script (noted_answers (run_end script)) (run_rounds script)))) (Stalls (traced trace script))) (ap is_finished (sym (run-end script net has)) ∙ finished)
-    ∙ ap (λ (text : List ℕ). Answers (traced trace script ++ (parting trace ++ text))) (run-text script net has)
+  outcome-by : (trace finished : Bool) → is_finished net.network ≡ finished → run_outcome trace script
+      ≡ cond finished (Answers (where_asked trace (run_trace script) ++ (where_asked trace separator_line ++ run_text script (noted_answers (run_end script)) (run_rounds script)))) (Stalls (where_asked trace (run_trace script)))
+  unfolding run_outcome
+  outcome-by trace finished is =
+      ap (λ (b : Bool). cond b (Answers (where_asked trace (run_trace script) ++ (where_asked trace separator_line ++ run_text script (noted_answers (run_end script)) (run_rounds script)))) (Stalls (where_asked trace (run_trace script))))
+      (ap is_finished (sym run-end) ∙ is)
 
--- the text of every run begins with its traced lines
-pub outcome-traces : (trace : Bool) (script : List ScriptItem) → (rest : List ℕ) × (text_of (run_outcome trace script) ≡ traced trace script ++ rest)
+  pub outcome-stalls : (trace : Bool) → is_finished net.network ≡ false → run_outcome trace script ≡ Stalls (where_asked trace (run_trace script))
+  outcome-stalls trace running = outcome-by trace false running
+
+  pub outcome-answers : (trace : Bool) → is_finished net.network ≡ true → run_outcome trace script ≡ Answers (where_asked trace (run_trace script) ++ (where_asked trace separator_line ++ text_of_net net))
+  outcome-answers trace finished =
+      outcome-by trace true finished ∙ ap (λ (text : List ℕ). Answers (where_asked trace (run_trace script) ++ (where_asked trace separator_line ++ text))) run-text
+
+-- the text of every run begins with its trace
+pub outcome-traces : (trace : Bool) (script : List ScriptItem) → (rest : List ℕ) × (text_of (run_outcome trace script) ≡ where_asked trace (run_trace script) ++ rest)
 unfolding run_outcome
 outcome-traces trace script =
-    let text = parting trace ++ run_text script (noted_answers (run_end script)) (run_rounds script) in
-    let go : (b : Bool) → (rest : List ℕ) × (text_of (cond b (Answers (traced trace script ++ text)) (Stalls (traced trace script))) ≡ traced trace script ++ rest) =
-    λ b. elim b as (λ b. (rest : List ℕ) × (text_of (cond b (Answers (traced trace script ++ text)) (Stalls (traced trace script))) ≡ traced trace script ++ rest)) [
+    let lines = where_asked trace (run_trace script) in
+    let text = where_asked trace separator_line ++ run_text script (noted_answers (run_end script)) (run_rounds script) in
+    let go : (b : Bool) → (rest : List ℕ) × (text_of (cond b (Answers (lines ++ text)) (Stalls lines)) ≡ lines ++ rest) =
+    λ b. elim b as (λ b. (rest : List ℕ) × (text_of (cond b (Answers (lines ++ text)) (Stalls lines)) ≡ lines ++ rest)) [
       | true ↦ (text, refl)
-      | false ↦ ([], sym (append-nil (traced trace script)))
+      | false ↦ ([], sym (append-nil lines))
     ]
     in go (is_finished (run_end script))
 
 -- the lines that a run traces are those of its outcome
-pub traced-is : (trace : Bool) (script : List ScriptItem) → traced_by trace (built script) ≡ traced trace script
-unfolding run_rounds
-traced-is true script = refl
-traced-is false script = refl
-
--- what building and running gives
-pub has-run : (script : List ScriptItem) (before after : NetView) → before ≡ built script → HasRun before after → HasRun (built script) after
-has-run script before after is ran = subst (λ (v : NetView). HasRun v after) is ran
+pub trace-is : (script : List ScriptItem) → lines_of_run (opening_net script) ≡ run_trace script
+unfolding run_trace run_rounds
+trace-is script = refl

@@ -1,15 +1,26 @@
 -- The lines of a traced run, one piece after the other.
-use Rattle.std.proofs.Common.{◌≡◌, ◌<◌, ◌≤◌, ◌+◌, ◌-◌, [], ◌++◌, ℕ, zero, suc, List, Option, Some, None, false, refl, sym, ap, subst, ◌∙◌, arith, append_assoc, append-nil}
+use Rattle.std.proofs.Common.{◌≡◌, ◌<◌, ◌≤◌, ◌+◌, ◌-◌, [], ◌++◌, ℕ, zero, suc, List, Option, Some, None, Bool, true, false, refl, sym, ap, subst, ◌∙◌, arith, append_assoc, append-nil}
 use Rattle.std.specs.Io.KnownBytes.{Appends}
 use Rattle.axi_trail.specs.Streams.{over}
 use Rattle.net_rounds.proofs.RunLemmas.{least-from, least-more}
 use Rattle.net_rounds.specs.Network.{Network, after_rounds, is_finished}
 use Rattle.net_rounds.specs.Run.{least_finished, run_length}
+use Rattle.axi_program.specs.Text.{where_asked}
 
 -- nothing is appended where nothing is written
 pub appends-nothing : (known : Option (List ℕ)) → Appends known known []
 appends-nothing None = tt
 appends-nothing (Some bytes) = sym (append-nil bytes)
+
+-- parts of a text that is asked for, or isn't
+pub asked-more : (trace : Bool) (front next : List ℕ) → where_asked trace (front ++ next) ≡ where_asked trace front ++ where_asked trace next
+asked-more false front next = refl
+asked-more true front next = refl
+
+pub asked-parts :
+    (trace : Bool) (front next rest whole : List ℕ) → whole ≡ (front ++ next) ++ rest → where_asked trace whole ≡ (where_asked trace front ++ where_asked trace next) ++ where_asked trace rest
+asked-parts false front next rest whole is = refl
+asked-parts true front next rest whole is = is
 
 module _ (pieces : ℕ → List ℕ) where
   -- one piece more

@@ -5,7 +5,7 @@ use Rattle.std.proofs.Math.Seq.{take-add, take-append_seam}
 use Rattle.std.proofs.lemmas.List.{take-append-drop, take_rest, length-take, length-drop, length-append}
 use Rattle.std.proofs.Math.ListN.{drop_of_length-le}
 use Rattle.std.specs.Io.KnownBytes.{Consumes, Appends}
-use Rattle.axi_program.specs.Transfers.{IsRest}
+use Rattle.axi_program.specs.DeviceBytes.{IsRest}
 
 -- what was read before, and now
 pub IsRest-more : (first then last : Option (List ℕ)) (xs ys : List ℕ) → Consumes first then xs → Consumes then last ys → IsRest first last

@@ -1,53 +1,53 @@
 -- What the top call says by its status.
-use Rattle.std.specs.Prelude.{◌≡◌, ◌<◌, ℕ, [], List, Option, Some, None, ◌⊎◌, IfSome, length}
+use Rattle.std.specs.Prelude.{◌≡◌, ℕ, List, Option, None, ◌⊎◌, IfSome}
+use Rattle.std.specs.Io.KnownBytes.{Appends}
 use Rattle.manager_end.specs.Script.{ScriptItem}
 use Rattle.net_rounds.specs.Ports.{PortsLegal}
 use Rattle.net_rounds.specs.Right.{IsRight}
-use Rattle.axi_program.specs.Document.{input_limit, refusal_of, script_of_input}
+use Rattle.refusals.specs.Refusal.{refused_for}
+use Rattle.refusals.specs.declared.cause.Cause.TheVariants.{InputTooLong}
+use Rattle.axi_program.specs.DeviceBytes.{AppendsPrefix}
+use Rattle.axi_program.specs.Document.{refusal_of, script_of_input}
 use Rattle.axi_program.specs.Faults.{Rose}
-use Rattle.axi_program.specs.Outcome.{Concludes, input_outcome, status_of}
-use Rattle.axi_program.specs.Refusals.{input_too_long}
+use Rattle.axi_program.specs.Outcome.{Outcome, input_outcome, status_of, text_of}
+use Rattle.axi_program.specs.Preparation.{IsReadWhole, IsTooLong}
 use Rattle.axi_program.specs.declared.status.Status.{Status}
 use Rattle.axi_program.specs.declared.words.Command.{Command}
-use Rattle.axi_program.specs.declared.status.Status.TheVariants.{Done, Usage, Refused, Broken, ReadFault, WriteFault, NoMemory, Unfinished}
+use Rattle.axi_program.specs.declared.status.Status.TheVariants.{Usage, Refused, ReadFault, WriteFault, NoMemory}
 
 module _ {S K : Type 0} (command : Option Command) (left : S → Option (List ℕ)) (reading : S → ℕ) (written : K → Option (List ℕ)) (writing : K → ℕ) (source source' : S) (sink sink' : K) where
-  -- the input came to what it comes to by the command, where the source tells it
-  abbrev pub Came : Status → Type 0
-  Came status = IfSome command (λ asked. IfSome (left source) (λ input. Concludes written writing (input_outcome asked input) sink sink' status))
+  -- what the input comes to by the command is so, where the source tells it
+  abbrev pub OfOutcome : (Outcome → Type 0) → Type 0
+  OfOutcome P = IfSome command (λ asked. IfSome (left source) (λ input. P (input_outcome asked input)))
 
-  -- Usage: nothing was read or written. ReadFault: the source's count of faults rose, and nothing was written. All
-  -- others: as the input's outcome says.
+  -- the status is the outcome's, and its whole text was written
+  abbrev pub Came : Status → Type 0
+  Came status = OfOutcome (λ outcome. (status ≡ status_of outcome) × Appends (written sink) (written sink') (text_of outcome))
+
+  -- only a part of its text was written
+  abbrev pub IsCutOff : Type 0
+  IsCutOff = OfOutcome (λ outcome. AppendsPrefix (written sink) (written sink') (text_of outcome))
+
+  -- Usage: nothing was read or written. ReadFault: the source's count of faults rose, and nothing was written.
+  -- WriteFault: the sink's count rose, and only a part was written. NoMemory: nothing was written. All others: what the
+  -- input comes to was written whole.
   abbrev pub Tells : Status → Type 0
-  Tells Done = Came Done
   Tells Usage = (source' ≡ source) × (sink' ≡ sink)
-  Tells (Refused refusal) = Came (Refused refusal)
-  Tells (Broken fault) = Came (Broken fault)
   Tells ReadFault = Rose (reading source) (reading source') × (sink' ≡ sink)
-  Tells WriteFault = Rose (writing sink) (writing sink') × Came WriteFault
+  Tells WriteFault = Rose (writing sink) (writing sink') × IsCutOff
   Tells NoMemory = sink' ≡ sink
-  Tells Unfinished = Came Unfinished
+  Tells status = Came status
 
 module _ {S : Type 0} (left : S → Option (List ℕ)) (source source' : S) where
-  -- the source was read to its end
-  abbrev pub IsReadWhole : Type 0
-  IsReadWhole = IfSome (left source) (λ input. left source' ≡ Some [])
-
-  -- its input is over the size
-  abbrev pub IsTooLong : Type 0
-  IsTooLong = IfSome (left source) (λ input. input_limit < length input)
-
   -- The source was read to its end where the status tells what the input comes to, save where the input is refused for
   -- its size or its refusal isn't written whole.
   abbrev pub ReadsWhole : Status → Type 0
-  ReadsWhole Done = IsReadWhole
   ReadsWhole Usage = Unit {0}
-  ReadsWhole (Refused refusal) = IsReadWhole ⊎ ((refusal ≡ input_too_long) × IsTooLong)
-  ReadsWhole (Broken fault) = IsReadWhole
   ReadsWhole ReadFault = Unit {0}
-  ReadsWhole WriteFault = IsReadWhole ⊎ IsTooLong
   ReadsWhole NoMemory = Unit {0}
-  ReadsWhole Unfinished = IsReadWhole
+  ReadsWhole (Refused refusal) = IsReadWhole left source source' ⊎ ((refusal ≡ refused_for InputTooLong) × IsTooLong left source source')
+  ReadsWhole WriteFault = IsReadWhole left source source' ⊎ IsTooLong left source source'
+  ReadsWhole status = IsReadWhole left source source'
 
 -- where no count rises, the status is the outcome's, or memory was wanting
 abbrev pub IsComplete : Option Command → Option (List ℕ) → Status → Type 0

@@ -1,28 +1,28 @@
--- What an input comes to, and what a call that writes it has written.
-use Rattle.std.specs.Prelude.{◌≡◌, ◌++◌, ℕ, [], List, Bool, true, false, Option, Some, None, codes, length, nat_lt, not, if◌then◌else◌}
+-- What an input comes to: what is written, and how the program ends.
+use Rattle.std.specs.Prelude.{◌++◌, ℕ, [], List, Bool, Option, Some, None, length, nat_lt, not, if◌then◌else◌}
 use Rattle.std.specs.Option.{option_map_or}
-use Rattle.std.specs.Io.KnownBytes.{Appends}
 use Rattle.manager_end.specs.Answer.{AnswerView}
 use Rattle.manager_end.specs.Script.{ScriptItem}
 use Rattle.net_rounds.specs.BuiltIn.{bound, built_in, first_manager}
 use Rattle.net_rounds.specs.Network.{Network, after_rounds, is_finished}
 use Rattle.net_rounds.specs.Run.{run_length}
 use Rattle.axi_program.specs.Document.{input_limit, refusal_of, script_of_input}
-use Rattle.axi_program.specs.Refusals.{bad_trace_line, input_too_long, not_built, not_text}
+use Rattle.refusals.specs.Refusal.{refused_at, refused_for}
+use Rattle.refusals.specs.declared.cause.Cause.TheVariants.{BadTraceLine as CauseBadTraceLine, InputTooLong, NotBuilt as CauseNotBuilt, NotText}
+use Rattle.refusals.specs.declared.refusal.Refusal.{Refusal}
+use Rattle.std.specs.Str.{is_utf8}
+use Rattle.axi_program.specs.Text.{broken_line, legal_line, refusal_line, run_text, separator_line, where_asked}
+use Rattle.axi_program.specs.Trace.{trace_lines}
+use Rattle.axi_program.specs.Status.{status_of_ending}
+use Rattle.axi_program.specs.declared.status.Status.{Status}
+use Rattle.axi_program.specs.declared.words.Command.{Command}
+use Rattle.axi_program.specs.declared.words.Command.TheVariants.{Check, Run}
+use Rattle.axi_program.specs.declared.status.Ending.{Ending}
+use Rattle.axi_program.specs.declared.status.Ending.TheVariants.{Broken as EndsBroken, Done, Refused, Unfinished}
 use Rattle.trace_judge.specs.Verdicts.{verdict_of}
 use Rattle.trace_judge.specs.declared.verdict.TraceFault.{TraceFault}
 use Rattle.trace_judge.specs.declared.verdict.Verdict.{Verdict}
 use Rattle.trace_judge.specs.declared.verdict.Verdict.TheVariants.{BadTraceLine, Broken, Legal, NotBuilt}
-use Rattle.std.specs.Str.{is_utf8}
-use Rattle.axi_program.specs.Faults.{Rose}
-use Rattle.axi_program.specs.Text.{broken_line, legal_line, refusal_line, run_text}
-use Rattle.axi_program.specs.Trace.{trace_lines}
-use Rattle.axi_program.specs.Transfers.{AppendsPrefix}
-use Rattle.axi_program.specs.declared.status.Refusal.{Refusal}
-use Rattle.axi_program.specs.declared.status.Status.{Status}
-use Rattle.axi_program.specs.declared.words.Command.{Command}
-use Rattle.axi_program.specs.declared.words.Command.TheVariants.{Check, Run}
-use Rattle.axi_program.specs.declared.status.Status.TheVariants.{Broken as StatusBroken, Done, Usage, Refused, ReadFault, WriteFault, NoMemory, Unfinished}
 
 -- the rounds of the run of a script: up to the first state in which all is answered, at most as many as the bound
 unfoldable pub run_rounds : List ScriptItem → ℕ
@@ -44,22 +44,16 @@ pub data Outcome : Type 0 where
   Breaks : TraceFault → Outcome
   Stalls : List ℕ → Outcome
 
--- the lines of the run of a script, where a trace is asked for
-abbrev pub traced : Bool → List ScriptItem → List ℕ
-traced false script = []
-traced true script = trace_lines (run_rounds script) (built_in script)
-
--- and the line that parts them from the answers
-abbrev pub parting : Bool → List ℕ
-parting false = []
-parting true = codes "%%\n"
+-- the trace of its links
+unfoldable pub run_trace : List ScriptItem → List ℕ
+run_trace script = trace_lines (run_rounds script) (built_in script)
 
 -- what the run of a script comes to
 unfoldable pub run_outcome : Bool → List ScriptItem → Outcome
 run_outcome trace script =
     if is_finished (run_end script)
-    then Answers (traced trace script ++ (parting trace ++ run_text script (noted_answers (run_end script)) (run_rounds script)))
-    else Stalls (traced trace script)
+    then Answers (where_asked trace (run_trace script) ++ (where_asked trace separator_line ++ run_text script (noted_answers (run_end script)) (run_rounds script)))
+    else Stalls (where_asked trace (run_trace script))
 
 abbrev pub outcome_by : Bool → Option Refusal → List ScriptItem → Outcome
 outcome_by trace (Some refusal) script = Refuses refusal
@@ -69,14 +63,14 @@ outcome_by trace None script = run_outcome trace script
 abbrev pub outcome_of : Verdict → Outcome
 outcome_of (Legal lines) = Answers (legal_line lines)
 outcome_of (Broken fault) = Breaks fault
-outcome_of (BadTraceLine line) = Refuses (bad_trace_line line)
-outcome_of (NotBuilt line) = Refuses (not_built line)
+outcome_of (BadTraceLine line) = Refuses (refused_at CauseBadTraceLine line)
+outcome_of (NotBuilt line) = Refuses (refused_at CauseNotBuilt line)
 
 -- what an input comes to that is to be judged as a trace
 unfoldable pub check_outcome : List ℕ → Outcome
 check_outcome input =
-    if nat_lt input_limit (length input) then Refuses input_too_long
-    else if not (is_utf8 input) then Refuses not_text
+    if nat_lt input_limit (length input) then Refuses (refused_for InputTooLong)
+    else if not (is_utf8 input) then Refuses (refused_for NotText)
     else outcome_of (verdict_of input)
 
 -- what an input comes to that is to be run
@@ -95,22 +89,13 @@ text_of (Answers text) = text
 text_of (Breaks fault) = broken_line fault
 text_of (Stalls text) = text
 
--- its status
-abbrev pub status_of : Outcome → Status
-status_of (Refuses refusal) = Refused refusal
-status_of (Answers text) = Done
-status_of (Breaks fault) = StatusBroken fault
-status_of (Stalls text) = Unfinished
+-- how a command ends that writes its text
+abbrev pub ending_of : Outcome → Ending
+ending_of (Refuses refusal) = Refused refusal
+ending_of (Answers text) = Done
+ending_of (Breaks fault) = EndsBroken fault
+ending_of (Stalls text) = Unfinished
 
--- How a call ends that writes the text of an outcome: with its status, and the whole text is written; or the sink's
--- count of faults rose, and only a part of the text is written; or memory was wanting, and the sink is untouched.
-module _ {K : Type 0} (written : K → Option (List ℕ)) (faults : K → ℕ) (outcome : Outcome) (before after : K) where
-  abbrev pub Concludes : Status → Type 0
-  Concludes Done = (Done ≡ status_of outcome) × Appends (written before) (written after) (text_of outcome)
-  Concludes Usage = ⊥
-  Concludes (Refused refusal) = (Refused refusal ≡ status_of outcome) × Appends (written before) (written after) (text_of outcome)
-  Concludes (StatusBroken fault) = (StatusBroken fault ≡ status_of outcome) × Appends (written before) (written after) (text_of outcome)
-  Concludes ReadFault = ⊥
-  Concludes WriteFault = Rose (faults before) (faults after) × AppendsPrefix (written before) (written after) (text_of outcome)
-  Concludes NoMemory = after ≡ before
-  Concludes Unfinished = (Unfinished ≡ status_of outcome) × Appends (written before) (written after) (text_of outcome)
+-- and with which status
+abbrev pub status_of : Outcome → Status
+status_of outcome = status_of_ending (ending_of outcome)

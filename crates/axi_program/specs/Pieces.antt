@@ -2,8 +2,8 @@
 use Rattle.std.specs.Prelude.{ℕ, List, drop, take}
 use Rattle.manager_end.specs.Answer.{AnswerView}
 use Rattle.manager_end.specs.Script.{ScriptItem}
-use Rattle.net_rounds.specs.BuiltIn.{first_manager, script_of_manager}
 use Rattle.net_rounds.specs.NetView.{NetView}
+use Rattle.axi_program.specs.Opening.{script_of_net}
 use Rattle.axi_program.specs.Outcome.{noted_answers}
 use Rattle.axi_program.specs.Text.{answer_lines, run_text}
 
@@ -13,4 +13,4 @@ line_at script answers place = answer_lines (take 1 (drop place script)) (take 1
 
 -- the text of a network that answered everything
 unfoldable pub text_of_net : NetView → List ℕ
-text_of_net net = run_text (script_of_manager (first_manager net.network.nodes)) (noted_answers net.network) net.rounds
+text_of_net net = run_text (script_of_net net) (noted_answers net.network) net.rounds

@@ -1,47 +1,39 @@
 -- What the program writes: the line of a refusal, the line of a verdict on a trace, and the lines of a run.
-use Rattle.std.specs.Prelude.{ℕ, ◌==◌, ◌||◌, Bool, List, [], ◌++◌, if◌then◌else◌, codes}
+use Rattle.std.specs.Prelude.{ℕ, ◌==◌, Bool, true, false, List, [], ◌++◌, if◌then◌else◌, codes}
 use Rattle.std.specs.List.{flat_map, zip}
+use Rattle.std.specs.Option.{option_map_or}
 use Rattle.std.specs.Fmt.{decimal}
 use Rattle.manager_end.specs.Answer.{AnswerView}
 use Rattle.manager_end.specs.Script.{ScriptItem}
 use Rattle.axi_program.specs.Traffic.{manager_name}
-use Rattle.axi_program.specs.declared.status.Refusal.{Refusal}
-use Rattle.trace_judge.specs.declared.verdict.TraceFault.{TraceFault}
+use Rattle.refusals.specs.Cause.{cause_code, cause_name, cause_of_code, names_place}
+use Rattle.refusals.specs.declared.cause.Cause.TheVariants.{IllegalBurst}
+use Rattle.refusals.specs.declared.refusal.Refusal.{Refusal}
 use Rattle.trace_text.specs.AnswerLine.{answer_line}
+use Rattle.trace_judge.specs.declared.verdict.TraceFault.{TraceFault}
 
 -- ---- a refusal
 
--- the name of a cause; a code that isn't listed has none
-abbrev pub cause_name : ℕ → List ℕ
-cause_name code =
-    if code == 1 then codes "InputTooLong"
-    else if code == 2 then codes "NotText"
-    else if code == 3 then codes "NoSeparator"
-    else if code == 17 then codes "BadLine"
-    else if code == 18 then codes "UnknownManager"
-    else if code == 19 then codes "BadId"
-    else if code == 20 then codes "IllegalBurst"
-    else if code == 21 then codes "TooMuchTraffic"
-    else if code == 22 then codes "BadTraceLine"
-    else if code == 23 then codes "NotBuilt"
-    else []
+-- the name of the cause with this code; a code that no cause has has none
+abbrev pub name_of_code : ℕ → List ℕ
+name_of_code code = option_map_or cause_name (cause_of_code code) []
 
--- these causes name a place
-abbrev pub names_place : ℕ → Bool
-names_place code = code == 17 || code == 18 || code == 19 || code == 20 || code == 22 || code == 23
+-- that cause names a place
+abbrev pub code_names_place : ℕ → Bool
+code_names_place code = option_map_or names_place (cause_of_code code) false
 
 -- the place of a refusal, where its cause names one
 abbrev pub place_text : Refusal → List ℕ
-place_text refusal = if names_place refusal.code then codes " " ++ decimal refusal.place else []
+place_text refusal = if code_names_place refusal.code then codes " " ++ decimal refusal.place else []
 
 -- the broken rule, where the cause is one
 abbrev pub rule_text : Refusal → List ℕ
-rule_text refusal = if refusal.code == 20 then codes " " ++ decimal refusal.rule else []
+rule_text refusal = if refusal.code == cause_code IllegalBurst then codes " " ++ decimal refusal.rule else []
 
 -- `refused <code> <name>`, the place where one is named, and the rule that is broken
 unfoldable pub refusal_line : Refusal → List ℕ
 refusal_line refusal =
-    codes "refused " ++ decimal refusal.code ++ codes " " ++ cause_name refusal.code ++ place_text refusal ++ rule_text refusal ++ codes "\n"
+    codes "refused " ++ decimal refusal.code ++ codes " " ++ name_of_code refusal.code ++ place_text refusal ++ rule_text refusal ++ codes "\n"
 
 -- ---- a trace that is judged
 
@@ -65,6 +57,15 @@ broken_line fault =
     ++ decimal fault.rule ++ codes "\n"
 
 -- ---- a run
+
+-- a text that stands only where it is asked for
+abbrev pub where_asked : Bool → List ℕ → List ℕ
+where_asked false text = []
+where_asked true text = text
+
+-- the line that parts a trace from the answers
+abbrev pub separator_line : List ℕ
+separator_line = codes "%%\n"
 
 -- `rounds <rounds>`
 unfoldable pub rounds_line : ℕ → List ℕ

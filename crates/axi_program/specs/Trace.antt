@@ -1,5 +1,5 @@
 -- The trace of a run: what its links show, round by round.
-use Rattle.std.specs.Prelude.{◌≡◌, ℕ, ◌+◌, ◌||◌, ◌++◌, [], Bool, true, false, List, length, is_some, if◌then◌else◌, codes}
+use Rattle.std.specs.Prelude.{◌≡◌, ℕ, ◌+◌, ◌||◌, ◌++◌, [], Bool, List, length, is_some, if◌then◌else◌, codes}
 use Rattle.axi_history.specs.declared.port.PortRound.{PortRound}
 use Rattle.axi_trail.specs.Streams.{over}
 use Rattle.net_rounds.specs.Network.{Network, after_decide, after_rounds}
@@ -31,11 +31,6 @@ trace_lines n net = over (lines_after net) n
 -- the lines of a run, from the network before its first round
 abbrev pub lines_of_run : NetView → List ℕ
 lines_of_run net = trace_lines (run_length net.network net.most) net.network
-
--- where a trace is asked for
-abbrev pub traced_by : Bool → NetView → List ℕ
-traced_by false net = []
-traced_by true net = lines_of_run net
 
 -- what a network has become by its run
 pub record HasRun (before after : NetView) : Type 0 where

@@ -1,8 +1,8 @@
 -- The traffic of the built-in network, and the script that it gives the one manager.
 use Rattle.std.specs.Prelude.{◌≡◌, ℕ, List, [], ◌∷◌, map, Option, codes}
 use Rattle.manager_end.specs.Script.{ScriptItem}
-use Rattle.traffic.specs.Traffic.{TrafficItem, refusal_of, traffic_of}
-use Rattle.traffic.specs.declared.fault.TrafficFault.{TrafficFault}
+use Rattle.refusals.specs.declared.refusal.Refusal.{Refusal}
+use Rattle.traffic.specs.Traffic.{TrafficItem, traffic_of, traffic_refusal}
 use Rattle.traffic.specs.declared.port.ManagerPort.{ManagerPort}
 
 -- the name of the manager
@@ -23,8 +23,8 @@ abbrev pub built_in_managers : List ManagerPort
 built_in_managers = built_in_manager ∷ []
 
 -- why traffic lines are refused
-abbrev pub fault_of : List (List ℕ) → Option TrafficFault
-fault_of lines = refusal_of built_in_managers lines
+abbrev pub refusal_of_traffic : List (List ℕ) → Option Refusal
+refusal_of_traffic lines = traffic_refusal built_in_managers lines
 
 -- a transaction of the traffic as one of the script
 abbrev pub script_item : TrafficItem → ScriptItem

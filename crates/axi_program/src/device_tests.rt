@@ -84,3 +84,18 @@ fn devices_of_one_byte_make_the_same_text(rt: HostRuntime) -> Result<(), Fail> {
     let mut sink = MemorySink::new(alloc, 100, Vec::new(alloc), 1)?;
     compare(&rt, &mut source, &mut sink, Status::Done, 3)
 }
+
+#[test]
+fn a_long_line_is_offered_in_one_call(rt: HostRuntime) -> Result<(), Fail> {
+    let alloc = rt.alloc();
+    let words = words_of(alloc, &["axinet", "run"])?;
+    let input = b"%%\nread m 0 0x0 4 incr 256\n".to_vec(alloc)?;
+    let mut source = MemorySource::new(input, Vec::new(alloc), 100);
+    let mut sink = MemorySink::new(alloc, 5000, [2].to_vec(alloc)?, 5000)?;
+    let status = axinet(alloc, &words, &mut source, &mut sink, &OpenGate);
+    assert_eq!(rt; status, Status::WriteFault);
+    // The first call took the whole answer, 14 bytes for each of its 256 beats, and the second one failed.
+    assert_eq!(rt; sink.bytes().len(), 15 + 256 * 14);
+    assert!(rt; sink.bytes().starts_with(b"1 read m 1 259 okay:00000000"));
+    Ok(())
+}

@@ -5,16 +5,17 @@
 //! one of each never fails. `status` has the answers of the top call.
 //!
 //! `words` has the commands. `document` reads the input of `run`, and `script` its traffic lines to the manager's
-//! script; `run` runs it, with the lines of its `trace` where they are asked for. `check` judges a trace. `texts`
-//! makes the lines that the program says, and `refuse` writes that of a refusal. `top` puts them together.
+//! script. `preparation` makes an input the `work` that is left then, and takes all memory for it: one line, which `report`
+//! makes of a refusal or a verdict, or a `run`, with the lines of its `trace` where they are asked for. `texts` makes
+//! the lines that the program says. `top` puts them together.
 #![tactic(auto)]
 
-mod check;
 #[cfg(test)]
 mod device_tests;
 mod document;
 mod outside;
-mod refuse;
+mod preparation;
+mod report;
 mod run;
 mod script;
 mod status;
@@ -28,8 +29,9 @@ mod trace;
 #[cfg(test)]
 mod trace_tests;
 mod words;
+mod work;
 
-pub use document::{DocumentFault, INPUT_LIMIT, read_document};
+pub use document::{INPUT_LIMIT, read_document};
 pub use outside::gate::{Gate, OpenGate};
 pub use outside::memory_sink::MemorySink;
 pub use outside::memory_source::MemorySource;
@@ -39,7 +41,9 @@ pub use outside::source::{Failed, Source};
 pub use outside::standard::{StdinSource, StdoutSink};
 pub use outside::sure::{SureSink, SureSource};
 pub use outside::write_all::write_piece;
-pub use status::{Refusal, Status};
+pub use preparation::prepare;
+pub use status::{Ending, Status, Stop};
 pub use texts::{render_broken, render_legal, render_refusal, render_rounds};
 pub use top::axinet;
 pub use words::{Command, command_of};
+pub use work::Work;

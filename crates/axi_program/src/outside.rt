@@ -1,9 +1,9 @@
 //! What the top call sees of the world: where bytes come from, where they go, and the gate of the workers.
 
+mod call_faults;
 pub mod gate;
 pub mod memory_sink;
 pub mod memory_source;
-mod call_faults;
 pub mod read_all;
 pub mod sink;
 pub mod source;

@@ -5,12 +5,13 @@ ghost use Rattle.manager_end.specs.Script.{IsScript};
 ghost use Rattle.net_rounds.specs.Due.{IsNumberedTraffic};
 ghost use Rattle.plain_text.specs.Lines.{lines};
 ghost use Rattle.traffic.specs.Traffic.{IsRefusal};
-ghost use Rattle.axi_program.specs.Traffic.{fault_of, script_of, script_of_lines, IsBuiltIn};
+ghost use Rattle.axi_program.specs.Traffic.{refusal_of_traffic, script_of, script_of_lines, IsBuiltIn};
 
 use axi_beats::NoMemory;
 use manager_end::Script;
+use refusals::DocFault;
 use std::alloc::Global;
-use traffic::{ManagerPort, Traffic, TrafficFault, read_traffic};
+use traffic::{ManagerPort, Traffic, read_traffic};
 
 /// The name of the built-in manager.
 pub const MANAGER: &str = "m";
@@ -19,14 +20,14 @@ pub const MANAGER: &str = "m";
 ///
 /// # Errors
 ///
-/// The fault with the least code, and of those with one code the one of the first line. Want of memory
+/// The refusal with the least code, from 17 to 21, and of those with one code the one of the first line. Want of memory
 /// comes only where the lines aren't refused.
-pub fn read_script(alloc: Global, text: &str) -> Result<Script, TrafficFault>
+pub fn read_script(alloc: Global, text: &str) -> Result<Script, DocFault>
     requires { length text.now ≤ 16777216 }
-    ensures accepted { IfOk result (λ _. fault_of (lines text.now) ≡ None) }
+    ensures accepted { IfOk result (λ _. refusal_of_traffic (lines text.now) ≡ None) }
     ensures script { IfOk result (λ script. script ≡ script_of_lines (lines text.now)) }
     ensures traffic { IfOk result IsNumberedTraffic }
-    ensures refused { IfErr result (IsRefusal (fault_of (lines text.now))) }
+    ensures refused { IfErr result (IsRefusal (refusal_of_traffic (lines text.now))) }
 {
     let managers = [built_in_manager()];
     let traffic = match read_traffic(alloc, text, &managers) {
@@ -35,7 +36,7 @@ pub fn read_script(alloc: Global, text: &str) -> Result<Script, TrafficFault>
     };
     match script_of(alloc, &traffic) {
         Ok(script) => Ok(script),
-        Err(NoMemory) => Err(TrafficFault::NoMemory),
+        Err(NoMemory) => Err(DocFault::NoMemory),
     }
 }
 

@@ -2,7 +2,7 @@
 
 use super::*;
 use crate::test_rows::{Row, compare, compare_end, ran, words_of};
-use burst_address::BurstRule;
+use refusals::{Cause, Refusal};
 use std::alloc::Global;
 use std::process::Abort;
 use std::test::Fail;
@@ -78,7 +78,7 @@ fn documents_are_run(rt: HostRuntime) -> Result<(), Fail> {
 fn two_pages() -> Row {
     refused(
         b"%%\nwrite m 0 0xffc 4 incr 00000000 00000000\n",
-        Refusal::illegal_burst(1, BurstRule::Page),
+        Refusal::illegal_burst(1, 4),
         b"refused 20 IllegalBurst 1 4\n",
     )
 }
@@ -86,7 +86,7 @@ fn two_pages() -> Row {
 fn seventeen_fixed_beats() -> Row {
     refused(
         b"%%\nread m 0 0x0 4 fixed 17\n",
-        Refusal::illegal_burst(1, BurstRule::Length),
+        Refusal::illegal_burst(1, 2),
         b"refused 20 IllegalBurst 1 2\n",
     )
 }
@@ -94,7 +94,7 @@ fn seventeen_fixed_beats() -> Row {
 fn too_many_beats() -> Row {
     refused(
         b"%%\nread m 0 0x0 4 incr 257\n",
-        Refusal::illegal_burst(1, BurstRule::Length),
+        Refusal::illegal_burst(1, 2),
         b"refused 20 IllegalBurst 1 2\n",
     )
 }
@@ -102,7 +102,7 @@ fn too_many_beats() -> Row {
 fn a_large_id() -> Row {
     refused(
         b"%%\nread m 16 0x0 4 incr 1\n",
-        Refusal::bad_id(1),
+        Refusal::at(Cause::BadId, 1),
         b"refused 19 BadId 1\n",
     )
 }
@@ -110,7 +110,7 @@ fn a_large_id() -> Row {
 fn an_unknown_manager() -> Row {
     refused(
         b"%%\nwait z\n",
-        Refusal::unknown_manager(1),
+        Refusal::at(Cause::UnknownManager, 1),
         b"refused 18 UnknownManager 1\n",
     )
 }
@@ -118,7 +118,7 @@ fn an_unknown_manager() -> Row {
 fn a_pair_too_many() -> Row {
     refused(
         b"%%\nwrite m 0 0x1 4 incr 00000000\n",
-        Refusal::bad_line(1),
+        Refusal::at(Cause::BadLine, 1),
         b"refused 17 BadLine 1\n",
     )
 }
@@ -126,7 +126,7 @@ fn a_pair_too_many() -> Row {
 fn a_bad_line_after_a_large_id() -> Row {
     refused(
         b"%%\nread m 16 0x0 4 incr 1\nwait\n",
-        Refusal::bad_line(2),
+        Refusal::at(Cause::BadLine, 2),
         b"refused 17 BadLine 2\n",
     )
 }
@@ -134,17 +134,25 @@ fn a_bad_line_after_a_large_id() -> Row {
 fn a_late_separator() -> Row {
     refused(
         b"\n%%\nwait\n",
-        Refusal::not_built(0),
+        Refusal::at(Cause::NotBuilt, 0),
         b"refused 23 NotBuilt 0\n",
     )
 }
 
 fn no_bytes() -> Row {
-    refused(b"", Refusal::no_separator(), b"refused 3 NoSeparator\n")
+    refused(
+        b"",
+        Refusal::new(Cause::NoSeparator),
+        b"refused 3 NoSeparator\n",
+    )
 }
 
 fn no_text() -> Row {
-    refused(b"\xff", Refusal::not_text(), b"refused 2 NotText\n")
+    refused(
+        b"\xff",
+        Refusal::new(Cause::NotText),
+        b"refused 2 NotText\n",
+    )
 }
 
 #[test]
@@ -183,7 +191,7 @@ fn compare_spaces(
 
 #[test]
 fn long_inputs_are_refused(rt: HostRuntime) -> Result<(), Fail> {
-    let too_long = Refusal::input_too_long();
+    let too_long = Refusal::new(Cause::InputTooLong);
     compare_spaces(
         &rt,
         "run",
@@ -198,7 +206,7 @@ fn long_inputs_are_refused(rt: HostRuntime) -> Result<(), Fail> {
         too_long,
         b"refused 1 InputTooLong\n",
     )?;
-    let no_separator = Refusal::no_separator();
+    let no_separator = Refusal::new(Cause::NoSeparator);
     compare_spaces(
         &rt,
         "run",
@@ -235,5 +243,5 @@ fn nothing_fails_between_a_sure_source_and_a_sure_sink(rt: HostRuntime) -> Resul
 
 #[test]
 fn a_refusal_has_its_exit_code(rt: HostRuntime) {
-    assert_eq!(rt; Status::Refused(Refusal::not_text()).code(), 3);
+    assert_eq!(rt; Status::Refused(Refusal::new(Cause::NotText)).code(), 3);
 }

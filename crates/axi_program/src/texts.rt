@@ -3,10 +3,10 @@
 //! Each call replaces the bytes of a line buffer by one line with its line feed, and takes no memory.
 
 ghost use Rattle.std.specs.Prelude.{◌≡◌, ◌≤◌, ◌+◌, ◌++◌, length};
-ghost use Rattle.axi_program.specs.Text.{broken_line, cause_name, channel_name, legal_line, names_place, place_text, refusal_line, rounds_line, rule_text};
+ghost use Rattle.axi_program.specs.Text.{broken_line, channel_name, code_names_place, legal_line, name_of_code, place_text, refusal_line, rounds_line, rule_text};
 
-use crate::status::Refusal;
 use plain_text::line_buffer::LineBuffer;
+use refusals::{Cause, Refusal};
 use trace_judge::TraceFault;
 
 /// Writes the line of a refusal: its code, the name of its cause, the place where the cause names one, and the rule
@@ -19,7 +19,7 @@ pub fn render_refusal(line: &mut LineBuffer, refusal: &Refusal)
     line.push(b"refused ");
     line.push_decimal(u64::from(refusal.code));
     line.push(b" ");
-    line.push(cause_name(refusal.code).as_bytes());
+    line.push(cause_name(refusal).as_bytes());
     push_place(line, refusal);
     push_rule(line, refusal);
     line.push(b"\n");
@@ -31,25 +31,20 @@ fn push_place(line: &mut LineBuffer, refusal: &Refusal)
     ensures text { line.new ≡ line.old ++ place_text refusal.now }
     ensures room { length line.new ≤ length line.old + 21 }
 {
-    if names_place(refusal.code) {
+    if names_place(refusal) {
         line.push(b" ");
         line.push_decimal(u64::from(refusal.place));
     }
 }
 
-// Whether a cause names a place.
-fn names_place(code: u8) -> bool
-    ensures { result ≡ names_place code }
+// Whether the cause of a refusal names a place.
+fn names_place(refusal: &Refusal) -> bool
+    ensures { result ≡ code_names_place refusal.now.code }
 {
-    matches!(
-        code,
-        Refusal::BAD_LINE
-            | Refusal::UNKNOWN_MANAGER
-            | Refusal::BAD_ID
-            | Refusal::ILLEGAL_BURST
-            | Refusal::BAD_TRACE_LINE
-            | Refusal::NOT_BUILT
-    )
+    match refusal.cause() {
+        Some(cause) => cause.names_place(),
+        None => false,
+    }
 }
 
 // Writes the rule of a refusal, where its cause is a broken rule.
@@ -58,29 +53,20 @@ fn push_rule(line: &mut LineBuffer, refusal: &Refusal)
     ensures text { line.new ≡ line.old ++ rule_text refusal.now }
     ensures room { length line.new ≤ length line.old + 21 }
 {
-    if refusal.code == Refusal::ILLEGAL_BURST {
+    if refusal.code == Cause::IllegalBurst.code() {
         line.push(b" ");
         line.push_decimal(u64::from(refusal.rule));
     }
 }
 
-// The name of a cause.
-fn cause_name(code: u8) -> &'static str
-    ensures name { result.now ≡ cause_name code }
+// The name of the cause of a refusal.
+fn cause_name(refusal: &Refusal) -> &'static str
+    ensures name { result.now ≡ name_of_code refusal.now.code }
     ensures short { length result.now ≤ 14 }
 {
-    match code {
-        Refusal::INPUT_TOO_LONG => "InputTooLong",
-        Refusal::NOT_TEXT => "NotText",
-        Refusal::NO_SEPARATOR => "NoSeparator",
-        Refusal::BAD_LINE => "BadLine",
-        Refusal::UNKNOWN_MANAGER => "UnknownManager",
-        Refusal::BAD_ID => "BadId",
-        Refusal::ILLEGAL_BURST => "IllegalBurst",
-        Refusal::TOO_MUCH_TRAFFIC => "TooMuchTraffic",
-        Refusal::BAD_TRACE_LINE => "BadTraceLine",
-        Refusal::NOT_BUILT => "NotBuilt",
-        _ => "",
+    match refusal.cause() {
+        Some(cause) => cause.name(),
+        None => "",
     }
 }
 

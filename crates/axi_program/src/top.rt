@@ -1,21 +1,15 @@
 //! The top call: it takes the words, reads the input, and writes what the input comes to.
 
-ghost use Rattle.std.specs.Prelude.{◌≡◌, ◌≤◌, map, string_bytes, length, None};
+ghost use Rattle.std.specs.Prelude.{◌≡◌, ◌≤◌, map, string_bytes, None};
 ghost use Rattle.axi_program.specs.Call.{DocumentsRunRight, IsComplete, ReadsWhole, Tells};
 ghost use Rattle.axi_program.specs.Faults.{Rose};
-ghost use Rattle.axi_program.specs.Outcome.{Concludes, document_outcome, input_outcome};
 ghost use Rattle.axi_program.specs.Words.{command_of as command_by};
 
-use crate::check::check;
-use crate::document::{DocumentFault, INPUT_LIMIT, read_document};
 use crate::outside::gate::Gate;
-use crate::outside::read_all::{InputFault, read_all};
 use crate::outside::sink::Sink;
-use crate::outside::source::Source;
-use crate::refuse::refuse;
-use crate::run::run;
-use crate::status::{Refusal, Status};
-use crate::words::{Command, command_of};
+use crate::outside::source::{Failed, Source};
+use crate::preparation::prepare;
+use crate::status::Status;
 use std::alloc::Global;
 
 /// Runs the document that the source holds and writes its answers to the sink, or the one line of
@@ -24,8 +18,9 @@ use std::alloc::Global;
 /// program's name and `check`: then the source holds a trace, whose ports are judged. The gate is
 /// for the parts of a phase, which are done one after the other today.
 ///
-/// The order of causes: the words, reading, the refusals in their order, writing; want of memory may
-/// come in place of any but the first. Of the refusals of a document the codes 1, 2, 3 and 23 come
+/// The order of causes: the words, reading, the refusals in their order, writing. Want of memory may come in
+/// place of any but the first, and only before the run and the first write: all memory is taken by [`prepare`], and
+/// what is left to do then has no answer for want of it. Of the refusals of a document the codes 1, 2, 3 and 23 come
 /// first, and then 17 to 21; of those of a trace 1, 2, 22 and 23.
 pub fn axinet<S: Source, K: Sink, G: Gate>(
     alloc: Global,
@@ -60,39 +55,11 @@ pub fn axinet<S: Source, K: Sink, G: Gate>(
     ensures reading { S.faults source.old ≤ S.faults source.new }
     ensures writing { K.faults sink.old ≤ K.faults sink.new }
 {
-    let command = match command_of(words) {
-        Some(command) => command,
-        None => return Status::Usage,
-    };
-    match read_all(alloc, source, INPUT_LIMIT) {
-        Ok(input) => heed(alloc, command, &input, sink),
-        Err(InputFault::TooLong) => refuse(alloc, Refusal::input_too_long(), sink),
-        Err(InputFault::ReadFault) => Status::ReadFault,
-        Err(InputFault::NoMemory) => Status::NoMemory,
-    }
-}
-
-/// Does what the command says with an input, or refuses it.
-fn heed<K: Sink>(alloc: Global, command: Command, input: &[u8], sink: &mut K) -> Status
-    requires { length input.now ≤ INPUT_LIMIT }
-    ensures concludes { Concludes K.written K.faults (input_outcome command input.now) sink.old sink.new result }
-    ensures count { K.faults sink.old ≤ K.faults sink.new }
-{
-    match command {
-        Command::Run { trace } => heed_document(alloc, trace, input, sink),
-        Command::Check => check(alloc, input, sink),
-    }
-}
-
-/// Runs the document of an input, or refuses it.
-fn heed_document<K: Sink>(alloc: Global, trace: bool, input: &[u8], sink: &mut K) -> Status
-    requires { length input.now ≤ INPUT_LIMIT }
-    ensures concludes { Concludes K.written K.faults (document_outcome trace input.now) sink.old sink.new result }
-    ensures count { K.faults sink.old ≤ K.faults sink.new }
-{
-    match read_document(alloc, input) {
-        Ok(script) => run(alloc, script, trace, sink),
-        Err(DocumentFault::Refused(refusal)) => refuse(alloc, refusal, sink),
-        Err(DocumentFault::NoMemory) => Status::NoMemory,
+    match prepare(alloc, words, source) {
+        Ok(work) => match work.finish(sink) {
+            Ok(ending) => ending.status(),
+            Err(Failed) => Status::WriteFault,
+        },
+        Err(stop) => stop.status(),
     }
 }

@@ -1,11 +1,11 @@
 //! The trace of a run: the lines of its links, written round by round.
 
-ghost use Rattle.std.specs.Prelude.{◌≡◌, ◌+◌, ◌<◌, ◌≤◌, ◌-◌, true, false, OnOk, OnErr, IfOk};
+ghost use Rattle.std.specs.Prelude.{◌≡◌, ◌+◌, ◌≤◌, true, OnOk, OnErr};
 ghost use Rattle.std.specs.Io.KnownBytes.{Appends};
-ghost use Rattle.net_rounds.specs.Network.{is_finished};
+ghost use Rattle.axi_program.specs.DeviceBytes.{AppendsPrefix};
 ghost use Rattle.axi_program.specs.Faults.{HasCause};
-ghost use Rattle.axi_program.specs.Trace.{HasRun, is_shown as shows, lines_of_run, port_line, round_lines};
-ghost use Rattle.axi_program.specs.Transfers.{AppendsPrefix};
+ghost use Rattle.axi_program.specs.Text.{where_asked};
+ghost use Rattle.axi_program.specs.Trace.{is_shown as shows, port_line, round_lines};
 
 use crate::outside::sink::Sink;
 use crate::outside::source::Failed;
@@ -15,35 +15,28 @@ use net_rounds::Net;
 use plain_text::line_buffer::LineBuffer;
 use trace_text::render_round;
 
-/// Makes the rounds of a run and writes the lines of each before its moves are made. Whether every
-/// transaction is answered then.
-pub fn run_traced<K: Sink>(
-    net: &mut Net,
+/// Writes the lines of the round in which the nodes have decided, where a trace is asked for.
+pub fn write_round<K: Sink>(
+    net: &Net,
+    trace: bool,
     line: &mut LineBuffer,
     sink: &mut K,
-) -> Result<bool, Failed>
-    requires rounds { net.old.rounds ≡ 0 }
-    requires open { net.old.decided ≡ false }
-    ensures ran { OnOk result (HasRun net.old net.new) }
-    ensures finished { IfOk result (λ answer. answer ≡ is_finished net.new.network) }
-    ensures ok { OnOk result (Appends (K.written sink.old) (K.written sink.new) (lines_of_run net.old)) }
-    ensures err { OnErr result (AppendsPrefix (K.written sink.old) (K.written sink.new) (lines_of_run net.old)) }
+) -> Result<(), Failed>
+    requires { net.now.decided ≡ true }
+    ensures ok { OnOk result (Appends (K.written sink.old) (K.written sink.new)
+        (where_asked trace (round_lines (net.now.rounds + 1) net.now.network))) }
+    ensures err { OnErr result (AppendsPrefix (K.written sink.old) (K.written sink.new)
+        (where_asked trace (round_lines (net.now.rounds + 1) net.now.network))) }
     ensures cause { HasCause (K.faults sink.old) (K.faults sink.new) result }
 {
-    let most = net.bound();
-    for _round in 0..most {
-        if net.finished() {
-            return Ok(true);
-        }
-        net.decide();
-        write_round(net, line, sink)?;
-        net.commit();
+    if !trace {
+        return Ok(());
     }
-    Ok(net.finished())
+    write_links(net, line, sink)
 }
 
-/// Writes the lines of the round in which the nodes have decided.
-fn write_round<K: Sink>(net: &Net, line: &mut LineBuffer, sink: &mut K) -> Result<(), Failed>
+/// Writes the lines of the links in the round in which the nodes have decided.
+fn write_links<K: Sink>(net: &Net, line: &mut LineBuffer, sink: &mut K) -> Result<(), Failed>
     requires { net.now.decided ≡ true }
     ensures ok { OnOk result (Appends (K.written sink.old) (K.written sink.new)
         (round_lines (net.now.rounds + 1) net.now.network)) }

@@ -2,6 +2,7 @@
 
 use super::*;
 use crate::test_rows::{Row, compare, judged};
+use refusals::{Cause, Refusal};
 use std::test::Fail;
 use trace_judge::TraceFault;
 
@@ -87,7 +88,7 @@ fn an_offer_that_is_withdrawn() -> Row {
 fn no_trace_line() -> Row {
     judged(
         b"x\n",
-        Status::Refused(Refusal::bad_trace_line(1)),
+        Status::Refused(Refusal::at(Cause::BadTraceLine, 1)),
         b"refused 22 BadTraceLine 1\n",
     )
 }
@@ -95,7 +96,7 @@ fn no_trace_line() -> Row {
 fn a_lite_port() -> Row {
     judged(
         b"1 0 axi 4 +0,10,0,2,1,0,1:0:0 - - - -\n1 1 lite 4 - - - - -\n",
-        Status::Refused(Refusal::not_built(2)),
+        Status::Refused(Refusal::at(Cause::NotBuilt, 2)),
         b"refused 23 NotBuilt 2\n",
     )
 }
@@ -103,7 +104,7 @@ fn a_lite_port() -> Row {
 fn no_text() -> Row {
     judged(
         b"1 0 axi 4 \xff\n",
-        Status::Refused(Refusal::not_text()),
+        Status::Refused(Refusal::new(Cause::NotText)),
         b"refused 2 NotText\n",
     )
 }
@@ -119,7 +120,7 @@ fn the_greatest_round() -> Row {
 fn one_round_more() -> Row {
     judged(
         b"9223372036854775808 0 axi 4 +0,10,0,2,1,0,1:0:0 - - - -\n",
-        Status::Refused(Refusal::bad_trace_line(1)),
+        Status::Refused(Refusal::at(Cause::BadTraceLine, 1)),
         b"refused 22 BadTraceLine 1\n",
     )
 }

@@ -2,7 +2,7 @@
 use Rattle.std.proofs.Common.{◌≡◌, ℕ, suc, true, List, ◌++◌, take, refl, ◌∙◌, ap}
 use Rattle.axi_link.specs.LinkView.{LinkView}
 use Rattle.axi_link.specs.Moves.{takes_from, appended}
-use Rattle.axi_link.specs.Table.{link_of}
+use Rattle.axi_link.specs.LinkWords.{link_of}
 use Rattle.axi_link.specs.declared.out.Out.{Out}
 use Rattle.axi_trail.specs.Streams.{IsPrefix}
 use Rattle.axi_trail.specs.Trail.{trail_above, trail_below, IsQueue, IsLinkRun, IsFifo, IsBehind}

@@ -1,7 +1,7 @@
 -- What holds of the trails of a link's two ends, whatever the nodes do.
 use Rattle.std.specs.Prelude.{◌≡◌, ℕ, suc, List}
 use Rattle.axi_link.specs.LinkView.{LinkView}
-use Rattle.axi_link.specs.Table.{link_of}
+use Rattle.axi_link.specs.LinkWords.{link_of}
 use Rattle.axi_link.specs.declared.out.Out.{Out}
 use Rattle.axi_trail.specs.Trail.{Beats, no_beats, joined, moved_above, moved_below, trail_above, trail_below, IsLinkRun, IsFifo, IsBehind, seen_below, seen_above}
 

@@ -14,7 +14,7 @@ use Rattle.axi_history.specs.PortRules.{last_is_on_the_last_beat, strobes_are_on
 use Rattle.axi_history.proofs.SameLemmas.{address_itself, data_itself, response_itself, read_itself}
 use Rattle.axi_link.specs.LinkView.{LinkView}
 use Rattle.axi_link.specs.Moves.{takes_from}
-use Rattle.axi_link.specs.Table.{link_of}
+use Rattle.axi_link.specs.LinkWords.{link_of}
 use Rattle.axi_link.specs.declared.out.Out.{Out}
 use Rattle.axi_trail.specs.LinkContracts.{Asks, Requests}
 use Rattle.axi_trail.specs.Schedule.{Share, Schedule, Progress, Grows}

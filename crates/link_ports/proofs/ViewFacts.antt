@@ -10,7 +10,7 @@ use Rattle.axi_history.specs.declared.port.Seen.{Seen}
 use Rattle.axi_history.specs.PortHistory.{offer_of, transfer_of, wait_of, transferred, waiting, offered, on_aw, on_w, on_b, on_ar, on_r}
 use Rattle.axi_link.specs.LinkView.{LinkView}
 use Rattle.axi_link.specs.Moves.{takes_from, appended, without_head}
-use Rattle.axi_link.specs.Table.{link_of}
+use Rattle.axi_link.specs.LinkWords.{link_of}
 use Rattle.axi_link.specs.declared.out.Out.{Out}
 use Rattle.axi_trail.specs.Streams.{over, beat_taken}
 use Rattle.link_ports.specs.PortLaws.{IsOffered, TransferredAreTrails, OfferedAreTrails, WaitingAreOfferedAgain}

@@ -3,7 +3,7 @@ use Rattle.std.specs.Prelude.{◌≡◌, ℕ, zero, suc, ◌∷◌, [], List, tr
 use Rattle.axi_history.specs.declared.port.PortKind.{PortKind}
 use Rattle.axi_history.specs.declared.port.PortRound.{PortRound}
 use Rattle.axi_history.specs.PortRules.{axi4_history_fault}
-use Rattle.axi_link.specs.Acted.{no_moves}
+use Rattle.node_core.specs.Acted.{no_moves}
 use Rattle.axi_link.specs.LinkView.{LinkView, empty_link}
 use Rattle.axi_link.specs.Moves.{link_after}
 use Rattle.axi_link.specs.declared.out.Out.{Out}

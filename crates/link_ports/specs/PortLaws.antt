@@ -6,7 +6,7 @@ use Rattle.axi_history.specs.declared.port.PortRound.{PortRound}
 use Rattle.axi_history.specs.PortHistory.{offer_of, transferred, waiting, offered, on_aw, on_w, on_b, on_ar, on_r}
 use Rattle.axi_history.specs.PortRules.{least_broken, write_address_rules, write_data_rules, write_response_rules, read_address_rules, read_data_rules, axi4_fault, axi4_history_fault}
 use Rattle.axi_link.specs.LinkView.{LinkView}
-use Rattle.axi_link.specs.Table.{link_of}
+use Rattle.axi_link.specs.LinkWords.{link_of}
 use Rattle.axi_link.specs.declared.out.Out.{Out}
 use Rattle.axi_trail.specs.LinkContracts.{Asks, Answers}
 use Rattle.axi_trail.specs.Schedule.{Schedule, Progress}

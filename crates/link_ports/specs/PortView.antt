@@ -1,6 +1,5 @@
 -- What is seen of a link, round by round: the port that it is (Arm IHI 0022, handshake process and channel signals).
 use Rattle.std.specs.Prelude.{ℕ, suc, ◌∷◌, [], List, Bool, false, Option, Some, None}
-use Rattle.axi_beats.specs.Codes.{burst_code, response_code}
 use Rattle.axi_beats.specs.declared.beat.Addr.{Addr}
 use Rattle.axi_beats.specs.declared.beat.BBeat.{BBeat}
 use Rattle.axi_beats.specs.declared.beat.RBeat.{RBeat}
@@ -12,9 +11,10 @@ use Rattle.axi_history.specs.declared.port.RawR.{RawR}
 use Rattle.axi_history.specs.declared.port.Seen.{Seen}
 use Rattle.axi_link.specs.LinkView.{LinkView}
 use Rattle.axi_link.specs.Moves.{takes_from}
-use Rattle.axi_link.specs.Table.{link_of}
+use Rattle.axi_link.specs.LinkWords.{link_of}
 use Rattle.axi_link.specs.declared.out.Out.{Out}
 use Rattle.axi_trail.specs.Streams.{over}
+use Rattle.axi_beats.specs.Codes.{burst_code, response_code}
 
 -- the beats as they are seen on the channels: no access is exclusive, and a W beat is seen as it is
 abbrev pub seen_address : Addr → RawAddr

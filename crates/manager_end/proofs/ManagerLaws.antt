@@ -12,9 +12,10 @@ use Rattle.std.proofs.lemmas.Option.{slice_get_within, slice_get-get_or}
 use Rattle.axi_beats.specs.declared.beat.BBeat.{BBeat}
 use Rattle.axi_beats.specs.declared.beat.RBeat.{RBeat}
 use Rattle.axi_beats.specs.Bus.{IsBusWidth}
-use Rattle.axi_link.specs.Fits.{TakeFits, PutFits}
+use Rattle.node_core.specs.Fits.{TakeFits, PutFits}
 use Rattle.axi_link.specs.LinkView.{LinkView}
-use Rattle.axi_link.specs.Table.{link_of, head_of, has_room, passing, put_of, take_of}
+use Rattle.axi_link.specs.LinkWords.{link_of, head_of, has_room}
+use Rattle.node_core.specs.Rows.{beat_where, put_of, take_of}
 use Rattle.burst_address.specs.Bytes.{bytes_before}
 use Rattle.burst_address.specs.Legal.{IsLegal}
 use Rattle.flight.specs.Entries.{without_oldest}
@@ -46,7 +47,7 @@ kept-r script size round bus answers answered entries others own None counts wid
 kept-r script size round bus answers answered entries others own (Some a) counts wide legal found kept =
     let note : AnswerView = get_or answers a.0.place (unanswered 0)
     in let due : IsDue script false a.0.place note = All-oldest (λ p. IsDue script false p (get_or answers p (unanswered 0))) a.0.id entries own a.0 (found a refl) kept.own_waiting.due
-    in let go : (b : Bool) → is_last (get_or answers a.0.place (unanswered 0)) ≡ b → AreKept script false true size (note_read round bus script (Some a) answers) (answered + more (is_some (passing b (Some a)))) (map (λ (entry : Entry). entry.place) (left_waiting (passing b (Some a)) entries) ++ own) others =
+    in let go : (b : Bool) → is_last (get_or answers a.0.place (unanswered 0)) ≡ b → AreKept script false true size (note_read round bus script (Some a) answers) (answered + more (is_some (beat_where b (Some a)))) (map (λ (entry : Entry). entry.place) (left_waiting (beat_where b (Some a)) entries) ++ own) others =
     elim [
       | true ↦ λ last.
           let is = read-is script a.0.place round bus a.1 note due.item due.at
@@ -250,9 +251,9 @@ module _ (links : List LinkView) (number : ℕ) where
     answering-head id_of entries [] none = absurd (cc)
     answering-head id_of entries (x ∷ xs) some = omega arith
 
-    passing-room : {Y : Type 0} (f : Y → X) (other : Bool) (o : Option Y) (depth : ℕ) (queue : List X) → is_some (option_map f (passing (other && has_room depth queue) o)) ≡ true → length queue < depth
-    passing-room f other o depth queue some =
-        let go : (b : Bool) → (other && has_room depth queue) ≡ b → is_some (option_map f (passing b o)) ≡ true → length queue < depth =
+    beat_where-room : {Y : Type 0} (f : Y → X) (other : Bool) (o : Option Y) (depth : ℕ) (queue : List X) → is_some (option_map f (beat_where (other && has_room depth queue) o)) ≡ true → length queue < depth
+    beat_where-room f other o depth queue some =
+        let go : (b : Bool) → (other && has_room depth queue) ≡ b → is_some (option_map f (beat_where b o)) ≡ true → length queue < depth =
         elim [
           | true ↦ λ both is. ltb-true (length queue) depth (and_parts other (has_room depth queue) both).1
           | false ↦ λ both is. absurd (cc)
@@ -263,13 +264,13 @@ module _ (links : List LinkView) (number : ℕ) where
 pub manager-fits : ManagerMovesFit
 manager-fits links s = record {
   aw_take = tt;
-  aw_put = put-fits links s.lower (λ l. l.aw) (option_map (λ next. request_of next.1) (manager_aw links s)) (passing-room links s.lower (λ l. l.aw) (λ next. request_of next.1) (fits s.write_entries) (ready s.answered (slice_get (writes_of s.script) s.issued_writes)) (below links s).depth (below links s).aw);
+  aw_put = put-fits links s.lower (λ l. l.aw) (option_map (λ next. request_of next.1) (manager_aw links s)) (beat_where-room links s.lower (λ l. l.aw) (λ next. request_of next.1) (fits s.write_entries) (ready s.answered (slice_get (writes_of s.script) s.issued_writes)) (below links s).depth (below links s).aw);
   w_take = tt;
-  w_put = put-fits links s.lower (λ l. l.w) (option_map (λ next. data_beat next.1 s.bus s.sent_beats) (manager_w links s)) (passing-room links s.lower (λ l. l.w) (λ next. data_beat next.1 s.bus s.sent_beats) (nat_lt s.sent_writes s.issued_writes) (slice_get (writes_of s.script) s.sent_writes) (below links s).depth (below links s).w);
+  w_put = put-fits links s.lower (λ l. l.w) (option_map (λ next. data_beat next.1 s.bus s.sent_beats) (manager_w links s)) (beat_where-room links s.lower (λ l. l.w) (λ next. data_beat next.1 s.bus s.sent_beats) (nat_lt s.sent_writes s.issued_writes) (slice_get (writes_of s.script) s.sent_writes) (below links s).depth (below links s).w);
   b_take = take-fits links s.lower (λ l. l.b) (is_some (manager_b links s)) (answering-head links s.lower (λ l. l.b) (λ beat. beat.id) s.write_entries (below links s).b);
   b_put = tt;
   ar_take = tt;
-  ar_put = put-fits links s.lower (λ l. l.ar) (option_map (λ next. request_of next.1) (manager_ar links s)) (passing-room links s.lower (λ l. l.ar) (λ next. request_of next.1) (fits s.read_entries) (ready s.answered (slice_get (reads_of s.script) s.issued_reads)) (below links s).depth (below links s).ar);
+  ar_put = put-fits links s.lower (λ l. l.ar) (option_map (λ next. request_of next.1) (manager_ar links s)) (beat_where-room links s.lower (λ l. l.ar) (λ next. request_of next.1) (fits s.read_entries) (ready s.answered (slice_get (reads_of s.script) s.issued_reads)) (below links s).depth (below links s).ar);
   r_take = take-fits links s.lower (λ l. l.r) (is_some (manager_r links s)) (answering-head links s.lower (λ l. l.r) (λ beat. beat.id) s.read_entries (below links s).r);
   r_put = tt;
 }

@@ -7,7 +7,7 @@ use Rattle.std.proofs.lemmas.List.{get_or-set_same, get_or-set_other, length-set
 use Rattle.axi_beats.specs.declared.beat.BBeat.{BBeat}
 use Rattle.axi_beats.specs.declared.beat.RBeat.{RBeat}
 use Rattle.axi_link.specs.LinkView.{LinkView}
-use Rattle.axi_link.specs.Table.{passing}
+use Rattle.node_core.specs.Rows.{beat_where}
 use Rattle.flight.specs.Entries.{without_oldest}
 use Rattle.manager_end.specs.Answer.{AnswerView, unanswered, is_last, issued_in, answered_in}
 use Rattle.manager_end.specs.Beats.{bytes_on_valid_lanes}
@@ -168,7 +168,7 @@ module _ (links : List LinkView) (s : ManagerState) where
             | Some x ↦ λ some.
                 let same : get_or after_b x.0.place (unanswered 0) ≡ get_or s.answers x.0.place (unanswered 0) =
                 write-other round s.answers (manager_b links s) x.0.place (λ y other there. ways-apart y.0.place x.0.place (taken-waits true y.0 (b-taken y other)) (taken-waits false x.0 (r-taken x some)) (sym there))
-                in ap (λ (a : AnswerView). passing (is_last a) (Some x)) same
+                in ap (λ (a : AnswerView). beat_where (is_last a) (Some x)) same
           ]
           in go (manager_r links s) refl
 

@@ -1,6 +1,6 @@
 -- What a row of the manager's table can do, it does.
 use Rattle.std.proofs.Common.{◌≡◌, ℕ, IsSome, Option, Some, None, is_some, option_map, le-leb, lt-ltb, refl}
-use Rattle.axi_link.specs.Table.{take_of}
+use Rattle.node_core.specs.Rows.{take_of}
 use Rattle.manager_end.specs.RowLaws.{RowsAreDone}
 
 -- the take of an answer that has an entry

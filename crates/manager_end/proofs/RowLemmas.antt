@@ -7,7 +7,8 @@ use Rattle.std.proofs.lemmas.List.Elements.{All-head, All-tail}
 use Rattle.axi_beats.specs.declared.beat.BBeat.{BBeat}
 use Rattle.axi_beats.specs.declared.beat.RBeat.{RBeat}
 use Rattle.axi_link.specs.LinkView.{LinkView}
-use Rattle.axi_link.specs.Table.{passing, head_of}
+use Rattle.axi_link.specs.LinkWords.{head_of}
+use Rattle.node_core.specs.Rows.{beat_where}
 use Rattle.manager_end.specs.ManagerState.{ManagerState, writes_of, reads_of}
 use Rattle.manager_end.specs.ManagerTable.{below, answering, ready, fits, manager_aw, manager_w, manager_ar, manager_b, manager_r}
 use Rattle.manager_end.specs.Script.{ScriptItem}
@@ -16,9 +17,9 @@ use Rattle.manager_end.proofs.WaitingLemmas.{oldest-id}
 
 module _ {X : Type 0} where
   -- what passes is there, and its condition holds
-  pub passing-some : (b : Bool) (o : Option X) (x : X) → passing b o ≡ Some x → (b ≡ true) × (o ≡ Some x)
-  passing-some true o x is = (refl, is)
-  passing-some false o x is = absurd (cc)
+  pub beat_where-some : (b : Bool) (o : Option X) (x : X) → beat_where b o ≡ Some x → (b ≡ true) × (o ≡ Some x)
+  beat_where-some true o x is = (refl, is)
+  beat_where-some false o x is = absurd (cc)
 
   -- an answer is that of the oldest entry of its ID
   pub answering-found : (id_of : X → ℕ) (entries : List Entry) (head : Option X) (answer : Entry × X) → answering id_of entries head ≡ Some answer → find (λ (entry : Entry). entry.id == answer.0.id) entries ≡ Some answer.0
@@ -37,13 +38,13 @@ module _ {X : Type 0} where
 -- the next transaction that is ready is the next one
 pub ready-some : (answered : ℕ) (o : Option (ℕ × ScriptItem)) (next : ℕ × ScriptItem) → ready answered o ≡ Some next → o ≡ Some next
 ready-some answered None next is = absurd (cc)
-ready-some answered (Some x) next is = (passing-some _ (Some x) next is).1
+ready-some answered (Some x) next is = (beat_where-some _ (Some x) next is).1
 
 -- the next transaction that is ready waits for no more answers than have come
 pub ready-after : (answered : ℕ) (o : Option (ℕ × ScriptItem)) (next : ℕ × ScriptItem) → ready answered o ≡ Some next → next.1.txn.after ≤ answered
 ready-after answered None next is = absurd (cc)
 ready-after answered (Some x) next is =
-    let both = passing-some _ (Some x) next is
+    let both = beat_where-some _ (Some x) next is
     in let same : x ≡ next = cc
     in subst (λ (p : ℕ × ScriptItem). p.1.txn.after ≤ answered) same (leb-true x.1.txn.after answered both.0)
 
@@ -54,28 +55,28 @@ All-middle P (x ∷ xs) ys y all = All-middle P xs ys y (All-tail P x (xs ++ y �
 
 module _ (links : List LinkView) (s : ManagerState) where
   pub aw-next : (next : ℕ × ScriptItem) → manager_aw links s ≡ Some next → slice_get (writes_of s.script) s.issued_writes ≡ Some next
-  aw-next next is = ready-some s.answered (slice_get (writes_of s.script) s.issued_writes) next (passing-some _ (ready s.answered (slice_get (writes_of s.script) s.issued_writes)) next is).1
+  aw-next next is = ready-some s.answered (slice_get (writes_of s.script) s.issued_writes) next (beat_where-some _ (ready s.answered (slice_get (writes_of s.script) s.issued_writes)) next is).1
 
   pub aw-fits : (next : ℕ × ScriptItem) → manager_aw links s ≡ Some next → length s.write_entries < 16
-  aw-fits next is = ltb-true (length s.write_entries) 16 (and_parts (fits s.write_entries) _ (passing-some _ (ready s.answered (slice_get (writes_of s.script) s.issued_writes)) next is).0).0
+  aw-fits next is = ltb-true (length s.write_entries) 16 (and_parts (fits s.write_entries) _ (beat_where-some _ (ready s.answered (slice_get (writes_of s.script) s.issued_writes)) next is).0).0
 
   pub ar-next : (next : ℕ × ScriptItem) → manager_ar links s ≡ Some next → slice_get (reads_of s.script) s.issued_reads ≡ Some next
-  ar-next next is = ready-some s.answered (slice_get (reads_of s.script) s.issued_reads) next (passing-some _ (ready s.answered (slice_get (reads_of s.script) s.issued_reads)) next is).1
+  ar-next next is = ready-some s.answered (slice_get (reads_of s.script) s.issued_reads) next (beat_where-some _ (ready s.answered (slice_get (reads_of s.script) s.issued_reads)) next is).1
 
   pub ar-fits : (next : ℕ × ScriptItem) → manager_ar links s ≡ Some next → length s.read_entries < 16
-  ar-fits next is = ltb-true (length s.read_entries) 16 (and_parts (fits s.read_entries) _ (passing-some _ (ready s.answered (slice_get (reads_of s.script) s.issued_reads)) next is).0).0
+  ar-fits next is = ltb-true (length s.read_entries) 16 (and_parts (fits s.read_entries) _ (beat_where-some _ (ready s.answered (slice_get (reads_of s.script) s.issued_reads)) next is).0).0
 
   pub w-issued : (next : ℕ × ScriptItem) → manager_w links s ≡ Some next → s.sent_writes < s.issued_writes
-  w-issued next is = ltb-true s.sent_writes s.issued_writes (and_parts (nat_lt s.sent_writes s.issued_writes) _ (passing-some _ (slice_get (writes_of s.script) s.sent_writes) next is).0).0
+  w-issued next is = ltb-true s.sent_writes s.issued_writes (and_parts (nat_lt s.sent_writes s.issued_writes) _ (beat_where-some _ (slice_get (writes_of s.script) s.sent_writes) next is).0).0
 
   pub aw-after : (next : ℕ × ScriptItem) → manager_aw links s ≡ Some next → next.1.txn.after ≤ s.answered
-  aw-after next is = ready-after s.answered (slice_get (writes_of s.script) s.issued_writes) next (passing-some _ (ready s.answered (slice_get (writes_of s.script) s.issued_writes)) next is).1
+  aw-after next is = ready-after s.answered (slice_get (writes_of s.script) s.issued_writes) next (beat_where-some _ (ready s.answered (slice_get (writes_of s.script) s.issued_writes)) next is).1
 
   pub ar-after : (next : ℕ × ScriptItem) → manager_ar links s ≡ Some next → next.1.txn.after ≤ s.answered
-  ar-after next is = ready-after s.answered (slice_get (reads_of s.script) s.issued_reads) next (passing-some _ (ready s.answered (slice_get (reads_of s.script) s.issued_reads)) next is).1
+  ar-after next is = ready-after s.answered (slice_get (reads_of s.script) s.issued_reads) next (beat_where-some _ (ready s.answered (slice_get (reads_of s.script) s.issued_reads)) next is).1
 
   pub w-next : (next : ℕ × ScriptItem) → manager_w links s ≡ Some next → slice_get (writes_of s.script) s.sent_writes ≡ Some next
-  w-next next is = (passing-some _ (slice_get (writes_of s.script) s.sent_writes) next is).1
+  w-next next is = (beat_where-some _ (slice_get (writes_of s.script) s.sent_writes) next is).1
 
   -- an answer that is taken is one of the oldest entry of its ID
   pub b-found : (answer : Entry × BBeat) → manager_b links s ≡ Some answer → find (λ (entry : Entry). entry.id == answer.0.id) s.write_entries ≡ Some answer.0

@@ -13,10 +13,11 @@ use Rattle.axi_beats.specs.declared.beat.Addr.{Addr}
 use Rattle.axi_beats.specs.declared.beat.WBeat.{WBeat}
 use Rattle.axi_beats.specs.declared.beat.BBeat.{BBeat}
 use Rattle.axi_beats.specs.declared.beat.RBeat.{RBeat}
-use Rattle.axi_link.specs.Acted.{Acted}
+use Rattle.node_core.specs.Acted.{Acted}
 use Rattle.axi_link.specs.declared.out.Out.{Out}
 use Rattle.axi_link.specs.LinkView.{LinkView}
-use Rattle.axi_link.specs.Table.{has_room, passing}
+use Rattle.axi_link.specs.LinkWords.{has_room}
+use Rattle.node_core.specs.Rows.{beat_where}
 use Rattle.axi_trail.proofs.OrderFacts.{length-filter_le}
 use Rattle.burst_address.specs.Bytes.{beat_bytes, bytes_before}
 use Rattle.manager_end.specs.Answer.{AnswerView, is_last, unanswered}
@@ -90,37 +91,37 @@ sending-next script sending (Some x) next within =
     below : (k len : ℕ) → k ≤ len → k ≢ len → k + 1 ≤ len
     below k len le apart = elim (cases_order k len) [ inl same ↦ absurd (apart same) | inr other ↦ elim other [ inl less ↦ omega arith | inr above ↦ absurd (omega arith) ] ]
 
-pub passing-within : (P : ℕ → Type 0) (b : Bool) (places : List ℕ) (k : ℕ) → All P places → IfSome (passing b (slice_get places k)) P
-passing-within P false places k all = tt
-passing-within P true places k all =
+pub beat_where-within : (P : ℕ → Type 0) (b : Bool) (places : List ℕ) (k : ℕ) → All P places → IfSome (beat_where b (slice_get places k)) P
+beat_where-within P false places k all = tt
+beat_where-within P true places k all =
     let go : (o : Option ℕ) → slice_get places k ≡ o → IfSome o P =
     elim [ None ↦ λ at. tt | Some p ↦ λ at. subst P (get_or_from_slice_get places k p p at) (all k p (slice_get_within places k p at)) ]
     in go (slice_get places k) refl
 
-placed-passing : (script : List ScriptItem) (b : Bool) (o : Option ℕ) → placed script (passing b o) ≡ passing b (placed script o)
-placed-passing script true o = refl
-placed-passing script false o = refl
+placed-beat_where : (script : List ScriptItem) (b : Bool) (o : Option ℕ) → placed script (beat_where b o) ≡ beat_where b (placed script o)
+placed-beat_where script true o = refl
+placed-beat_where script false o = refl
 
 pub byte-more : (b : Bool) → bool_byte b ≡ more b
 byte-more true = refl
 byte-more false = refl
 
 module _ (links : List LinkView) (s : ManagerState) where
-  pub aw-is : (link : LinkView) (places : List ℕ) (room : Bool) (o : Option (ℕ × ScriptItem)) → places ≡ map (λ (p : ℕ × ScriptItem). p.0) (writes_of s.script) → link ≡ below links s → room ≡ has_room link.depth link.aw → o ≡ passing (fits s.write_entries && room) (ready s.answered (placed s.script (slice_get places s.issued_writes))) → o ≡ manager_aw links s
+  pub aw-is : (link : LinkView) (places : List ℕ) (room : Bool) (o : Option (ℕ × ScriptItem)) → places ≡ map (λ (p : ℕ × ScriptItem). p.0) (writes_of s.script) → link ≡ below links s → room ≡ has_room link.depth link.aw → o ≡ beat_where (fits s.write_entries && room) (ready s.answered (placed s.script (slice_get places s.issued_writes))) → o ≡ manager_aw links s
   aw-is link places room o same under has is =
-      is ∙ ap (λ (r : Bool). passing (fits s.write_entries && r) (ready s.answered (placed s.script (slice_get places s.issued_writes)))) (has ∙ ap (λ (l : LinkView). has_room l.depth l.aw) under)
-      ∙ ap (λ (next : Option (ℕ × ScriptItem)). passing (fits s.write_entries && has_room (below links s).depth (below links s).aw) (ready s.answered next)) (placed-next true s.script places same s.issued_writes)
+      is ∙ ap (λ (r : Bool). beat_where (fits s.write_entries && r) (ready s.answered (placed s.script (slice_get places s.issued_writes)))) (has ∙ ap (λ (l : LinkView). has_room l.depth l.aw) under)
+      ∙ ap (λ (next : Option (ℕ × ScriptItem)). beat_where (fits s.write_entries && has_room (below links s).depth (below links s).aw) (ready s.answered next)) (placed-next true s.script places same s.issued_writes)
 
-  pub ar-is : (link : LinkView) (places : List ℕ) (room : Bool) (o : Option (ℕ × ScriptItem)) → places ≡ map (λ (p : ℕ × ScriptItem). p.0) (reads_of s.script) → link ≡ below links s → room ≡ has_room link.depth link.ar → o ≡ passing (fits s.read_entries && room) (ready s.answered (placed s.script (slice_get places s.issued_reads))) → o ≡ manager_ar links s
+  pub ar-is : (link : LinkView) (places : List ℕ) (room : Bool) (o : Option (ℕ × ScriptItem)) → places ≡ map (λ (p : ℕ × ScriptItem). p.0) (reads_of s.script) → link ≡ below links s → room ≡ has_room link.depth link.ar → o ≡ beat_where (fits s.read_entries && room) (ready s.answered (placed s.script (slice_get places s.issued_reads))) → o ≡ manager_ar links s
   ar-is link places room o same under has is =
-      is ∙ ap (λ (r : Bool). passing (fits s.read_entries && r) (ready s.answered (placed s.script (slice_get places s.issued_reads)))) (has ∙ ap (λ (l : LinkView). has_room l.depth l.ar) under)
-      ∙ ap (λ (next : Option (ℕ × ScriptItem)). passing (fits s.read_entries && has_room (below links s).depth (below links s).ar) (ready s.answered next)) (placed-next false s.script places same s.issued_reads)
+      is ∙ ap (λ (r : Bool). beat_where (fits s.read_entries && r) (ready s.answered (placed s.script (slice_get places s.issued_reads)))) (has ∙ ap (λ (l : LinkView). has_room l.depth l.ar) under)
+      ∙ ap (λ (next : Option (ℕ × ScriptItem)). beat_where (fits s.read_entries && has_room (below links s).depth (below links s).ar) (ready s.answered next)) (placed-next false s.script places same s.issued_reads)
 
-  pub w-is : (link : LinkView) (places : List ℕ) (room : Bool) (o : Option ℕ) → places ≡ map (λ (p : ℕ × ScriptItem). p.0) (writes_of s.script) → link ≡ below links s → room ≡ has_room link.depth link.w → o ≡ passing (nat_lt s.sent_writes s.issued_writes && room) (slice_get places s.sent_writes) → placed s.script o ≡ manager_w links s
+  pub w-is : (link : LinkView) (places : List ℕ) (room : Bool) (o : Option ℕ) → places ≡ map (λ (p : ℕ × ScriptItem). p.0) (writes_of s.script) → link ≡ below links s → room ≡ has_room link.depth link.w → o ≡ beat_where (nat_lt s.sent_writes s.issued_writes && room) (slice_get places s.sent_writes) → placed s.script o ≡ manager_w links s
   w-is link places room o same under has is =
-      ap (placed s.script) is ∙ placed-passing s.script (nat_lt s.sent_writes s.issued_writes && room) (slice_get places s.sent_writes)
-      ∙ ap (λ (r : Bool). passing (nat_lt s.sent_writes s.issued_writes && r) (placed s.script (slice_get places s.sent_writes))) (has ∙ ap (λ (l : LinkView). has_room l.depth l.w) under)
-      ∙ ap (λ (next : Option (ℕ × ScriptItem)). passing (nat_lt s.sent_writes s.issued_writes && has_room (below links s).depth (below links s).w) next) (placed-next true s.script places same s.sent_writes)
+      ap (placed s.script) is ∙ placed-beat_where s.script (nat_lt s.sent_writes s.issued_writes && room) (slice_get places s.sent_writes)
+      ∙ ap (λ (r : Bool). beat_where (nat_lt s.sent_writes s.issued_writes && r) (placed s.script (slice_get places s.sent_writes))) (has ∙ ap (λ (l : LinkView). has_room l.depth l.w) under)
+      ∙ ap (λ (next : Option (ℕ × ScriptItem)). beat_where (nat_lt s.sent_writes s.issued_writes && has_room (below links s).depth (below links s).w) next) (placed-next true s.script places same s.sent_writes)
 
   pub b-is : (link : LinkView) (head : Option BBeat) → link ≡ below links s → head ≡ slice_get link.b 0 → answering (λ beat. beat.id) s.write_entries head ≡ manager_b links s
   b-is link head under is = ap (answering (λ (beat : BBeat). beat.id) s.write_entries) (is ∙ ap (λ (l : LinkView). slice_get l.b 0) under)
@@ -211,7 +212,7 @@ sent-beats sending (Some x) =
 pub last-more : (answers : List AnswerView) (o : Option (Entry × RBeat)) (got : Option Bool) (b : Bool) → got ≡ option_map (λ (answer : Entry × RBeat). is_last (get_or answers answer.0.place (unanswered 0))) o → b ≡ unwrap_or got false → more b ≡ more (is_some (ending answers o))
 last-more answers None got b is test = ap more (test ∙ ap (λ (o : Option Bool). unwrap_or o false) is)
 last-more answers (Some x) got b is test =
-    let go : (c : Bool) → more c ≡ more (is_some {T = Entry × RBeat} (passing c (Some x))) = elim [ true ↦ refl | false ↦ refl ]
+    let go : (c : Bool) → more c ≡ more (is_some {T = Entry × RBeat} (beat_where c (Some x))) = elim [ true ↦ refl | false ↦ refl ]
     in ap more (test ∙ ap (λ (o : Option Bool). unwrap_or o false) is) ∙ go (is_last (get_or answers x.0.place (unanswered 0)))
 
 -- the last answer after B is the table's

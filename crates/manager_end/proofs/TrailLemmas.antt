@@ -11,7 +11,8 @@ use Rattle.axi_beats.specs.declared.beat.BBeat.{BBeat}
 use Rattle.axi_beats.specs.declared.beat.RBeat.{RBeat}
 use Rattle.axi_beats.specs.declared.beat.WBeat.{WBeat}
 use Rattle.axi_link.specs.LinkView.{LinkView}
-use Rattle.axi_link.specs.Table.{head_of, passing}
+use Rattle.axi_link.specs.LinkWords.{head_of}
+use Rattle.node_core.specs.Rows.{beat_where}
 use Rattle.flight.specs.Entries.{count_of, of_key}
 use Rattle.axi_trail.proofs.FilterFacts.{of_key-map, of_key-push, of_key-push_other}
 use Rattle.axi_trail.proofs.HeldFacts.{held-of_id}
@@ -153,12 +154,12 @@ module _ (schedule : Schedule) (now : Progress) (rounds : ℕ) (links : List Lin
 
   -- a response is the last answer to its write
   b-leaving : (x : Entry × BBeat) (w : Waiting (ℕ × ScriptItem)) (others : List (Waiting (ℕ × ScriptItem))) → manager_b links s ≡ Some x → of_key id_held x.1.id (holding (λ a. 0) (take s.issued_writes (writes_of s.script)) (map (λ b. b.id) trail.b)) ≡ w ∷ others → entry_of w.request ≡ x.0 →
-      manager_b links s ≡ passing (w.done == 0) (Some x)
+      manager_b links s ≡ beat_where (w.done == 0) (Some x)
   b-leaving x w others taken first same =
       let pending_first : pending (single_len (λ a. 0)) (count_of x.1.id (map (λ b. b.id) trail.b)) (of_key id_of_item x.1.id (take s.issued_writes (writes_of s.script))) ≡ w ∷ others =
       sym (held-of_id (single_len (λ a. 0)) id_of_item (take s.issued_writes (writes_of s.script)) (map (λ b. b.id) trail.b) x.1.id) ∙ first
       in let least = pending-lacks (single_len (λ a. 0)) (count_of x.1.id (map (λ b. b.id) trail.b)) (of_key id_of_item x.1.id (take s.issued_writes (writes_of s.script))) w others pending_first
-      in taken ∙ ap (λ (b : Bool). passing b (Some x)) (sym (eq-eqb w.done 0 (omega (arith, least))))
+      in taken ∙ ap (λ (b : Bool). beat_where b (Some x)) (sym (eq-eqb w.done 0 (omega (arith, least))))
 
   pub write-entries-after : (manager_next (suc rounds) links s).write_entries ≡ map entry_of (held_items true (take (manager_next (suc rounds) links s).issued_writes (writes_of s.script)) (map (λ b. b.id) (manager_trail links s trail).b))
   write-entries-after =
@@ -202,7 +203,7 @@ module _ (schedule : Schedule) (now : Progress) (rounds : ℕ) (links : List Lin
 
   -- a beat is the last one of its read where as many came as come after the first one
   r-leaving-is : (x : Entry × RBeat) (w : Waiting (ℕ × ScriptItem)) (others : List (Waiting (ℕ × ScriptItem))) → manager_r links s ≡ Some x → of_key id_held x.1.id (holding (λ a. a.len) (take s.issued_reads (reads_of s.script)) (map (λ r. r.id) trail.r)) ≡ w ∷ others → entry_of w.request ≡ x.0 →
-      manager_r_last links s ≡ passing (w.done == w.request.1.txn.request.len) (Some x)
+      manager_r_last links s ≡ beat_where (w.done == w.request.1.txn.request.len) (Some x)
   r-leaving-is x w others taken first same =
       let due = taken-waits links s keeps.is_manager false x.0 (r-taken links s keeps.is_manager x taken)
       in let at = held-at false s.issued_reads s.script (λ a. a.len) (map (λ r. r.id) trail.r) x.1.id w others x.0 first same
@@ -213,7 +214,7 @@ module _ (schedule : Schedule) (now : Progress) (rounds : ℕ) (links : List Lin
       due.due_resps ∙ ap (λ (i : ScriptItem). due_resps i.txn) one ∙ ap (λ (b : Bool). cond b 1 (w.request.1.txn.request.len + 1)) read
       in let last : is_last (note_at s x.0.place) ≡ (w.done == w.request.1.txn.request.len) =
       ap (λ (k : ℕ). k + 1 == (note_at s x.0.place).due_resps) done ∙ ap (λ (k : ℕ). w.done + 1 == k) whole ∙ next-equal w.done w.request.1.txn.request.len
-      in ap (ending s.answers) taken ∙ ap (λ (b : Bool). passing b (Some x)) last
+      in ap (ending s.answers) taken ∙ ap (λ (b : Bool). beat_where b (Some x)) last
 
   pub read-entries-after : (manager_next (suc rounds) links s).read_entries ≡ map entry_of (held_items false (take (manager_next (suc rounds) links s).issued_reads (reads_of s.script)) (map (λ r. r.id) (manager_trail links s trail).r))
   read-entries-after =

@@ -3,7 +3,7 @@ use Rattle.std.proofs.Common.{◌≡◌, ℕ, Bool, true, false, List, [], Optio
 use Rattle.std.specs.Option.{option_map}
 use Rattle.axi_beats.specs.declared.beat.RBeat.{RBeat}
 use Rattle.axi_link.specs.LinkView.{LinkView}
-use Rattle.axi_link.specs.Table.{passing}
+use Rattle.node_core.specs.Rows.{beat_where}
 use Rattle.manager_end.specs.Answer.{is_last}
 use Rattle.manager_end.specs.ManagerOrder.{note_at}
 use Rattle.manager_end.specs.ManagerState.{ManagerState, IsManager}
@@ -12,7 +12,7 @@ use Rattle.manager_end.specs.Script.{ScriptItem}
 use Rattle.manager_end.specs.declared.entry.Entry.{Entry}
 use Rattle.manager_end.proofs.DueLemmas.{last-answers, more-answers, write-last}
 use Rattle.manager_end.proofs.NoteLemmas.{Kept, Wrote, Read, Issued, change-of, b-taken, mapped, next_of, taken_of, taken-waits}
-use Rattle.manager_end.proofs.RowLemmas.{passing-some}
+use Rattle.manager_end.proofs.RowLemmas.{beat_where-some}
 
 module _ (links : List LinkView) (s : ManagerState) where
   -- the entry whose last answer is taken
@@ -24,11 +24,11 @@ module _ (links : List LinkView) (s : ManagerState) where
   pub ending-taken : (o : Option (Entry × RBeat)) (x : Entry × RBeat) → ending s.answers o ≡ Some x → (o ≡ Some x) × (is_last (note_at s x.0.place) ≡ true)
   ending-taken None x is = absurd (cc)
   ending-taken (Some y) x is =
-      let both = passing-some (is_last (note_at s y.0.place)) (Some y) x is
+      let both = beat_where-some (is_last (note_at s y.0.place)) (Some y) x is
       in (both.1, let same : y ≡ x = cc in subst (λ (z : Entry × RBeat). is_last (note_at s z.0.place) ≡ true) same both.0)
 
   pub taken-ending : (o : Option (Entry × RBeat)) (x : Entry × RBeat) → o ≡ Some x → is_last (note_at s x.0.place) ≡ true → ending s.answers o ≡ Some x
-  taken-ending o x is last = ap (ending s.answers) is ∙ ap (λ (b : Bool). passing b (Some x)) last
+  taken-ending o x is last = ap (ending s.answers) is ∙ ap (λ (b : Bool). beat_where b (Some x)) last
 
   module _ (is : IsManager s) where
     -- an entry that leaves has its answer taken, and this is the last one

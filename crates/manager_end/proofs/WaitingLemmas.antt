@@ -8,7 +8,7 @@ use Rattle.std.proofs.lemmas.List.Elements.{All-cons, All-head, All-tail}
 use Rattle.std.proofs.lemmas.List.Sums.{sum_by-set}
 use Rattle.std.proofs.lemmas.Option.{slice_get_within, get_or_from_slice_get}
 use Rattle.axi_beats.specs.declared.beat.RBeat.{RBeat}
-use Rattle.axi_link.specs.Table.{passing}
+use Rattle.node_core.specs.Rows.{beat_where}
 use Rattle.flight.specs.Entries.{place_of, without_oldest}
 use Rattle.flight.proofs.EntryFacts.{some-inner}
 use Rattle.manager_end.specs.Answer.{AnswerView, is_last, unanswered, issued_in, noted}
@@ -306,7 +306,7 @@ left-ending answers entries head place at last =
       | Some e ↦ λ some there.
           let same : e.place ≡ place = some-inner e.place place there
           in let ends : is_last (get_or answers e.place (unanswered 0)) ≡ true = subst (λ (q : ℕ). is_last (get_or answers q (unanswered 0)) ≡ true) (sym same) last
-          in let passed : Bool → List Entry = λ b. left_waiting {X = RBeat} (passing b (Some (e, head))) entries
+          in let passed : Bool → List Entry = λ b. left_waiting {X = RBeat} (beat_where b (Some (e, head))) entries
           in ap passed ends ∙ ap (λ (id : ℕ). without_oldest (λ (entry : Entry). entry.id) id entries) (oldest-id head.id entries e some)
     ]
     in go (find (λ (entry : Entry). entry.id == head.id) entries) refl at

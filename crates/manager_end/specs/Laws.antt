@@ -1,7 +1,7 @@
 -- What holds of the manager's table, whatever the links bring.
 use Rattle.std.specs.Prelude.{◌≡◌, ◌<◌, ℕ, List, true, All, IsSome, length}
 use Rattle.axi_beats.specs.Bus.{IsBusWidth}
-use Rattle.axi_link.specs.Fits.{MovesFit}
+use Rattle.node_core.specs.Fits.{MovesFit}
 use Rattle.axi_link.specs.LinkView.{LinkView}
 use Rattle.burst_address.specs.Legal.{IsLegal}
 use Rattle.manager_end.specs.ManagerState.{ManagerState, IsManager, answer_of, is_done, new_manager}

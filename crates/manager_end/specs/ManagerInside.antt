@@ -1,6 +1,6 @@
 -- How a manager is kept: what contracts see of its fields, and what holds of them.
 use Rattle.std.specs.Prelude.{◌≡◌, ◌≤◌, ◌+◌, ◌==◌, ℕ, true, Option, Some, None, IfSome, length, map, slice_get, if◌then◌else◌}
-use Rattle.axi_link.specs.Acted.{Acted}
+use Rattle.node_core.specs.Acted.{Acted}
 use Rattle.axi_link.specs.declared.out.Out.{Out}
 use Rattle.burst_address.specs.Bytes.{beat_bytes, bytes_before}
 use Rattle.manager_end.specs.ManagerState.{ManagerState, IsManager, writes_of, reads_of}

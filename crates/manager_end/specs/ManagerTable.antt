@@ -4,9 +4,10 @@ use Rattle.std.specs.Prelude.{◌==◌, ◌+◌, ◌&&◌, ◌++◌, ◌∷◌, 
 use Rattle.std.specs.Option.{option_map}
 use Rattle.axi_beats.specs.declared.beat.BBeat.{BBeat}
 use Rattle.axi_beats.specs.declared.beat.RBeat.{RBeat}
-use Rattle.axi_link.specs.Acted.{Acted}
+use Rattle.node_core.specs.Acted.{Acted}
 use Rattle.axi_link.specs.LinkView.{LinkView}
-use Rattle.axi_link.specs.Table.{link_of, head_of, has_room, passing, put_of, take_of}
+use Rattle.axi_link.specs.LinkWords.{link_of, head_of, has_room}
+use Rattle.node_core.specs.Rows.{beat_where, put_of, take_of}
 use Rattle.axi_link.specs.declared.out.Out.{Out}
 use Rattle.flight.specs.Entries.{without_oldest}
 use Rattle.manager_end.specs.Answer.{AnswerView, issued_in, is_last, answered_in, noted, unanswered}
@@ -22,7 +23,7 @@ below links s = link_of links s.lower
 -- the next transaction where as many are answered as it waits for
 abbrev pub ready : ℕ → Option (ℕ × ScriptItem) → Option (ℕ × ScriptItem)
 ready answered None = None
-ready answered (Some next) = passing (nat_le next.1.txn.after answered) (Some next)
+ready answered (Some next) = beat_where (nat_le next.1.txn.after answered) (Some next)
 
 -- another transaction of the direction can wait for its answer: at most 16 do
 abbrev pub fits : List Entry → Bool
@@ -37,17 +38,17 @@ module _ {X : Type 0} where
 -- AW: the next write is issued where it is ready, entries fit, and there is room below
 abbrev pub manager_aw : List LinkView → ManagerState → Option (ℕ × ScriptItem)
 manager_aw links s =
-    passing (fits s.write_entries && has_room (below links s).depth (below links s).aw) (ready s.answered (slice_get (writes_of s.script) s.issued_writes))
+    beat_where (fits s.write_entries && has_room (below links s).depth (below links s).aw) (ready s.answered (slice_get (writes_of s.script) s.issued_writes))
 
 -- W: the next data beat of the oldest write that is issued and whose data isn't all sent goes where there is room below
 abbrev pub manager_w : List LinkView → ManagerState → Option (ℕ × ScriptItem)
 manager_w links s =
-    passing (nat_lt s.sent_writes s.issued_writes && has_room (below links s).depth (below links s).w) (slice_get (writes_of s.script) s.sent_writes)
+    beat_where (nat_lt s.sent_writes s.issued_writes && has_room (below links s).depth (below links s).w) (slice_get (writes_of s.script) s.sent_writes)
 
 -- AR: the next read is issued where it is ready, entries fit, and there is room below
 abbrev pub manager_ar : List LinkView → ManagerState → Option (ℕ × ScriptItem)
 manager_ar links s =
-    passing (fits s.read_entries && has_room (below links s).depth (below links s).ar) (ready s.answered (slice_get (reads_of s.script) s.issued_reads))
+    beat_where (fits s.read_entries && has_room (below links s).depth (below links s).ar) (ready s.answered (slice_get (reads_of s.script) s.issued_reads))
 
 -- B: a response is taken that answers a write, the oldest one of its ID
 abbrev pub manager_b : List LinkView → ManagerState → Option (Entry × BBeat)
@@ -61,7 +62,7 @@ manager_r links s = answering (λ beat. beat.id) s.read_entries (head_of (below 
 module _ {X : Type 0} where
   abbrev pub ending : List AnswerView → Option (Entry × X) → Option (Entry × X)
   ending answers None = None
-  ending answers (Some answer) = passing (is_last (slice_index_or answers answer.0.place (unanswered 0))) (Some answer)
+  ending answers (Some answer) = beat_where (is_last (slice_index_or answers answer.0.place (unanswered 0))) (Some answer)
 
 -- R: the data beat that is taken, where it is the last one of its read
 abbrev pub manager_r_last : List LinkView → ManagerState → Option (Entry × RBeat)

@@ -4,7 +4,7 @@ use Rattle.std.specs.Prelude.{◌≡◌, ◌<◌, ◌≤◌, ◌==◌, ℕ, List
 use Rattle.axi_beats.specs.declared.beat.BBeat.{BBeat}
 use Rattle.axi_beats.specs.declared.beat.RBeat.{RBeat}
 use Rattle.axi_link.specs.LinkView.{LinkView}
-use Rattle.axi_link.specs.Table.{has_room, head_of}
+use Rattle.axi_link.specs.LinkWords.{has_room, head_of}
 use Rattle.manager_end.specs.Beats.{data_beat, request_of}
 use Rattle.manager_end.specs.ManagerState.{ManagerState, reads_of, writes_of}
 use Rattle.manager_end.specs.ManagerTable.{below, fits, manager_out}

@@ -4,7 +4,7 @@ ghost use Rattle.std.specs.Prelude.{◌≡◌, ◌<◌, ◌≤◌, ◌+◌, ◌-
 ghost use Rattle.std.specs.Prelude.{drop, length, slice_get, take};
 ghost use Rattle.std.specs.Option.{option_map};
 ghost use Rattle.axi_beats.specs.Bus.{IsBusWidth};
-ghost use Rattle.axi_link.specs.Table.{put_of};
+ghost use Rattle.node_core.specs.Rows.{put_of};
 ghost use Rattle.burst_address.specs.Legal.{IsLegal};
 ghost use Rattle.manager_end.specs.Beats.{data_beat, lane_of, lanes_from, request_of, strobe_of};
 ghost use Rattle.manager_end.specs.ManagerInside.{IsWithin};
@@ -13,8 +13,8 @@ ghost use Rattle.manager_end.specs.Placed.{placed};
 use crate::script::{Script, Txn, WriteByte};
 use crate::sending::Sending;
 use axi_beats::{Addr, Lanes, Tag, WBeat};
-use axi_link::set_put;
 use burst_address::lanes;
+use node_core::set_put;
 
 /// Puts the request of the transaction at `place` on link `number`; nothing where there is none.
 pub(crate) fn put_request(

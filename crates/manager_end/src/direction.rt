@@ -4,7 +4,7 @@ ghost use Rattle.std.specs.Prelude.{◌≡◌, ◌==◌, ◌<◌, ◌+◌, ◌&&
 ghost use Rattle.std.specs.Prelude.{length, map, nat_lt, slice_get, vec_len, if◌then◌else◌, IfOk};
 ghost use Rattle.std.specs.Prelude.{IfSome, IsSome, OnOk};
 ghost use Rattle.std.specs.Option.{option_map};
-ghost use Rattle.axi_link.specs.Table.{passing};
+ghost use Rattle.node_core.specs.Rows.{beat_where};
 ghost use Rattle.flight.specs.Entries.{without_oldest};
 ghost use Rattle.manager_end.specs.ManagerState.{is_directed, of_direction};
 ghost use Rattle.manager_end.specs.ManagerTable.{fits, ready, with_issued};
@@ -48,7 +48,7 @@ impl Direction {
     /// can wait for its answer, and there is room on the link; else None.
     pub(crate) fn next(&self, script: &Script, answered: u32, room: bool) -> Option<u32>
         requires { All (λ place. place < length script.now) self.now.places.items }
-        ensures next { placed script.now result ≡ passing (fits self.now.entries && room)
+        ensures next { placed script.now result ≡ beat_where (fits self.now.entries && room)
             (ready answered (placed script.now (slice_get self.now.places.items self.now.issued))) }
         ensures within { IfSome result (λ place. place < length script.now) }
         ensures fit { IsSome result → length self.now.entries < 16 }
@@ -68,7 +68,7 @@ impl Direction {
     /// The place of the oldest write that is issued and whose data isn't all sent, where there is
     /// room on the link; else None. All data of the first `sent` writes is sent.
     pub(crate) fn next_data(&self, sent: usize, room: bool) -> Option<u32>
-        ensures { result ≡ passing (nat_lt sent self.now.issued && room)
+        ensures { result ≡ beat_where (nat_lt sent self.now.issued && room)
             (slice_get self.now.places.items sent) }
     {
         if sent < self.issued && room {

@@ -4,7 +4,7 @@ ghost use Rattle.std.specs.Prelude.{◌≡◌, ◌<◌, ◌+◌, ◌∷◌, [], 
 ghost use Rattle.std.specs.Prelude.{false, is_some, slice_index_or, vec_len};
 ghost use Rattle.std.specs.Option.{option_copied, option_map};
 ghost use Rattle.axi_beats.specs.Bus.{IsBusWidth};
-ghost use Rattle.axi_link.specs.Acted.{opened};
+ghost use Rattle.node_core.specs.Acted.{opened};
 ghost use Rattle.burst_address.specs.Legal.{IsLegal};
 ghost use Rattle.manager_end.specs.Answer.{is_last, unanswered};
 ghost use Rattle.manager_end.specs.ManagerState.{CanManager, IsDue, answer_of, is_done};
@@ -20,7 +20,8 @@ use crate::direction::Direction;
 use crate::script::Script;
 use crate::sending::Sending;
 use axi_beats::{BBeat, NoMemory, RBeat};
-use axi_link::{Link, Out, link_at, set_take};
+use axi_link::{Link, Out};
+use node_core::{link_at, set_take};
 use std::alloc::Global;
 use std::marker::{Model, Send, Sync};
 
@@ -41,7 +42,7 @@ pub struct Manager {
 }
 
 impl Model for Manager {
-    ghost use Rattle.axi_link.specs.Acted.{Acted};
+    ghost use Rattle.node_core.specs.Acted.{Acted};
     ghost use Rattle.manager_end.specs.ManagerState.{ManagerState};
 
     ghost Value = { Acted ManagerState };

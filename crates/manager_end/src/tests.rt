@@ -11,8 +11,9 @@ mod ordering;
 
 use super::*;
 use axi_beats::{Addr, BBeat, Burst, Lanes, NoMemory, RBeat, Resp};
-use axi_link::{Link, Out, set_put};
+use axi_link::{Link, Out};
 use burst_address::legal;
+use node_core::set_put;
 use std::alloc::Global;
 use std::process::Abort;
 use std::test::Fail;

@@ -6,7 +6,8 @@ use Rattle.axi_beats.specs.declared.beat.WBeat.{WBeat}
 use Rattle.memory_end.specs.declared.config.MemoryConfig.{MemoryConfig}
 use Rattle.memory_end.specs.declared.entry.WriteEntry.{WriteEntry}
 use Rattle.axi_link.specs.LinkView.{LinkView}
-use Rattle.axi_link.specs.Table.{head_of, passing}
+use Rattle.axi_link.specs.LinkWords.{head_of}
+use Rattle.node_core.specs.Rows.{beat_where}
 use Rattle.flight.proofs.EntryFacts.{none-shift, shift-none, some-inner}
 use Rattle.memory_end.specs.MemoryTable.{lacks_data, oldest_lacking, lacking_place, taken_data, with_data, with_beat}
 
@@ -74,8 +75,8 @@ oldest_lacking-none (e ∷ es) is =
 
 -- no data beat is taken where no write lacks data
 pub taken_data-none : (link : LinkView) (entries : List WriteEntry) → lacking_place entries ≡ None → taken_data link entries ≡ None
-taken_data-none link entries is = ap (λ o. passing (is_some o) (head_of link.w)) (oldest_lacking-none entries is)
+taken_data-none link entries is = ap (λ o. beat_where (is_some o) (head_of link.w)) (oldest_lacking-none entries is)
 
 -- the head is taken where one does
 pub taken_data-some : (link : LinkView) (entries : List WriteEntry) (entry : WriteEntry) (w : WBeat) → oldest_lacking entries ≡ Some entry → head_of link.w ≡ Some w → taken_data link entries ≡ Some w
-taken_data-some link entries entry w oldest head = ap (λ o. passing (is_some o) (head_of link.w)) oldest ∙ head
+taken_data-some link entries entry w oldest head = ap (λ o. beat_where (is_some o) (head_of link.w)) oldest ∙ head

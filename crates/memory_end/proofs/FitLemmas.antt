@@ -3,16 +3,17 @@ use Rattle.std.proofs.Common.{◌≡◌, ℕ, ◌<◌, Bool, true, false, List, 
 use Rattle.std.specs.Prelude.{is_some, option_map, option_and_then, if◌then◌else◌}
 use Rattle.std.proofs.lemmas.Bool.{ltb-true}
 use Rattle.axi_link.specs.LinkView.{LinkView}
-use Rattle.axi_link.specs.Fits.{TakeFits, PutFits}
-use Rattle.axi_link.specs.Table.{link_of, head_of, has_room, passing, put_of, take_of}
+use Rattle.node_core.specs.Fits.{TakeFits, PutFits}
+use Rattle.axi_link.specs.LinkWords.{link_of, head_of, has_room}
+use Rattle.node_core.specs.Rows.{beat_where, put_of, take_of}
 use Rattle.memory_end.specs.Laws.{MovesAlwaysFit}
 use Rattle.memory_end.specs.MemoryTable.{answer_to, fits, lacks_data, next_beat, oldest_lacking}
 
 module _ {X : Type 0} (queue_of : LinkView → List X) (links : List LinkView) (number : ℕ) where
   -- a head is taken only where there is one
-  take-fits : (may : Bool) → TakeFits queue_of links (take_of number (is_some (passing may (head_of (queue_of (link_of links number))))))
+  take-fits : (may : Bool) → TakeFits queue_of links (take_of number (is_some (beat_where may (head_of (queue_of (link_of links number))))))
   take-fits may =
-      let go : (may : Bool) (beats : List X) → queue_of (link_of links number) ≡ beats → TakeFits queue_of links (take_of number (is_some (passing may (head_of beats)))) =
+      let go : (may : Bool) (beats : List X) → queue_of (link_of links number) ≡ beats → TakeFits queue_of links (take_of number (is_some (beat_where may (head_of beats)))) =
       elim [
         | true ↦ elim [
           | [] ↦ λ is. tt
@@ -23,9 +24,9 @@ module _ {X : Type 0} (queue_of : LinkView → List X) (links : List LinkView) (
       in go may (queue_of (link_of links number)) refl
 
   -- a beat is put only where there is room
-  put-fits : (o : Option X) → PutFits queue_of links (put_of number (passing (has_room (link_of links number).depth (queue_of (link_of links number))) o))
+  put-fits : (o : Option X) → PutFits queue_of links (put_of number (beat_where (has_room (link_of links number).depth (queue_of (link_of links number))) o))
   put-fits o =
-      let go : (room : Bool) (o : Option X) → has_room (link_of links number).depth (queue_of (link_of links number)) ≡ room → PutFits queue_of links (put_of number (passing room o)) =
+      let go : (room : Bool) (o : Option X) → has_room (link_of links number).depth (queue_of (link_of links number)) ≡ room → PutFits queue_of links (put_of number (beat_where room o)) =
       elim [
         | true ↦ elim [
           | None ↦ λ is. tt

@@ -6,7 +6,8 @@ use Rattle.axi_beats.specs.declared.beat.BBeat.{BBeat}
 use Rattle.axi_beats.specs.declared.beat.RBeat.{RBeat}
 use Rattle.axi_beats.specs.declared.beat.WBeat.{WBeat}
 use Rattle.axi_link.specs.LinkView.{LinkView}
-use Rattle.axi_link.specs.Table.{has_room, passing}
+use Rattle.axi_link.specs.LinkWords.{has_room}
+use Rattle.node_core.specs.Rows.{beat_where}
 use Rattle.axi_link.specs.declared.out.Out.{Out}
 use Rattle.memory_end.specs.declared.config.MemoryConfig.{MemoryConfig}
 use Rattle.memory_end.specs.declared.entry.WriteEntry.{WriteEntry}
@@ -18,10 +19,10 @@ use Rattle.memory_end.specs.Store.{Store}
 -- the write that is answered has its data, so the next data beat is for the same write as before
 pub oldest_lacking-after_b : (link : LinkView) (entries : List WriteEntry) → oldest_lacking (after_b (put_response link entries) entries) ≡ oldest_lacking entries
 oldest_lacking-after_b link [] =
-    let go : (room : Bool) → oldest_lacking (after_b (passing room None) []) ≡ None = elim [ true ↦ refl | false ↦ refl ] in
+    let go : (room : Bool) → oldest_lacking (after_b (beat_where room None) []) ≡ None = elim [ true ↦ refl | false ↦ refl ] in
     go (has_room link.depth link.b)
 oldest_lacking-after_b link (e ∷ es) =
-    let go : (room lacks : Bool) → lacks_data e ≡ lacks → oldest_lacking (after_b (passing room (cond lacks None (Some (answer_to e)))) (e ∷ es)) ≡ oldest_lacking (e ∷ es) =
+    let go : (room lacks : Bool) → lacks_data e ≡ lacks → oldest_lacking (after_b (beat_where room (cond lacks None (Some (answer_to e)))) (e ∷ es)) ≡ oldest_lacking (e ∷ es) =
     elim [
       | true ↦ elim [ true ↦ λ is. refl | false ↦ λ is. sym (ap (λ b. cond b (Some e) (oldest_lacking es)) is) ]
       | false ↦ elim [ true ↦ λ is. refl | false ↦ λ is. refl ]

@@ -7,7 +7,8 @@ use Rattle.axi_beats.specs.declared.beat.RBeat.{RBeat}
 use Rattle.axi_beats.specs.declared.beat.WBeat.{WBeat}
 use Rattle.axi_link.specs.LinkView.{LinkView}
 use Rattle.axi_link.specs.Moves.{appended, takes_from}
-use Rattle.axi_link.specs.Table.{head_of, passing, put_of, take_of}
+use Rattle.axi_link.specs.LinkWords.{head_of}
+use Rattle.node_core.specs.Rows.{beat_where, put_of, take_of}
 use Rattle.axi_trail.specs.Streams.{beat_taken}
 use Rattle.axi_trail.specs.Trail.{Beats}
 use Rattle.memory_end.specs.MemoryState.{MemoryState}
@@ -16,7 +17,7 @@ use Rattle.memory_end.specs.MemoryTrail.{memory_trail}
 use Rattle.memory_end.proofs.WriteTracks.{one_of}
 
 -- the head that is taken
-taken-one : {X : Type 0} (number : ℕ) (may : Bool) (queue : List X) → beat_taken (takes_from number (take_of number (is_some (passing may (head_of queue))))) queue ≡ one_of (passing may (head_of queue))
+taken-one : {X : Type 0} (number : ℕ) (may : Bool) (queue : List X) → beat_taken (takes_from number (take_of number (is_some (beat_where may (head_of queue))))) queue ≡ one_of (beat_where may (head_of queue))
 taken-one number true [] = refl
 taken-one number true (x ∷ queue) = ap (λ b. beat_taken b (x ∷ queue)) (eq-eqb number number refl)
 taken-one number false queue = refl

@@ -5,7 +5,8 @@ use Rattle.axi_beats.specs.declared.beat.Addr.{Addr}
 use Rattle.axi_beats.specs.declared.beat.RBeat.{RBeat}
 use Rattle.axi_beats.specs.declared.beat.WBeat.{WBeat}
 use Rattle.axi_link.specs.LinkView.{LinkView}
-use Rattle.axi_link.specs.Table.{has_room, head_of, passing}
+use Rattle.axi_link.specs.LinkWords.{has_room, head_of}
+use Rattle.node_core.specs.Rows.{beat_where}
 use Rattle.axi_trail.specs.LinkContracts.{WholeBeforeTheNext, without_id}
 use Rattle.axi_trail.specs.Schedule.{Schedule}
 use Rattle.axi_trail.specs.Streams.{IsPrefix}
@@ -80,10 +81,10 @@ module _ (schedule : Schedule) (s : MemoryState) (w : List WBeat) (ar : List Add
 
     pub step-r : (link : LinkView) (entries : List ReadEntry) → ReadsStand schedule entries ar r → Accessed schedule s.config s.store w r all → IsAfterR entries (put_read s.config s.store link entries)
     step-r link [] stand accessed =
-        let go : (room : Bool) → IsAfterR [] (passing room None) = elim [ true ↦ quiet [] stand accessed | false ↦ quiet [] stand accessed ] in
+        let go : (room : Bool) → IsAfterR [] (beat_where room None) = elim [ true ↦ quiet [] stand accessed | false ↦ quiet [] stand accessed ] in
         go (has_room link.depth link.r)
     step-r link (e ∷ es) stand accessed =
-        let go : (room : Bool) → IsAfterR (e ∷ es) (passing room (Some (next_beat s.config s.store e))) = elim [ true ↦ put-next e es stand accessed | false ↦ quiet (e ∷ es) stand accessed ] in
+        let go : (room : Bool) → IsAfterR (e ∷ es) (beat_where room (Some (next_beat s.config s.store e))) = elim [ true ↦ put-next e es stand accessed | false ↦ quiet (e ∷ es) stand accessed ] in
         go (has_room link.depth link.r)
 
 -- after a round's AR

@@ -9,8 +9,9 @@ use Rattle.axi_beats.specs.declared.beat.BBeat.{BBeat}
 use Rattle.axi_beats.specs.declared.beat.WBeat.{WBeat}
 use Rattle.axi_beats.specs.declared.response.Resp.TheVariants.{Okay}
 use Rattle.axi_link.specs.LinkView.{LinkView}
-use Rattle.axi_link.specs.Table.{head_of, has_room, passing}
-use Rattle.axi_link.proofs.KeepLemmas.{passing-has}
+use Rattle.axi_link.specs.LinkWords.{head_of, has_room}
+use Rattle.node_core.specs.Rows.{beat_where}
+use Rattle.node_core.proofs.RowLemmas.{beat_where-has}
 use Rattle.burst_address.specs.Formulas.{beats_of}
 use Rattle.memory_end.specs.declared.config.MemoryConfig.{MemoryConfig}
 use Rattle.memory_end.specs.declared.entry.WriteEntry.{WriteEntry}
@@ -89,7 +90,7 @@ module _ (config : MemoryConfig) (lines : List ℕ) where
 module _ (config : MemoryConfig) where
   after_r-stays : (store : Store) (link : LinkView) (entries : List ReadEntry) → All (IsReadEntry config) entries → All (IsReadEntry config) (after_r (put_read config store link entries) entries)
   after_r-stays store link [] all =
-      let go : (room : Bool) → All (IsReadEntry config) (after_r (passing room None) []) = elim [ true ↦ all | false ↦ all ] in
+      let go : (room : Bool) → All (IsReadEntry config) (after_r (beat_where room None) []) = elim [ true ↦ all | false ↦ all ] in
       go (has_room link.depth link.r)
   after_r-stays store link (e ∷ es) all =
       let P : ReadEntry → Type 0 = IsReadEntry config in
@@ -102,7 +103,7 @@ module _ (config : MemoryConfig) where
             let other : e.put ≢ e.request.len = λ same. true≢false (sym (eq-eqb e.put e.request.len same) ∙ is) in
             All-cons P record { request = e.request; put = e.put + 1 } es record { request = head.request; put = omega (arith, head.put) } tail
       ] in
-      let go : (room : Bool) → All P (after_r (passing room (Some (next_beat config store e))) (e ∷ es)) =
+      let go : (room : Bool) → All P (after_r (beat_where room (Some (next_beat config store e))) (e ∷ es)) =
       elim [ true ↦ step (e.put == e.request.len) refl | false ↦ all ]
       in go (has_room link.depth link.r)
 
@@ -118,10 +119,10 @@ memory-stays round links state is can =
     let link : LinkView = memory_link links state in
     let keeps : Keeps state.store (store_after state.config (memory_w links state) state.write_entries state.store) =
     store_after-keeps state.config (memory_w links state) state.write_entries state.store in
-    let words : IfSome (memory_aw links state) (IsRequest state.config.bus) = passing-has (IsRequest state.config.bus) (fits state.write_entries) (head_of link.aw) can.aw in
+    let words : IfSome (memory_aw links state) (IsRequest state.config.bus) = beat_where-has (IsRequest state.config.bus) (fits state.write_entries) (head_of link.aw) can.aw in
     let kept : IfSome (memory_aw links state) (AreLinesAmong state.config state.store.lines) =
-    passing-has (AreLinesAmong state.config state.store.lines) (fits state.write_entries) (head_of link.aw) can.aw_lines in
-    let reads : IfSome (memory_ar links state) (IsRequest state.config.bus) = passing-has (IsRequest state.config.bus) (fits state.read_entries) (head_of link.ar) can.ar in
+    beat_where-has (AreLinesAmong state.config state.store.lines) (fits state.write_entries) (head_of link.aw) can.aw_lines in
+    let reads : IfSome (memory_ar links state) (IsRequest state.config.bus) = beat_where-has (IsRequest state.config.bus) (fits state.read_entries) (head_of link.ar) can.ar in
     let answered : List WriteEntry = after_b (memory_b links state) state.write_entries in
     let filled : List WriteEntry = after_w state.config (memory_w links state) answered in
     let writes : All (IsWriteEntry state.config state.store.lines) (after_aw (memory_aw links state) filled) =

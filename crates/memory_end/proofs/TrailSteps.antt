@@ -3,13 +3,12 @@ use Rattle.std.proofs.Common.{◌≡◌, ℕ, ◌*◌, suc, zero, List, [], ◌�
 use Rattle.std.specs.Prelude.{is_some, slice_get, unwrap_or}
 use Rattle.std.specs.Option.{option_and_then}
 use Rattle.std.proofs.lemmas.Option.{unwrap_or-slice_get}
-use Rattle.std.proofs.lemmas.List.Elements.{All-nil}
 use Rattle.axi_beats.specs.declared.beat.Addr.{Addr}
 use Rattle.axi_beats.specs.declared.beat.BBeat.{BBeat}
-use Rattle.axi_beats.specs.declared.beat.RBeat.{RBeat}
 use Rattle.axi_beats.specs.declared.beat.WBeat.{WBeat}
 use Rattle.axi_link.specs.LinkView.{LinkView}
-use Rattle.axi_link.specs.Table.{head_of, passing}
+use Rattle.axi_link.specs.LinkWords.{head_of}
+use Rattle.node_core.specs.Rows.{beat_where}
 use Rattle.axi_trail.specs.LinkContracts.{Asks}
 use Rattle.axi_trail.specs.Schedule.{Schedule}
 use Rattle.axi_trail.specs.Trail.{Beats}
@@ -30,6 +29,8 @@ use Rattle.memory_end.proofs.ReadSteps.{IsAfterR, ReadsAsked, ReadsStand, step-a
 use Rattle.memory_end.proofs.StayLemmas.{memory-stays, new-is_memory}
 use Rattle.memory_end.proofs.WriteSteps.{IsAfterW, WritesAsked, step-w}
 use Rattle.memory_end.proofs.WriteTracks.{one_of, tracks-aw, tracks-b, tracks-w, writes-are_held}
+use Rattle.std.proofs.lemmas.List.Elements.{All-nil}
+use Rattle.axi_beats.specs.declared.beat.RBeat.{RBeat}
 
 -- what was accessed, of its parts
 gathered : (schedule : Schedule) (s : MemoryState) (trail : Beats) (all : List Access) → TracksWrites s.config s.write_entries trail.aw trail.w trail.b → ReadsStand schedule s.read_entries trail.ar trail.r →
@@ -68,7 +69,7 @@ writes-after links s aw w b is =
     let answered : List WriteEntry = after_b (memory_b links s) s.write_entries in
     let after_b' : TracksWrites s.config answered aw w (b ++ one_of (memory_b links s)) = tracks-b s.config (memory_link links s) s.write_entries aw w b is in
     let after_w' : TracksWrites s.config (after_w s.config (memory_w links s) answered) aw (w ++ one_of (memory_w links s)) (b ++ one_of (memory_b links s)) =
-    subst (λ (o : Option WriteEntry). TracksWrites s.config (after_w s.config (passing (is_some o) (head_of link.w)) answered) aw (w ++ one_of (passing (is_some o) (head_of link.w))) (b ++ one_of (memory_b links s)))
+    subst (λ (o : Option WriteEntry). TracksWrites s.config (after_w s.config (beat_where (is_some o) (head_of link.w)) answered) aw (w ++ one_of (beat_where (is_some o) (head_of link.w))) (b ++ one_of (memory_b links s)))
     (oldest_lacking-after_b (memory_link links s) s.write_entries)
     (tracks-w s.config (head_of link.w) answered aw w (b ++ one_of (memory_b links s)) after_b') in
     tracks-aw s.config (memory_aw links s) (after_w s.config (memory_w links s) answered) aw (w ++ one_of (memory_w links s)) (b ++ one_of (memory_b links s)) after_w'

@@ -7,7 +7,7 @@ use Rattle.axi_beats.specs.declared.beat.Addr.{Addr}
 use Rattle.axi_beats.specs.declared.beat.RBeat.{RBeat}
 use Rattle.axi_beats.specs.declared.beat.WBeat.{WBeat}
 use Rattle.axi_beats.specs.declared.beat.BBeat.{BBeat}
-use Rattle.axi_link.specs.Table.{passing}
+use Rattle.node_core.specs.Rows.{beat_where}
 use Rattle.axi_trail.specs.LinkContracts.{WholeBeforeTheNext, without_id}
 use Rattle.axi_trail.specs.Schedule.{Schedule}
 use Rattle.axi_trail.specs.Streams.{Agree, IsPrefix}
@@ -135,10 +135,10 @@ module _ (schedule : Schedule) (s : MemoryState) (aw : List Addr) (w : List WBea
           accessed = subst (λ (o : Option WriteEntry). Accessed schedule s.config (store_with s.config o x s.store) (w ++ x ∷ []) r (all ++ beat_writes s (Some x) o)) (sym found) numbered;
         }
 
-    pub step-w : (head : Option WBeat) → WritesAsked schedule aw (w ++ one_of (passing (is_some (oldest_lacking s.write_entries)) head)) → Accessed schedule s.config s.store w r all →
-        IsAfterW (passing (is_some (oldest_lacking s.write_entries)) head)
+    pub step-w : (head : Option WBeat) → WritesAsked schedule aw (w ++ one_of (beat_where (is_some (oldest_lacking s.write_entries)) head)) → Accessed schedule s.config s.store w r all →
+        IsAfterW (beat_where (is_some (oldest_lacking s.write_entries)) head)
     step-w head asked accessed =
-        let go : (o : Option WriteEntry) (head : Option WBeat) → oldest_lacking s.write_entries ≡ o → WritesAsked schedule aw (w ++ one_of (passing (is_some o) head)) → IsAfterW (passing (is_some o) head) =
+        let go : (o : Option WriteEntry) (head : Option WBeat) → oldest_lacking s.write_entries ≡ o → WritesAsked schedule aw (w ++ one_of (beat_where (is_some o) head)) → IsAfterW (beat_where (is_some o) head) =
         elim [
           | None ↦ λ head found asked. quiet accessed
           | Some e ↦ elim [

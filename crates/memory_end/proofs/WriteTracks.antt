@@ -7,7 +7,8 @@ use Rattle.axi_beats.specs.declared.beat.Addr.{Addr}
 use Rattle.axi_beats.specs.declared.beat.WBeat.{WBeat}
 use Rattle.axi_beats.specs.declared.beat.BBeat.{BBeat}
 use Rattle.axi_link.specs.LinkView.{LinkView}
-use Rattle.axi_link.specs.Table.{has_room, passing}
+use Rattle.axi_link.specs.LinkWords.{has_room}
+use Rattle.node_core.specs.Rows.{beat_where}
 use Rattle.axi_trail.specs.Waiting.{Waiting, fresh, held, pending}
 use Rattle.axi_trail.proofs.HeldFacts.{held-singles}
 use Rattle.flight.specs.Entries.{left_after, without_oldest}
@@ -54,12 +55,12 @@ module _ (config : MemoryConfig) where
   pub tracks-b : (link : LinkView) (entries : List WriteEntry) (aw : List Addr) (w : List WBeat) (b : List BBeat) → TracksWrites config entries aw w b →
       TracksWrites config (after_b (put_response link entries) entries) aw w (b ++ one_of (put_response link entries))
   tracks-b link [] aw w b is =
-      let go : (room : Bool) → TracksWrites config (after_b (passing room None) []) aw w (b ++ one_of (passing room None)) =
+      let go : (room : Bool) → TracksWrites config (after_b (beat_where room None) []) aw w (b ++ one_of (beat_where room None)) =
       elim [ true ↦ tracks-same [] aw aw w w b (b ++ []) refl refl (sym (append-nil b)) is | false ↦ tracks-same [] aw aw w w b (b ++ []) refl refl (sym (append-nil b)) is ]
       in go (has_room link.depth link.b)
   tracks-b link (e ∷ es) aw w b is =
       let stays : TracksWrites config (e ∷ es) aw w (b ++ []) = tracks-same (e ∷ es) aw aw w w b (b ++ []) refl refl (sym (append-nil b)) is in
-      let go : (room lacks : Bool) → lacks_data e ≡ lacks → TracksWrites config (after_b (passing room (cond lacks None (Some (answer_to e)))) (e ∷ es)) aw w (b ++ one_of (passing room (cond lacks None (Some (answer_to e))))) =
+      let go : (room lacks : Bool) → lacks_data e ≡ lacks → TracksWrites config (after_b (beat_where room (cond lacks None (Some (answer_to e)))) (e ∷ es)) aw w (b ++ one_of (beat_where room (cond lacks None (Some (answer_to e))))) =
       elim [
         | true ↦ elim [ true ↦ λ whole. stays | false ↦ λ whole. tracks-answer e es aw w b whole is ]
         | false ↦ elim [ true ↦ λ whole. stays | false ↦ λ whole. stays ]
@@ -91,10 +92,10 @@ module _ (config : MemoryConfig) where
   }
 
   pub tracks-w : (head : Option WBeat) (entries : List WriteEntry) (aw : List Addr) (w : List WBeat) (b : List BBeat) → TracksWrites config entries aw w b →
-      TracksWrites config (after_w config (passing (is_some (oldest_lacking entries)) head) entries) aw (w ++ one_of (passing (is_some (oldest_lacking entries)) head)) b
+      TracksWrites config (after_w config (beat_where (is_some (oldest_lacking entries)) head) entries) aw (w ++ one_of (beat_where (is_some (oldest_lacking entries)) head)) b
   tracks-w head entries aw w b is =
       let stays : TracksWrites config entries aw (w ++ []) b = tracks-same entries aw aw w (w ++ []) b b refl (sym (append-nil w)) refl is in
-      let go : (o : Option WriteEntry) (head : Option WBeat) → oldest_lacking entries ≡ o → TracksWrites config (after_w config (passing (is_some o) head) entries) aw (w ++ one_of (passing (is_some o) head)) b =
+      let go : (o : Option WriteEntry) (head : Option WBeat) → oldest_lacking entries ≡ o → TracksWrites config (after_w config (beat_where (is_some o) head) entries) aw (w ++ one_of (beat_where (is_some o) head)) b =
       elim [
         | None ↦ λ head found. stays
         | Some e ↦ elim [

@@ -3,7 +3,7 @@ use Rattle.std.specs.Prelude.{◌++◌, [], ℕ, List, Bool, true, false, Option
 use Rattle.axi_beats.specs.declared.beat.WBeat.{WBeat}
 use Rattle.axi_beats.specs.declared.beat.RBeat.{RBeat}
 use Rattle.axi_link.specs.LinkView.{LinkView}
-use Rattle.axi_link.specs.Table.{head_of}
+use Rattle.axi_link.specs.LinkWords.{head_of}
 use Rattle.memory_end.specs.declared.entry.WriteEntry.{WriteEntry}
 use Rattle.memory_end.specs.declared.entry.ReadEntry.{ReadEntry}
 use Rattle.memory_end.specs.Beats.{Byte, written_bytes, read_bytes}

@@ -1,7 +1,7 @@
 -- What holds of a memory's table, whatever comes to it.
 use Rattle.std.specs.Prelude.{◌≡◌, ◌<◌, ℕ, List, AllPairs}
 use Rattle.axi_link.specs.LinkView.{LinkView}
-use Rattle.axi_link.specs.Fits.{MovesFit}
+use Rattle.node_core.specs.Fits.{MovesFit}
 use Rattle.memory_end.specs.declared.config.MemoryConfig.{MemoryConfig}
 use Rattle.memory_end.specs.MemoryState.{MemoryState, IsMemory, IsMemoryConfig, new_memory}
 use Rattle.memory_end.specs.MemoryTable.{CanMemory, memory_next, memory_out}

@@ -1,6 +1,6 @@
 -- How a memory is kept: what contracts see of its fields, and what holds of them.
 use Rattle.std.specs.Prelude.{◌≡◌, None}
-use Rattle.axi_link.specs.Acted.{Acted}
+use Rattle.node_core.specs.Acted.{Acted}
 use Rattle.memory_end.specs.MemoryState.{MemoryState, IsMemory}
 use Rattle.memory_end.specs.declared.memory.Memory.TheInside.{Inside}
 

@@ -8,8 +8,9 @@ use Rattle.axi_beats.specs.declared.beat.RBeat.{RBeat}
 use Rattle.axi_beats.specs.declared.response.Resp.TheVariants.{Okay}
 use Rattle.axi_beats.specs.Response.{worst_of}
 use Rattle.axi_link.specs.LinkView.{LinkView}
-use Rattle.axi_link.specs.Acted.{Acted}
-use Rattle.axi_link.specs.Table.{link_of, head_of, has_room, passing, take_of, put_of}
+use Rattle.node_core.specs.Acted.{Acted}
+use Rattle.axi_link.specs.LinkWords.{link_of, head_of, has_room}
+use Rattle.node_core.specs.Rows.{beat_where, take_of, put_of}
 use Rattle.axi_link.specs.declared.out.Out.{Out}
 use Rattle.burst_address.specs.Formulas.{beats_of}
 use Rattle.memory_end.specs.declared.config.MemoryConfig.{MemoryConfig}
@@ -56,21 +57,21 @@ next_beat config store entry = record {
 
 -- the head is taken where one more request fits
 abbrev pub taken_request : {X : Type 0} → List Addr → List X → Option Addr
-taken_request queue entries = passing (fits entries) (head_of queue)
+taken_request queue entries = beat_where (fits entries) (head_of queue)
 
 -- the head is taken where a write lacks data
 abbrev pub taken_data : LinkView → List WriteEntry → Option WBeat
-taken_data link entries = passing (is_some (oldest_lacking entries)) (head_of link.w)
+taken_data link entries = beat_where (is_some (oldest_lacking entries)) (head_of link.w)
 
 -- the oldest write is answered where it has all its data and there is room
 abbrev pub put_response : LinkView → List WriteEntry → Option BBeat
 put_response link entries =
-    passing (has_room link.depth link.b)
+    beat_where (has_room link.depth link.b)
     (option_and_then (λ entry. if lacks_data entry then None else Some (answer_to entry)) (head_of entries))
 
 -- the next beat of the oldest read is put where there is room
 abbrev pub put_read : MemoryConfig → Store → LinkView → List ReadEntry → Option RBeat
-put_read config store link entries = passing (has_room link.depth link.r) (option_map (next_beat config store) (head_of entries))
+put_read config store link entries = beat_where (has_room link.depth link.r) (option_map (next_beat config store) (head_of entries))
 
 -- what is taken or put on each channel
 abbrev pub memory_aw : List LinkView → MemoryState → Option Addr

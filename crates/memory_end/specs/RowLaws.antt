@@ -3,7 +3,7 @@ use Rattle.std.specs.Prelude.{◌≡◌, true, false, List, Some, is_some}
 use Rattle.axi_beats.specs.declared.beat.Addr.{Addr}
 use Rattle.axi_beats.specs.declared.beat.WBeat.{WBeat}
 use Rattle.axi_link.specs.LinkView.{LinkView}
-use Rattle.axi_link.specs.Table.{has_room, head_of}
+use Rattle.axi_link.specs.LinkWords.{has_room, head_of}
 use Rattle.memory_end.specs.MemoryState.{MemoryState}
 use Rattle.memory_end.specs.MemoryTable.{answer_to, fits, lacks_data, memory_link, memory_out, next_beat, oldest_lacking}
 use Rattle.memory_end.specs.declared.entry.ReadEntry.{ReadEntry}

@@ -1,7 +1,7 @@
 //! `Memory`, seen in clauses as its state and its takes and puts of the round.
 
 ghost use Rattle.std.specs.Prelude.{◌≡◌, ◌<◌, ◌+◌, [], ◌∷◌, AllPairs, IfOk};
-ghost use Rattle.axi_link.specs.Acted.{opened};
+ghost use Rattle.node_core.specs.Acted.{opened};
 ghost use Rattle.memory_end.specs.MemoryState.{IsMemoryConfig, memory_byte, new_memory};
 ghost use Rattle.memory_end.specs.MemoryTable.{CanMemory, memory_table};
 
@@ -12,8 +12,9 @@ use crate::reads::{put_r, take_ar};
 use crate::store::ByteStore;
 use crate::writes::{put_b, take_aw, take_w};
 use axi_beats::NoMemory;
-use axi_link::{Link, Out, link_at};
+use axi_link::{Link, Out};
 use flight::Flight;
+use node_core::link_at;
 use std::alloc::Global;
 use std::marker::{Model, Send, Sync};
 
@@ -31,7 +32,7 @@ pub struct Memory {
 }
 
 impl Model for Memory {
-    ghost use Rattle.axi_link.specs.Acted.{Acted};
+    ghost use Rattle.node_core.specs.Acted.{Acted};
     ghost use Rattle.memory_end.specs.MemoryState.{MemoryState};
 
     ghost Value = { Acted MemoryState };

@@ -2,7 +2,7 @@
 //! the order of their addresses. (Arm IHI 0022, relationships between the channels.)
 
 ghost use Rattle.std.specs.Prelude.{◌≡◌, ◌<◌, ◌+◌, All, IsTrue, is_some, length, option_copied};
-ghost use Rattle.axi_link.specs.Table.{passing, put_of, take_of};
+ghost use Rattle.node_core.specs.Rows.{beat_where, put_of, take_of};
 ghost use Rattle.memory_end.specs.MemoryState.{IsMemoryConfig, IsReadEntry};
 ghost use Rattle.memory_end.specs.MemoryTable.{after_ar, after_r, next_beat, put_read};
 
@@ -11,8 +11,9 @@ use crate::config::MemoryConfig;
 use crate::entry::ReadEntry;
 use crate::store::ByteStore;
 use axi_beats::{Addr, RBeat};
-use axi_link::{Link, set_put, set_take};
+use axi_link::Link;
 use flight::Flight;
+use node_core::{set_put, set_take};
 
 /// R: puts the next beat of the oldest read where there is room; with its last one it leaves.
 pub fn put_r(
@@ -78,8 +79,8 @@ pub fn take_ar(
     entries: &mut Flight<ReadEntry>,
 )
     requires { IsTrue fits → length entries.old < 16 }
-    ensures take { take.new ≡ take_of number (is_some (passing fits (option_copied head.entry))) }
-    ensures entries { entries.new ≡ after_ar (passing fits (option_copied head.entry)) entries.old }
+    ensures take { take.new ≡ take_of number (is_some (beat_where fits (option_copied head.entry))) }
+    ensures entries { entries.new ≡ after_ar (beat_where fits (option_copied head.entry)) entries.old }
 {
     match head {
         Some(request) if fits => {

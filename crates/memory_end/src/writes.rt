@@ -2,7 +2,8 @@
 //! addresses, whatever its transaction. (Arm IHI 0022, relationships between the channels.)
 
 ghost use Rattle.std.specs.Prelude.{◌≡◌, ◌<◌, ◌^◌, All, IsTrue, IfSome, is_some, length, option_copied};
-ghost use Rattle.axi_link.specs.Table.{head_of, passing, put_of, take_of};
+ghost use Rattle.axi_link.specs.LinkWords.{head_of};
+ghost use Rattle.node_core.specs.Rows.{beat_where, put_of, take_of};
 ghost use Rattle.burst_address.specs.Formulas.{beat_at};
 ghost use Rattle.memory_end.specs.MemoryState.{IsMemoryConfig, IsWriteEntry};
 ghost use Rattle.memory_end.specs.MemoryTable.{after_aw, after_b, after_w, lacks_data};
@@ -13,8 +14,9 @@ use crate::config::MemoryConfig;
 use crate::entry::WriteEntry;
 use crate::store::ByteStore;
 use axi_beats::{Addr, BBeat, Resp, WBeat, worst};
-use axi_link::{Link, set_put, set_take};
+use axi_link::Link;
 use flight::Flight;
+use node_core::{set_put, set_take};
 
 /// B: answers the oldest write where it has all its data and there is room; it leaves.
 pub fn put_b(
@@ -128,8 +130,8 @@ pub fn take_aw(
     entries: &mut Flight<WriteEntry>,
 )
     requires { IsTrue fits → length entries.old < 16 }
-    ensures take { take.new ≡ take_of number (is_some (passing fits (option_copied head.entry))) }
-    ensures entries { entries.new ≡ after_aw (passing fits (option_copied head.entry)) entries.old }
+    ensures take { take.new ≡ take_of number (is_some (beat_where fits (option_copied head.entry))) }
+    ensures entries { entries.new ≡ after_aw (beat_where fits (option_copied head.entry)) entries.old }
 {
     match head {
         Some(request) if fits => {

@@ -4,8 +4,8 @@ use Rattle.std.specs.Prelude.{All}
 use Rattle.std.proofs.lemmas.List.{take_at}
 use Rattle.std.proofs.lemmas.List.Elements.{All-from_recursion, All-nil}
 use Rattle.axi_beats.specs.declared.beat.WBeat.{WBeat}
-use Rattle.axi_link.proofs.MovesLemmas.{fitting_moves}
-use Rattle.axi_link.specs.Acted.{Acted, opened}
+use Rattle.node_core.proofs.MovesLemmas.{fitting_moves}
+use Rattle.node_core.specs.Acted.{Acted, opened}
 use Rattle.axi_link.specs.LinkView.{LinkView, empty_link}
 use Rattle.manager_end.proofs.ManagerLaws.{manager-begins, manager-fits}
 use Rattle.manager_end.specs.ManagerState.{IsManager, ManagerState, new_manager}

@@ -1,6 +1,6 @@
 -- The built-in network is a pair of nodes over one link, and stands as the pair does.
 use Rattle.std.proofs.Common.{◌≡◌, ◌∷◌, [], ℕ, zero, suc, List, refl, ap, ◌∙◌}
-use Rattle.axi_link.specs.Acted.{opened}
+use Rattle.node_core.specs.Acted.{opened}
 use Rattle.axi_link.specs.LinkView.{LinkView, empty_link}
 use Rattle.axi_link.specs.Moves.{link_after}
 use Rattle.manager_end.specs.ManagerState.{new_manager}

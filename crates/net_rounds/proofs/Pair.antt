@@ -1,6 +1,6 @@
 -- A manager over a memory with one link between them.
 use Rattle.std.specs.Prelude.{◌∷◌, [], ℕ, zero, suc}
-use Rattle.axi_link.specs.Acted.{Acted}
+use Rattle.node_core.specs.Acted.{Acted}
 use Rattle.axi_link.specs.LinkView.{LinkView}
 use Rattle.axi_link.specs.Moves.{link_after}
 use Rattle.manager_end.specs.ManagerState.{ManagerState}

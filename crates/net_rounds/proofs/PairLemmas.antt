@@ -6,8 +6,10 @@ use Rattle.axi_beats.specs.Bus.{IsBusWidth}
 use Rattle.axi_beats.specs.declared.beat.Addr.{Addr}
 use Rattle.axi_beats.specs.declared.beat.WBeat.{WBeat}
 use Rattle.axi_link.specs.LinkView.{LinkView}
-use Rattle.axi_link.specs.Table.{head_of, link_of, put_of}
-use Rattle.axi_link.proofs.KeepLemmas.{All-moved, passing-has}
+use Rattle.axi_link.specs.LinkWords.{head_of, link_of}
+use Rattle.node_core.specs.Rows.{put_of}
+use Rattle.axi_link.proofs.KeepLemmas.{All-moved}
+use Rattle.node_core.proofs.RowLemmas.{beat_where-has}
 use Rattle.burst_address.proofs.Beats.{beat-count}
 use Rattle.burst_address.specs.Bytes.{burst_bytes}
 use Rattle.burst_address.specs.Legal.{IsLegal}
@@ -37,7 +39,7 @@ put-has P number (Some x) has = has
 
 ready-has : (P : ℕ × ScriptItem → Type 0) (answered : ℕ) (o : Option (ℕ × ScriptItem)) → IfSome o P → IfSome (ready answered o) P
 ready-has P answered None has = tt
-ready-has P answered (Some next) has = passing-has P _ (Some next) has
+ready-has P answered (Some next) has = beat_where-has P _ (Some next) has
 
 -- a transaction of the script that is issued in a direction
 pub record IsChosen (script : List ScriptItem) (bus : ℕ) (write : Bool) (item : ScriptItem) : Type 0 where
@@ -83,7 +85,7 @@ aw-puts :
 aw-puts P links s all =
     let Has : ℕ × ScriptItem → Type 0 = λ p. P (request_of p.1) in
     put-has P s.lower _ (IfSome-map (λ (next : ℕ × ScriptItem). request_of next.1) P (manager_aw links s)
-    (passing-has Has _ _ (ready-has Has s.answered _ (All-slice_get Has (writes_of s.script) s.issued_writes all))))
+    (beat_where-has Has _ _ (ready-has Has s.answered _ (All-slice_get Has (writes_of s.script) s.issued_writes all))))
 
 ar-puts :
     (P : Addr → Type 0) (links : List LinkView) (s : ManagerState) → All (λ (p : ℕ × ScriptItem). P (request_of p.1)) (reads_of s.script) →
@@ -91,7 +93,7 @@ ar-puts :
 ar-puts P links s all =
     let Has : ℕ × ScriptItem → Type 0 = λ p. P (request_of p.1) in
     put-has P s.lower _ (IfSome-map (λ (next : ℕ × ScriptItem). request_of next.1) P (manager_ar links s)
-    (passing-has Has _ _ (ready-has Has s.answered _ (All-slice_get Has (reads_of s.script) s.issued_reads all))))
+    (beat_where-has Has _ _ (ready-has Has s.answered _ (All-slice_get Has (reads_of s.script) s.issued_reads all))))
 
 w-puts :
     (P : WBeat → Type 0) (links : List LinkView) (s : ManagerState) → IsManager s →
@@ -102,7 +104,7 @@ w-puts P links s m all =
     let Some_left : ℕ × ScriptItem → Type 0 = λ p. s.sent_beats ≤ p.1.txn.request.len in
     let Each : ℕ × ScriptItem → Type 0 = λ p. (n : ℕ) → n ≤ p.1.txn.request.len → P (data_beat p.1 s.bus n) in
     put-has P s.lower _ (IfSome-map (λ (next : ℕ × ScriptItem). data_beat next.1 s.bus s.sent_beats) P (manager_w links s)
-    (passing-has Has _ _ (IfSome-both Some_left Each Has (λ p few each. each s.sent_beats few) _ m.beats_sent (All-slice_get Each (writes_of s.script) s.sent_writes all))))
+    (beat_where-has Has _ _ (IfSome-both Some_left Each Has (λ p few each. each s.sent_beats few) _ m.beats_sent (All-slice_get Each (writes_of s.script) s.sent_writes all))))
 
 -- what every beat on the link is: requests that the memory can do, writes on lines that it keeps, strobes on lanes of
 -- the bus

@@ -4,7 +4,7 @@
 use Rattle.std.specs.Prelude.{◌==◌, ◌*◌, ◌/◌, ◌&&◌, ◌∷◌, [], ℕ, Bool, List, All, Option, Some, None, filter, max, sum_by}
 use Rattle.std.specs.List.{list_any, range_with_len}
 use Rattle.axi_beats.specs.declared.beat.Addr.{Addr}
-use Rattle.axi_link.specs.Acted.{opened}
+use Rattle.node_core.specs.Acted.{opened}
 use Rattle.axi_link.specs.LinkView.{empty_link}
 use Rattle.burst_address.specs.Formulas.{beat_at, beats_of, size_of}
 use Rattle.burst_address.specs.Legal.{IsLegal}

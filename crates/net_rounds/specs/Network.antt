@@ -3,7 +3,7 @@
 use Rattle.std.specs.Prelude.{◌<◌, ℕ, zero, suc, Bool, List, map, length, slice_get, slice_index_or}
 use Rattle.std.specs.List.{list_all}
 use Rattle.std.specs.Option.{option_map_or}
-use Rattle.axi_link.specs.Acted.{no_moves}
+use Rattle.node_core.specs.Acted.{no_moves}
 use Rattle.axi_link.specs.LinkView.{LinkView}
 use Rattle.axi_link.specs.Moves.{CanMove, link_after}
 use Rattle.axi_link.specs.declared.out.Out.{Out}

@@ -6,11 +6,10 @@
 ghost use Rattle.std.specs.Prelude.{◌≡◌, ◌<◌, ◌+◌, ◌-◌, ◌^◌, [], ◌∷◌, IfOk, Some, true, false, length};
 ghost use Rattle.manager_end.specs.ManagerState.{is_done};
 ghost use Rattle.net_rounds.specs.BuiltIn.{IsTraffic, bound, built_in, first_manager};
-ghost use Rattle.net_rounds.specs.Network.{after_commit, after_decide, after_rounds, is_finished};
+ghost use Rattle.net_rounds.specs.Network.{after_commit, after_decide, is_finished};
 ghost use Rattle.net_rounds.specs.NetView.{NetView};
 ghost use Rattle.net_rounds.specs.Notes.{AreNotes};
 ghost use Rattle.net_rounds.specs.Ports.{port_at};
-ghost use Rattle.net_rounds.specs.Run.{run_length};
 
 use crate::bound::bound_of;
 use crate::ends::Ends;
@@ -103,7 +102,7 @@ impl Net {
         self.rounds
     }
 
-    /// The most rounds of a run, by its script.
+    /// The bound: the most rounds that a run of its script makes.
     pub fn bound(&self) -> u64
         ensures most { result ≡ self.now.most }
         ensures little { result < 2 ^ 62 }
@@ -201,27 +200,6 @@ impl Net {
     {
         self.decide();
         self.commit();
-    }
-
-    /// Rounds up to the first state in which every transaction is answered, and at most as many as
-    /// the bound; whether every transaction is answered then.
-    pub fn run(&mut self) -> bool
-        requires rounds { self.old.rounds ≡ 0 }
-        requires open { self.old.decided ≡ false }
-        ensures rounds { self.new.rounds ≡ run_length self.old.network self.old.most }
-        ensures network { self.new.network ≡ after_rounds self.new.rounds self.old.network }
-        ensures decided { self.new.decided ≡ false }
-        ensures most { self.new.most ≡ self.old.most }
-        ensures finished { result ≡ is_finished self.new.network }
-    {
-        let most = self.most;
-        for _round in 0..most {
-            if self.finished() {
-                return true;
-            }
-            self.round();
-        }
-        self.finished()
     }
 }
 

@@ -5,9 +5,10 @@ ghost use Rattle.burst_address.specs.Legal.{IsLegal};
 
 use crate::{LineBuffer, read_trace_line, render_answers, render_round};
 use axi_beats::{Addr, Burst, Lanes, NoMemory, RBeat, Resp};
-use axi_link::{Link, Out, set_put};
+use axi_link::{Link, Out};
 use burst_address::legal;
 use manager_end::{Manager, Script, Txn};
+use node_core::set_put;
 use std::alloc::Global;
 use std::process::Abort;
 use std::test::Fail;

@@ -7,12 +7,13 @@ use Rattle.std.proofs.lemmas.Bool.{ltb-true}
 use Rattle.std.proofs.lemmas.List.Quantifiers.{position-Some}
 use Rattle.burst_address.specs.Legal.{IsLegal, broken_rule}
 use Rattle.burst_address.specs.declared.rule.BurstRule.{BurstRule}
-use Rattle.traffic.specs.Faults.{burst_fault, fault_by, least, least_fault, line_fault, request_of}
+use Rattle.traffic.specs.LineRefusals.{burst_refusal, refusal_by, least, least_refusal, line_refusal, request_of, rule_number}
 use Rattle.traffic.specs.Line.{Access, Line, Passed, Waits, Asks, line_of}
 use Rattle.traffic.specs.Orders.{Order, Holds, Issues, order_by, order_of, orders_of}
 use Rattle.traffic.specs.Ports.{is_named, place_of, port_of}
-use Rattle.traffic.specs.declared.fault.TrafficFault.{TrafficFault}
-use Rattle.traffic.specs.declared.fault.TrafficFault.TheVariants.{BadId, IllegalBurst}
+use Rattle.refusals.specs.declared.refusal.Refusal.{Refusal}
+use Rattle.refusals.specs.Refusal.{refused_at, refused_burst}
+use Rattle.refusals.specs.declared.cause.Cause.TheVariants.{BadId}
 use Rattle.traffic.specs.declared.port.ManagerPort.{ManagerPort}
 use Rattle.traffic.proofs.FormLemmas.{IsForm, IsFormLine, line-form}
 
@@ -38,11 +39,11 @@ unfolding port_of
 port-at managers name place e = rw e
 
 -- what a burst keeps that isn't refused
-kept : (number : ℕ) (access : Access) (port : ManagerPort) → burst_fault number access (Some port) ≡ None → (access.start.id < 2 ^ port.id_width) × IsLegal (request_of access) port.bus
+kept : (number : ℕ) (access : Access) (port : ManagerPort) → burst_refusal number access (Some port) ≡ None → (access.start.id < 2 ^ port.id_width) × IsLegal (request_of access) port.bus
 kept number access port e = by (nat_lt access.start.id (2 ^ port.id_width)) refl (broken_rule (request_of access) port.bus) refl e
   where
     by : (small : Bool) → nat_lt access.start.id (2 ^ port.id_width) ≡ small → (rule : Option BurstRule) → broken_rule (request_of access) port.bus ≡ rule
-        → cond small (option_map (λ r. IllegalBurst number r) rule) (Some (BadId number)) ≡ None → (access.start.id < 2 ^ port.id_width) × IsLegal (request_of access) port.bus
+        → cond small (option_map (λ r. refused_burst number (rule_number r)) rule) (Some (refused_at BadId number)) ≡ None → (access.start.id < 2 ^ port.id_width) × IsLegal (request_of access) port.bus
     by true is None legal e = (ltb-true access.start.id (2 ^ port.id_width) is, legal)
     by true is (Some rule) broken e = absurd (cc)
     by false is rule broken e = absurd (cc)
@@ -52,7 +53,7 @@ waits-allowed managers name None e = tt
 waits-allowed managers name (Some place) e = place-inside managers name place e
 
 asks-allowed : (managers : List ManagerPort) (number : ℕ) (access : Access) → IsForm access → (o : Option ℕ) → place_of managers access.start.manager ≡ o
-    → (found : Option ManagerPort) → port_of managers access.start.manager ≡ found → burst_fault number access found ≡ None
+    → (found : Option ManagerPort) → port_of managers access.start.manager ≡ found → burst_refusal number access found ≡ None
     → IfSome (option_map (λ place. Issues place access) o) (IsAllowed managers)
 asks-allowed managers number access form None at found port e = tt
 asks-allowed managers number access form (Some place) at None port e = absurd (cc)
@@ -60,18 +61,18 @@ asks-allowed managers number access form (Some place) at (Some found) port e =
     let both = kept number access found e in
     record { port = found; is_manager = sym (port-at managers access.start.manager place at) ∙ port; id = both.0; legal = both.1; form = form }
 
-said-allowed : (managers : List ManagerPort) (number : ℕ) (said : Option Line) → IfSome said IsFormLine → fault_by managers number said ≡ None → IfSome (order_by managers said) (IsAllowed managers)
+said-allowed : (managers : List ManagerPort) (number : ℕ) (said : Option Line) → IfSome said IsFormLine → refusal_by managers number said ≡ None → IfSome (order_by managers said) (IsAllowed managers)
 said-allowed managers number None form e = tt
 said-allowed managers number (Some Passed) form e = tt
 said-allowed managers number (Some (Waits name)) form e = waits-allowed managers name (place_of managers name) refl
 said-allowed managers number (Some (Asks access)) form e = asks-allowed managers number access form (place_of managers access.start.manager) refl (port_of managers access.start.manager) refl e
 
-line-allowed : (managers : List ManagerPort) (number : ℕ) (line : List ℕ) → line_fault managers number line ≡ None → IfSome (order_of managers line) (IsAllowed managers)
+line-allowed : (managers : List ManagerPort) (number : ℕ) (line : List ℕ) → line_refusal managers number line ≡ None → IfSome (order_of managers line) (IsAllowed managers)
 unfolding order_of
 line-allowed managers number line e = said-allowed managers number (line_of line) (line-form line) e
 
--- where the least of two faults is none, neither is one
-pub least-none : (a b : Option TrafficFault) → least a b ≡ None → (a ≡ None) × (b ≡ None)
+-- where the least of two refusals is none, neither is one
+pub least-none : (a b : Option Refusal) → least a b ≡ None → (a ≡ None) × (b ≡ None)
 least-none None b e = (refl, e)
 least-none (Some a) None e = absurd (cc)
 least-none (Some a) (Some b) e = absurd (cc)
@@ -81,8 +82,8 @@ head-allowed managers None more here rest = rest
 head-allowed managers (Some order) more here rest = (here, rest)
 
 -- all that lines ask for that aren't refused
-pub lines-allowed : (managers : List ManagerPort) (number : ℕ) (lines : List (List ℕ)) → least_fault managers number lines ≡ None → AllByRecursion (IsAllowed managers) (orders_of managers lines)
+pub lines-allowed : (managers : List ManagerPort) (number : ℕ) (lines : List (List ℕ)) → least_refusal managers number lines ≡ None → AllByRecursion (IsAllowed managers) (orders_of managers lines)
 lines-allowed managers number [] e = tt
 lines-allowed managers number (line ∷ more) e =
-    let both = least-none (line_fault managers number line) (least_fault managers (number + 1) more) e in
+    let both = least-none (line_refusal managers number line) (least_refusal managers (number + 1) more) e in
     head-allowed managers (order_of managers line) (orders_of managers more) (line-allowed managers number line both.0) (lines-allowed managers (number + 1) more both.1)

@@ -15,13 +15,14 @@ use Rattle.std.proofs.Math.Nat.{pow-le-pow_right}
 use Rattle.std.proofs.lemmas.Option.{slice_get_within}
 use Rattle.traffic.specs.Steps.{IsFitting}
 use Rattle.traffic.specs.Accepted.{AcceptedSuits, AreInOrder, Suits, beats_in, last_after, of_manager}
-use Rattle.traffic.specs.Faults.{least_fault, request_of}
+use Rattle.traffic.specs.LineRefusals.{least_refusal, request_of}
 use Rattle.traffic.specs.Line.{Access, first_pairs, other_pairs, other_pairs_of}
 use Rattle.traffic.specs.Orders.{Order, Holds, Issues, is_too_much, issued, orders_of, total_beats}
-use Rattle.traffic.specs.Traffic.{TrafficItem, count_of, counted, held, item_after, items_after, none_yet, one_more, refusal_of, traffic_of}
+use Rattle.traffic.specs.Traffic.{TrafficItem, count_of, counted, held, item_after, items_after, none_yet, one_more, traffic_refusal, traffic_of}
 use Rattle.traffic.specs.declared.build.Count.{Count}
-use Rattle.traffic.specs.declared.fault.TrafficFault.{TrafficFault}
-use Rattle.traffic.specs.declared.fault.TrafficFault.TheVariants.{TooMuchTraffic}
+use Rattle.refusals.specs.declared.refusal.Refusal.{Refusal}
+use Rattle.refusals.specs.Refusal.{refused_for}
+use Rattle.refusals.specs.declared.cause.Cause.TheVariants.{TooMuchTraffic}
 use Rattle.traffic.specs.declared.port.ManagerPort.{ManagerPort}
 use Rattle.traffic.proofs.AcceptLemmas.{IsAccepted, IsAllowed, lines-allowed}
 use Rattle.traffic.proofs.BuildLemmas.{issued-append}
@@ -176,21 +177,21 @@ fits-all managers (Issues place access ∷ more) all =
 
 -- ---- all of it
 
-neither : (a b : Option TrafficFault) → option_or a b ≡ None → (a ≡ None) × (b ≡ None)
+neither : (a b : Option Refusal) → option_or a b ≡ None → (a ≡ None) × (b ≡ None)
 neither None b e = (refl, e)
 neither (Some a) b e = absurd (cc)
 
--- where lines aren't refused, none is faulty, and they aren't too much
-accepted : (managers : List ManagerPort) (lines : List (List ℕ)) → refusal_of managers lines ≡ None → (least_fault managers 1 lines ≡ None) × (is_too_much (issued (orders_of managers lines)) ≡ false)
+-- where lines aren't refused, none of them is, and they aren't too much
+accepted : (managers : List ManagerPort) (lines : List (List ℕ)) → traffic_refusal managers lines ≡ None → (least_refusal managers 1 lines ≡ None) × (is_too_much (issued (orders_of managers lines)) ≡ false)
 accepted managers lines e =
-    let both = neither (least_fault managers 1 lines) (cond (is_too_much (issued (orders_of managers lines))) (Some TooMuchTraffic) None) e in
+    let both = neither (least_refusal managers 1 lines) (cond (is_too_much (issued (orders_of managers lines))) (Some (refused_for TooMuchTraffic)) None) e in
     (both.0, by (is_too_much (issued (orders_of managers lines))) both.1)
   where
-    by : (b : Bool) → cond b (Some TooMuchTraffic) None ≡ None → b ≡ false
+    by : (b : Bool) → cond b (Some (refused_for TooMuchTraffic)) None ≡ None → b ≡ false
     by true e = absurd (cc)
     by false e = refl
 
-pub lines-fit : (managers : List ManagerPort) (lines : List (List ℕ)) → refusal_of managers lines ≡ None → AllByRecursion (IsFitting (length managers)) (orders_of managers lines)
+pub lines-fit : (managers : List ManagerPort) (lines : List (List ℕ)) → traffic_refusal managers lines ≡ None → AllByRecursion (IsFitting (length managers)) (orders_of managers lines)
 lines-fit managers lines e = fits-all managers (orders_of managers lines) (lines-allowed managers 1 lines (accepted managers lines e).0)
 
 pub accepted_suits_all : AcceptedSuits

@@ -2,7 +2,6 @@
 use Rattle.std.proofs.Common.{◌≡◌, List, [], ◌∷◌, Some, None, true, false, refl}
 use Rattle.std.specs.Prelude.{codes, map}
 use Rattle.axi_beats.specs.declared.beat.Burst.TheVariants.{Fixed, Incr, Wrap}
-use Rattle.burst_address.specs.declared.rule.BurstRule.TheVariants.{Size, Length, WrapAlign, Page}
 use Rattle.plain_text.specs.Lines.{lines}
 use Rattle.plain_text.specs.Numbers.{number_in, read_byte_pair, read_decimal, read_hexadecimal}
 use Rattle.plain_text.specs.Words.{words}
@@ -10,8 +9,9 @@ use Rattle.traffic.specs.Data.{are_data_words, data_bytes, is_pair, lane_byte, p
 use Rattle.traffic.specs.Line.{Passed, Waits, Asks, beats_named, burst_named, line_of, form_of, read_of, said_by, size_named, start_of, wait_of, write_of}
 use Rattle.traffic.specs.Orders.{order_of}
 use Rattle.traffic.specs.Ports.{port_of}
-use Rattle.traffic.specs.Traffic.{TrafficItem, refusal_of, traffic_of}
-use Rattle.traffic.specs.declared.fault.TrafficFault.TheVariants.{BadLine, UnknownManager, BadId, IllegalBurst}
+use Rattle.traffic.specs.Traffic.{TrafficItem, traffic_refusal, traffic_of}
+use Rattle.refusals.specs.Refusal.{refused_at, refused_burst}
+use Rattle.refusals.specs.declared.cause.Cause.TheVariants.{BadLine, UnknownManager, BadId}
 use Rattle.traffic.specs.declared.port.ManagerPort.{ManagerPort}
 
 -- ---- data words
@@ -105,23 +105,23 @@ abbrev managers : List ManagerPort
 managers = record { name = record { ref_ptr = (0, 0); now = codes "m" }; bus = 4; id_width = 4 } ∷ []
 
 a_bad_line_before_all :
-    refusal_of managers (lines (codes "read m 16 0x0 4 incr 1\nwait dma\n\nread m 0 0x0 4 incr\nread\n")) ≡ Some (BadLine 4)
+    traffic_refusal managers (lines (codes "read m 16 0x0 4 incr 1\nwait dma\n\nread m 0 0x0 4 incr\nread\n")) ≡ Some (refused_at BadLine 4)
 unfolding said_by form_of order_of read_of wait_of start_of size_named burst_named beats_named read_decimal read_hexadecimal number_in words port_of
 a_bad_line_before_all = refl
 
 an_unknown_manager_next :
-    refusal_of managers (lines (codes "read m 16 0x0 4 incr 1\nread m 0 0x0 8 incr 1\nwait dma\nwait dma\n")) ≡ Some (UnknownManager 3)
+    traffic_refusal managers (lines (codes "read m 16 0x0 4 incr 1\nread m 0 0x0 8 incr 1\nwait dma\nwait dma\n")) ≡ Some (refused_at UnknownManager 3)
 unfolding said_by form_of order_of read_of wait_of start_of size_named burst_named beats_named read_decimal read_hexadecimal number_in words port_of
 an_unknown_manager_next = refl
 
 then_an_id :
-    refusal_of managers (lines (codes "read m 0 0x0 8 incr 1\nread m 15 0x0 4 incr 1\nread m 16 0x0 4 incr 1\n")) ≡ Some (BadId 3)
+    traffic_refusal managers (lines (codes "read m 0 0x0 8 incr 1\nread m 15 0x0 4 incr 1\nread m 16 0x0 4 incr 1\n")) ≡ Some (refused_at BadId 3)
 unfolding said_by form_of order_of read_of wait_of start_of size_named burst_named beats_named read_decimal read_hexadecimal number_in words port_of
 then_an_id = refl
 
 broken_rules :
     map
-    (λ text. refusal_of managers (lines text))
+    (λ text. traffic_refusal managers (lines text))
     (codes "read m 0 0x0 8 incr 257"
     ∷ codes "read m 0 0x0 4 incr 257"
     ∷ codes "read m 0 0x1 4 wrap 3"
@@ -129,7 +129,7 @@ broken_rules :
     ∷ codes "read m 0 0xffc 4 incr 2"
     ∷ codes "read m 0 0xffc 4 incr 1"
     ∷ [])
-    ≡ Some (IllegalBurst 1 Size) ∷ Some (IllegalBurst 1 Length) ∷ Some (IllegalBurst 1 Length) ∷ Some (IllegalBurst 1 WrapAlign) ∷ Some (IllegalBurst 1 Page) ∷ None ∷ []
+    ≡ Some (refused_burst 1 1) ∷ Some (refused_burst 1 2) ∷ Some (refused_burst 1 2) ∷ Some (refused_burst 1 3) ∷ Some (refused_burst 1 4) ∷ None ∷ []
 unfolding said_by form_of order_of read_of wait_of start_of size_named burst_named beats_named read_decimal read_hexadecimal number_in words port_of
 broken_rules = refl
 

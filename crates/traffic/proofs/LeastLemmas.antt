@@ -1,129 +1,129 @@
--- The least fault of all lines.
+-- The least refusal of all lines.
 use Rattle.std.proofs.Common.{◌≡◌, ℕ, ◌+◌, ◌<◌, ◌≤◌, Bool, true, false, cond, List, [], ◌∷◌, Option, Some, None, nat_lt, zero, suc, inl, inr, refl, sym, ◌∙◌, ap, subst, arith}
 use Rattle.std.specs.List.{slice_get}
 use Rattle.std.proofs.lemmas.Bool.{ltb-true, ltb-false}
-use Rattle.traffic.specs.Faults.{code_of, least, least_fault, line_fault, lesser}
-use Rattle.traffic.specs.Refusals.{GoesFirst, HasNoFault, IsLeastFault, LeastIsTold}
-use Rattle.traffic.specs.declared.fault.TrafficFault.{TrafficFault}
+use Rattle.traffic.specs.LineRefusals.{least, least_refusal, line_refusal, lesser}
+use Rattle.traffic.specs.Refusals.{GoesFirst, IsNotRefused, IsLeastRefusal, LeastIsTold}
+use Rattle.refusals.specs.declared.refusal.Refusal.{Refusal}
 use Rattle.traffic.specs.declared.port.ManagerPort.{ManagerPort}
 use Rattle.traffic.proofs.AcceptLemmas.{least-none}
 
 -- the line after the first one
-later : (managers : List ManagerPort) (number place : ℕ) (line : List ℕ) (o : Option TrafficFault) → line_fault managers (number + suc place) line ≡ o → line_fault managers (number + 1 + place) line ≡ o
-later managers number place line o e = let same : number + suc place ≡ number + 1 + place = omega arith in subst (λ (n : ℕ). line_fault managers n line ≡ o) same e
+later : (managers : List ManagerPort) (number place : ℕ) (line : List ℕ) (o : Option Refusal) → line_refusal managers (number + suc place) line ≡ o → line_refusal managers (number + 1 + place) line ≡ o
+later managers number place line o e = let same : number + suc place ≡ number + 1 + place = omega arith in subst (λ (n : ℕ). line_refusal managers n line ≡ o) same e
 
-earlier : (managers : List ManagerPort) (number place : ℕ) (line : List ℕ) (o : Option TrafficFault) → line_fault managers (number + 1 + place) line ≡ o → line_fault managers (number + suc place) line ≡ o
-earlier managers number place line o e = let same : number + 1 + place ≡ number + suc place = omega arith in subst (λ (n : ℕ). line_fault managers n line ≡ o) same e
+earlier : (managers : List ManagerPort) (number place : ℕ) (line : List ℕ) (o : Option Refusal) → line_refusal managers (number + 1 + place) line ≡ o → line_refusal managers (number + suc place) line ≡ o
+earlier managers number place line o e = let same : number + 1 + place ≡ number + suc place = omega arith in subst (λ (n : ℕ). line_refusal managers n line ≡ o) same e
 
 -- the first line
-first : (managers : List ManagerPort) (number : ℕ) (line other : List ℕ) (o : Option TrafficFault) → ◌≡◌ {A = Option (List ℕ)} (Some line) (Some other) → line_fault managers (number + 0) other ≡ o → line_fault managers number line ≡ o
+first : (managers : List ManagerPort) (number : ℕ) (line other : List ℕ) (o : Option Refusal) → ◌≡◌ {A = Option (List ℕ)} (Some line) (Some other) → line_refusal managers (number + 0) other ≡ o → line_refusal managers number line ≡ o
 first managers number line other o same e =
     let is : line ≡ other = cc in
     let plain : number + 0 ≡ number = omega arith in
-    ap (λ l. line_fault managers number l) is ∙ subst (λ (n : ℕ). line_fault managers n other ≡ o) plain e
+    ap (λ l. line_refusal managers number l) is ∙ subst (λ (n : ℕ). line_refusal managers n other ≡ o) plain e
 
-no-fault : (managers : List ManagerPort) (number : ℕ) (lines : List (List ℕ)) → least_fault managers number lines ≡ None → HasNoFault managers number lines
-no-fault managers number [] e place line here = absurd (cc)
-no-fault managers number (x ∷ more) e zero line here =
-    let both = least-none (line_fault managers number x) (least_fault managers (number + 1) more) e in
+no-refusal : (managers : List ManagerPort) (number : ℕ) (lines : List (List ℕ)) → least_refusal managers number lines ≡ None → IsNotRefused managers number lines
+no-refusal managers number [] e place line here = absurd (cc)
+no-refusal managers number (x ∷ more) e zero line here =
+    let both = least-none (line_refusal managers number x) (least_refusal managers (number + 1) more) e in
     let is : line ≡ x = cc in
     let plain : number ≡ number + 0 = omega arith in
-    subst (λ (n : ℕ). line_fault managers n line ≡ None) plain (ap (λ l. line_fault managers number l) is ∙ both.0)
-no-fault managers number (x ∷ more) e (suc place) line here =
-    let both = least-none (line_fault managers number x) (least_fault managers (number + 1) more) e in
-    earlier managers number place line None (no-fault managers (number + 1) more both.1 place line here)
+    subst (λ (n : ℕ). line_refusal managers n line ≡ None) plain (ap (λ l. line_refusal managers number l) is ∙ both.0)
+no-refusal managers number (x ∷ more) e (suc place) line here =
+    let both = least-none (line_refusal managers number x) (least_refusal managers (number + 1) more) e in
+    earlier managers number place line None (no-refusal managers (number + 1) more both.1 place line here)
 
--- the first line's fault is told
-told-first : (managers : List ManagerPort) (number : ℕ) (line : List ℕ) (more : List (List ℕ)) (fault : TrafficFault) → line_fault managers number line ≡ Some fault
-    → ((place : ℕ) (other_line : List ℕ) (other : TrafficFault) → slice_get more place ≡ Some other_line → line_fault managers (number + 1 + place) other_line ≡ Some other → code_of fault ≤ code_of other)
-    → IsLeastFault managers number (line ∷ more) fault
-told-first managers number line more fault is each =
+-- the first line's refusal is told
+told-first : (managers : List ManagerPort) (number : ℕ) (line : List ℕ) (more : List (List ℕ)) (refusal : Refusal) → line_refusal managers number line ≡ Some refusal
+    → ((place : ℕ) (other_line : List ℕ) (other : Refusal) → slice_get more place ≡ Some other_line → line_refusal managers (number + 1 + place) other_line ≡ Some other → refusal.code ≤ other.code)
+    → IsLeastRefusal managers number (line ∷ more) refusal
+told-first managers number line more refusal is each =
     record {
       place = 0;
       line = line;
       is_line = refl;
-      is_fault = let plain : number ≡ number + 0 = omega arith in subst (λ (n : ℕ). line_fault managers n line ≡ Some fault) plain is;
+      is_refusal = let plain : number ≡ number + 0 = omega arith in subst (λ (n : ℕ). line_refusal managers n line ≡ Some refusal) plain is;
       is_least = by;
     }
   where
-    order : (place : ℕ) (other : TrafficFault) → code_of fault ≤ code_of other → GoesFirst 0 fault place other
-    order place other le = by-test (nat_lt (code_of fault) (code_of other)) refl
+    order : (place : ℕ) (other : Refusal) → refusal.code ≤ other.code → GoesFirst 0 refusal place other
+    order place other le = by-test (nat_lt refusal.code other.code) refl
       where
-        by-test : (less : Bool) → nat_lt (code_of fault) (code_of other) ≡ less → GoesFirst 0 fault place other
-        by-test true e = inl (ltb-true (code_of fault) (code_of other) e)
-        by-test false e = let no_less : code_of other ≤ code_of fault = ltb-false (code_of fault) (code_of other) e in inr (omega arith, omega arith)
+        by-test : (less : Bool) → nat_lt refusal.code other.code ≡ less → GoesFirst 0 refusal place other
+        by-test true e = inl (ltb-true refusal.code other.code e)
+        by-test false e = let no_less : other.code ≤ refusal.code = ltb-false refusal.code other.code e in inr (omega arith, omega arith)
 
-    by : (place : ℕ) (other_line : List ℕ) (other : TrafficFault) → slice_get (line ∷ more) place ≡ Some other_line → line_fault managers (number + place) other_line ≡ Some other → GoesFirst 0 fault place other
+    by : (place : ℕ) (other_line : List ℕ) (other : Refusal) → slice_get (line ∷ more) place ≡ Some other_line → line_refusal managers (number + place) other_line ≡ Some other → GoesFirst 0 refusal place other
     by zero other_line other here e =
-        let same : ◌≡◌ {A = Option TrafficFault} (Some fault) (Some other) = sym is ∙ first managers number line other_line (Some other) here e in
-        let one : fault ≡ other = cc in
-        inr (ap code_of one, omega arith)
+        let same : ◌≡◌ {A = Option Refusal} (Some refusal) (Some other) = sym is ∙ first managers number line other_line (Some other) here e in
+        let one : refusal ≡ other = cc in
+        inr (ap (λ (r : Refusal). r.code) one, omega arith)
     by (suc place) other_line other here e = order (suc place) other (each place other_line other here (later managers number place other_line (Some other) e))
 
--- the fault of a later line is told
-told-later : (managers : List ManagerPort) (number : ℕ) (line : List ℕ) (more : List (List ℕ)) (fault : TrafficFault)
-    → ((other : TrafficFault) → line_fault managers number line ≡ Some other → code_of fault < code_of other)
-    → IsLeastFault managers (number + 1) more fault → IsLeastFault managers number (line ∷ more) fault
-told-later managers number line more fault head l =
+-- the refusal of a later line is told
+told-later : (managers : List ManagerPort) (number : ℕ) (line : List ℕ) (more : List (List ℕ)) (refusal : Refusal)
+    → ((other : Refusal) → line_refusal managers number line ≡ Some other → refusal.code < other.code)
+    → IsLeastRefusal managers (number + 1) more refusal → IsLeastRefusal managers number (line ∷ more) refusal
+told-later managers number line more refusal head l =
     record {
       place = suc l.place;
       line = l.line;
       is_line = l.is_line;
-      is_fault = earlier managers number l.place l.line (Some fault) l.is_fault;
+      is_refusal = earlier managers number l.place l.line (Some refusal) l.is_refusal;
       is_least = by;
     }
   where
-    next : (place : ℕ) (other : TrafficFault) → GoesFirst l.place fault place other → GoesFirst (suc l.place) fault (suc place) other
+    next : (place : ℕ) (other : Refusal) → GoesFirst l.place refusal place other → GoesFirst (suc l.place) refusal (suc place) other
     next place other (inl less) = inl less
     next place other (inr same) = let le : l.place ≤ place = same.1 in inr (same.0, omega arith)
 
-    by : (place : ℕ) (other_line : List ℕ) (other : TrafficFault) → slice_get (line ∷ more) place ≡ Some other_line → line_fault managers (number + place) other_line ≡ Some other → GoesFirst (suc l.place) fault place other
+    by : (place : ℕ) (other_line : List ℕ) (other : Refusal) → slice_get (line ∷ more) place ≡ Some other_line → line_refusal managers (number + place) other_line ≡ Some other → GoesFirst (suc l.place) refusal place other
     by zero other_line other here e = inl (head other (first managers number line other_line (Some other) here e))
     by (suc place) other_line other here e = next place other (l.is_least place other_line other here (later managers number place other_line (Some other) e))
 
--- what a fault that goes first has a code of
-first-code : (place other_place : ℕ) (fault other : TrafficFault) → GoesFirst place fault other_place other → code_of fault ≤ code_of other
-first-code place other_place fault other (inl less) = omega arith
-first-code place other_place fault other (inr same) = let e : code_of fault ≡ code_of other = same.0 in omega arith
+-- what a refusal that goes first has a code of
+first-code : (place other_place : ℕ) (refusal other : Refusal) → GoesFirst place refusal other_place other → refusal.code ≤ other.code
+first-code place other_place refusal other (inl less) = omega arith
+first-code place other_place refusal other (inr same) = let e : refusal.code ≡ other.code = same.0 in omega arith
 
 -- one line before others
-least-of : (managers : List ManagerPort) (number : ℕ) (line : List ℕ) (more : List (List ℕ)) (fault : TrafficFault)
-    → ((later_fault : TrafficFault) → least_fault managers (number + 1) more ≡ Some later_fault → IsLeastFault managers (number + 1) more later_fault)
-    → least_fault managers number (line ∷ more) ≡ Some fault → IsLeastFault managers number (line ∷ more) fault
-least-of managers number line more fault told_of e =
-    by (line_fault managers number line) refl (least_fault managers (number + 1) more) refl e
+least-of : (managers : List ManagerPort) (number : ℕ) (line : List ℕ) (more : List (List ℕ)) (refusal : Refusal)
+    → ((later_fault : Refusal) → least_refusal managers (number + 1) more ≡ Some later_fault → IsLeastRefusal managers (number + 1) more later_fault)
+    → least_refusal managers number (line ∷ more) ≡ Some refusal → IsLeastRefusal managers number (line ∷ more) refusal
+least-of managers number line more refusal told_of e =
+    by (line_refusal managers number line) refl (least_refusal managers (number + 1) more) refl e
   where
-    by : (a : Option TrafficFault) → line_fault managers number line ≡ a → (b : Option TrafficFault) → least_fault managers (number + 1) more ≡ b → least a b ≡ Some fault → IsLeastFault managers number (line ∷ more) fault
+    by : (a : Option Refusal) → line_refusal managers number line ≡ a → (b : Option Refusal) → least_refusal managers (number + 1) more ≡ b → least a b ≡ Some refusal → IsLeastRefusal managers number (line ∷ more) refusal
     by None here b rest e =
-        told-later managers number line more fault (λ other is. absurd (cc)) (told_of fault (rest ∙ e))
+        told-later managers number line more refusal (λ other is. absurd (cc)) (told_of refusal (rest ∙ e))
     by (Some a) here None rest e =
-        let is : a ≡ fault = cc in
-        told-first managers number line more fault (here ∙ ap (λ f. Some f) is) (λ place other_line other at is_other.
-        let none : line_fault managers (number + 1 + place) other_line ≡ None = no-fault managers (number + 1) more rest place other_line at in absurd (cc))
-    by (Some a) here (Some b) rest e = choose (nat_lt (code_of b) (code_of a)) refl (let is : lesser a b ≡ fault = cc in is)
+        let is : a ≡ refusal = cc in
+        told-first managers number line more refusal (here ∙ ap (λ f. Some f) is) (λ place other_line other at is_other.
+        let none : line_refusal managers (number + 1 + place) other_line ≡ None = no-refusal managers (number + 1) more rest place other_line at in absurd (cc))
+    by (Some a) here (Some b) rest e = choose (nat_lt b.code a.code) refl (let is : lesser a b ≡ refusal = cc in is)
       where
-        choose : (less : Bool) → nat_lt (code_of b) (code_of a) ≡ less → cond less b a ≡ fault → IsLeastFault managers number (line ∷ more) fault
+        choose : (less : Bool) → nat_lt b.code a.code ≡ less → cond less b a ≡ refusal → IsLeastRefusal managers number (line ∷ more) refusal
         choose true t is =
-            told-later managers number line more fault
+            told-later managers number line more refusal
             (λ other is_other.
-            let same : ◌≡◌ {A = Option TrafficFault} (Some a) (Some other) = sym here ∙ is_other in
+            let same : ◌≡◌ {A = Option Refusal} (Some a) (Some other) = sym here ∙ is_other in
             let one : a ≡ other = cc in
-            let below : code_of b < code_of a = ltb-true (code_of b) (code_of a) t in
-            let left : code_of b ≡ code_of fault = ap code_of is in
-            let right : code_of a ≡ code_of other = ap code_of one in
+            let below : b.code < a.code = ltb-true b.code a.code t in
+            let left : b.code ≡ refusal.code = ap (λ (r : Refusal). r.code) is in
+            let right : a.code ≡ other.code = ap (λ (r : Refusal). r.code) one in
             omega arith)
-            (told_of fault (rest ∙ ap (λ f. Some f) is))
+            (told_of refusal (rest ∙ ap (λ f. Some f) is))
         choose false t is =
-            told-first managers number line more fault (here ∙ ap (λ f. Some f) is) (λ place other_line other at is_other.
-            let l : IsLeastFault managers (number + 1) more b = told_of b rest in
-            let after : code_of b ≤ code_of other = first-code l.place place b other (l.is_least place other_line other at is_other) in
-            let above : code_of a ≤ code_of b = ltb-false (code_of b) (code_of a) t in
-            let left : code_of a ≡ code_of fault = ap code_of is in
+            told-first managers number line more refusal (here ∙ ap (λ f. Some f) is) (λ place other_line other at is_other.
+            let l : IsLeastRefusal managers (number + 1) more b = told_of b rest in
+            let after : b.code ≤ other.code = first-code l.place place b other (l.is_least place other_line other at is_other) in
+            let above : a.code ≤ b.code = ltb-false b.code a.code t in
+            let left : a.code ≡ refusal.code = ap (λ (r : Refusal). r.code) is in
             omega arith)
 
-least-told : (managers : List ManagerPort) (number : ℕ) (lines : List (List ℕ)) (fault : TrafficFault) → least_fault managers number lines ≡ Some fault → IsLeastFault managers number lines fault
-least-told managers number [] fault e = absurd (cc)
-least-told managers number (line ∷ more) fault e = least-of managers number line more fault (λ later_fault rest. least-told managers (number + 1) more later_fault rest) e
+least-told : (managers : List ManagerPort) (number : ℕ) (lines : List (List ℕ)) (refusal : Refusal) → least_refusal managers number lines ≡ Some refusal → IsLeastRefusal managers number lines refusal
+least-told managers number [] refusal e = absurd (cc)
+least-told managers number (line ∷ more) refusal e = least-of managers number line more refusal (λ later_fault rest. least-told managers (number + 1) more later_fault rest) e
 
 pub least_is_told : LeastIsTold
-least_is_told managers number lines = record { some = least-told managers number lines; none = no-fault managers number lines }
+least_is_told managers number lines = record { some = least-told managers number lines; none = no-refusal managers number lines }

@@ -5,7 +5,7 @@ use Rattle.burst_address.specs.Bytes.{burst_bytes}
 use Rattle.burst_address.specs.Formulas.{beats_of}
 use Rattle.burst_address.specs.Legal.{IsLegal}
 use Rattle.traffic.specs.Orders.{most_beats, most_transactions}
-use Rattle.traffic.specs.Traffic.{TrafficItem, refusal_of, traffic_of}
+use Rattle.traffic.specs.Traffic.{TrafficItem, traffic_refusal, traffic_of}
 use Rattle.traffic.specs.declared.port.ManagerPort.{ManagerPort}
 
 -- A transaction suits its manager: its ID has no more bits than the manager's, and its burst is legal on the manager's
@@ -56,5 +56,5 @@ pub record IsTraffic (managers : List ManagerPort) (items : List TrafficItem) : 
 -- the transactions of lines that aren't refused
 abbrev pub AcceptedSuits : Type 0
 AcceptedSuits =
-    (managers : List ManagerPort) (lines : List (List ℕ)) → refusal_of managers lines ≡ None →
+    (managers : List ManagerPort) (lines : List (List ℕ)) → traffic_refusal managers lines ≡ None →
     IsTraffic managers (traffic_of managers lines)

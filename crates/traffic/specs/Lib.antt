@@ -2,7 +2,7 @@ pub mod Data
 pub mod Line
 pub mod Seen
 pub mod Ports
-pub mod Faults
+pub mod LineRefusals
 pub mod Orders
 pub mod Traffic
 pub mod Steps

@@ -1,6 +1,6 @@
 -- One order's part in the making of the transactions.
 use Rattle.std.specs.Prelude.{ℕ, ◌-◌, ◌<◌, ◌≤◌, List, [], ◌∷◌, Option, None, Some, slice_index_or, slice_set}
-use Rattle.traffic.specs.Faults.{request_of}
+use Rattle.traffic.specs.LineRefusals.{request_of}
 use Rattle.traffic.specs.Line.{Access}
 use Rattle.traffic.specs.Orders.{Order, Holds, Issues}
 use Rattle.traffic.specs.Traffic.{TrafficItem, held, none_yet, one_more}

@@ -3,13 +3,16 @@ use Rattle.std.specs.Prelude.{◌≡◌, ℕ, ◌+◌, ◌==◌, List, [], ◌�
 use Rattle.std.specs.Option.{option_or}
 use Rattle.manager_end.specs.declared.script.Txn.{Txn}
 use Rattle.manager_end.specs.declared.script.WriteByte.{WriteByte}
-use Rattle.traffic.specs.Faults.{least_fault, request_of}
+use Rattle.refusals.specs.Refusal.{refused_for}
+use Rattle.refusals.specs.declared.cause.Cause.TheVariants.{TooMuchTraffic}
+use Rattle.refusals.specs.declared.refusal.DocFault.{DocFault}
+use Rattle.refusals.specs.declared.refusal.DocFault.TheVariants.{NoMemory, Refused}
+use Rattle.refusals.specs.declared.refusal.Refusal.{Refusal}
+use Rattle.traffic.specs.LineRefusals.{least_refusal, request_of}
 use Rattle.traffic.specs.Line.{Access}
 use Rattle.traffic.specs.declared.build.Count.{Count}
 use Rattle.traffic.specs.Orders.{Order, Holds, Issues, is_too_much, issued, orders_of}
 use Rattle.traffic.specs.declared.port.ManagerPort.{ManagerPort}
-use Rattle.traffic.specs.declared.fault.TrafficFault.{TrafficFault}
-use Rattle.traffic.specs.declared.fault.TrafficFault.TheVariants.{TooMuchTraffic, NoMemory}
 
 -- Of a manager it is counted how many transactions it has, and how many of them stand before its latest `wait` line.
 abbrev pub none_yet : Count
@@ -57,11 +60,11 @@ abbrev pub traffic_of : List ManagerPort → List (List ℕ) → List TrafficIte
 traffic_of managers lines = items_after [] (orders_of managers lines)
 
 -- why the lines are refused: for one of them, or, where none is refused, because they ask for too much
-abbrev pub refusal_of : List ManagerPort → List (List ℕ) → Option TrafficFault
-refusal_of managers lines =
-    option_or (least_fault managers 1 lines) (if is_too_much (issued (orders_of managers lines)) then Some TooMuchTraffic else None)
+abbrev pub traffic_refusal : List ManagerPort → List (List ℕ) → Option Refusal
+traffic_refusal managers lines =
+    option_or (least_refusal managers 1 lines) (if is_too_much (issued (orders_of managers lines)) then Some (refused_for TooMuchTraffic) else None)
 
--- a fault is why lines are refused; memory is wanting only where they aren't
-abbrev pub IsRefusal : Option TrafficFault → TrafficFault → Type 0
-IsRefusal refusal NoMemory = refusal ≡ None
-IsRefusal refusal fault = refusal ≡ Some fault
+-- a refusal is why lines are refused; memory is wanting only where they aren't
+abbrev pub IsRefusal : Option Refusal → DocFault → Type 0
+IsRefusal why (Refused refusal) = why ≡ Some refusal
+IsRefusal why NoMemory = why ≡ None

@@ -10,10 +10,10 @@ ghost use Rattle.traffic.specs.Steps.{counts_after, counts_by, item_of, items_by
 ghost use Rattle.traffic.specs.Traffic.{held, none_yet, one_more, traffic_of};
 
 use crate::data::push_data;
-use crate::fault::request_of;
 use crate::line::TextAccess;
 use crate::order::{TextOrder, read_order};
 use crate::port::ManagerPort;
+use crate::refusal::request_of;
 use axi_beats::NoMemory;
 use manager_end::{Txn, WriteByte};
 use plain_text::lines::next_line;

@@ -9,8 +9,8 @@ pub fn accepted_traffic_suits()
     ensures { AcceptedSuits }
 {}
 
-/// The law that of the faults of all lines the one with the least code is told, and of those with one
-/// code the one of the first line; and that none is told only where no line is faulty.
+/// The law that of the refusals of all lines the one with the least code is told, and of those with
+/// one code the one of the first line; and that none is told only where no line is refused.
 pub fn least_is_told()
     ensures { LeastIsTold }
 {}

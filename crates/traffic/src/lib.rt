@@ -6,22 +6,21 @@
 //! does one whose first word begins with `#`.
 //!
 //! [`read_traffic`] accepts exactly the texts that the definitions of `specs/` accept, and answers
-//! their transactions; else it answers the fault with the least code, of the first line that has it.
+//! their transactions; else it answers the refusal with the least code, of the first line that has it.
 #![tactic(auto)]
 
 mod build;
 mod data;
-mod fault;
 mod laws;
 mod line;
 mod order;
 mod port;
 mod read;
+mod refusal;
 #[cfg(test)]
 mod tests;
 mod transactions;
 
-pub use fault::TrafficFault;
 pub use laws::{accepted_traffic_suits, least_is_told};
 pub use order::{MOST_BEATS, MOST_TRANSACTIONS};
 pub use port::ManagerPort;

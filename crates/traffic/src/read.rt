@@ -4,14 +4,15 @@ ghost use Rattle.std.specs.Prelude.{◌≡◌, ◌<◌, ◌≤◌, ◌^◌, All,
 ghost use Rattle.plain_text.specs.Lines.{lines};
 ghost use Rattle.traffic.specs.Accepted.{IsTraffic};
 ghost use Rattle.traffic.specs.Ports.{IsPort};
-ghost use Rattle.traffic.specs.Traffic.{IsRefusal, refusal_of, traffic_of};
+ghost use Rattle.traffic.specs.Traffic.{IsRefusal, traffic_refusal, traffic_of};
 
 use crate::build::collect_items;
-use crate::fault::{TrafficFault, least_fault};
 use crate::order::is_too_much;
 use crate::port::ManagerPort;
+use crate::refusal::least_refusal;
 use crate::transactions::Traffic;
 use axi_beats::NoMemory;
+use refusals::{Cause, DocFault, Refusal};
 use std::alloc::Global;
 
 /// The transactions that the lines of the text ask of these managers. The text has at most 16,777,216
@@ -22,40 +23,40 @@ use std::alloc::Global;
 ///
 /// # Errors
 ///
-/// The fault with the least code, and of those with one code the one of the first line. Want of memory
+/// The refusal with the least code, from 17 to 21, and of those with one code the one of the first line. Want of memory
 /// comes only where the traffic isn't refused.
 pub fn read_traffic(
     alloc: Global,
     text: &str,
     managers: &[ManagerPort<'_>],
-) -> Result<Traffic, TrafficFault>
+) -> Result<Traffic, DocFault>
     requires text { length text.now ≤ 16777216 }
     requires ports { All IsPort managers.now }
     requires managers { length managers.now < 2 ^ 32 }
-    ensures accepted { IfOk result (λ _. refusal_of managers.now (lines text.now) ≡ None) }
+    ensures accepted { IfOk result (λ _. traffic_refusal managers.now (lines text.now) ≡ None) }
     ensures traffic { IfOk result (λ traffic. traffic ≡ traffic_of managers.now (lines text.now)) }
     ensures known { IfOk result (IsTraffic managers.now) }
-    ensures refused { IfErr result (IsRefusal (refusal_of managers.now (lines text.now))) }
+    ensures refused { IfErr result (IsRefusal (traffic_refusal managers.now (lines text.now))) }
 {
     let text = text.as_bytes();
-    if let Some(fault) = refusal_of(text, managers) {
-        return Err(fault);
+    if let Some(refusal) = traffic_refusal(text, managers) {
+        return Err(DocFault::Refused(refusal));
     }
     match collect_items(alloc, text, managers) {
         Ok(items) => Ok(Traffic::from_items(items)),
-        Err(NoMemory) => Err(TrafficFault::NoMemory),
+        Err(NoMemory) => Err(DocFault::NoMemory),
     }
 }
 
 // Why the lines of the text are refused, if they are.
-fn refusal_of(text: &[u8], managers: &[ManagerPort<'_>]) -> Option<TrafficFault>
+fn traffic_refusal(text: &[u8], managers: &[ManagerPort<'_>]) -> Option<Refusal>
     requires text { length text.now ≤ 16777216 }
     requires ports { All IsPort managers.now }
-    ensures { result ≡ refusal_of managers.now (lines text.now) }
+    ensures { result ≡ traffic_refusal managers.now (lines text.now) }
 {
-    match least_fault(text, managers) {
-        Some(fault) => Some(fault),
-        None if is_too_much(text, managers) => Some(TrafficFault::TooMuchTraffic),
+    match least_refusal(text, managers) {
+        Some(refusal) => Some(refusal),
+        None if is_too_much(text, managers) => Some(Refusal::new(Cause::TooMuchTraffic)),
         None => None,
     }
 }

@@ -2,15 +2,15 @@
 
 ghost use Rattle.std.specs.Prelude.{◌≡◌, IfOk, length};
 
-use crate::{ManagerPort, Traffic, TrafficFault, read_traffic};
+use crate::{ManagerPort, Traffic, read_traffic};
 use axi_beats::{Addr, Burst, Tag};
-use burst_address::BurstRule;
 use manager_end::{Txn, WriteByte};
+use refusals::{Cause, DocFault, Refusal};
 use std::process::Abort;
 use std::test::Fail;
 
 /// What a text comes to: its transactions, or why it is refused.
-fn read(alloc: std::alloc::Global, text: &str) -> Result<Traffic, TrafficFault> {
+fn read(alloc: std::alloc::Global, text: &str) -> Result<Traffic, DocFault> {
     let managers = [
         ManagerPort {
             name: "m",
@@ -24,7 +24,7 @@ fn read(alloc: std::alloc::Global, text: &str) -> Result<Traffic, TrafficFault> 
         },
     ];
     if text.len() > 16_777_216 {
-        return Err(TrafficFault::TooMuchTraffic);
+        return Err(DocFault::NoMemory);
     }
     read_traffic(alloc, text, &managers)
 }
@@ -33,116 +33,104 @@ fn read(alloc: std::alloc::Global, text: &str) -> Result<Traffic, TrafficFault> 
 #[derive(Clone, Copy)]
 struct Row {
     text: &'static str,
-    fault: TrafficFault,
+    refusal: Refusal,
 }
 
 fn a_wrong_kind() -> Row {
     Row {
         text: "\nread m 1 0x0 4 inc 1\n",
-        fault: TrafficFault::BadLine(2),
+        refusal: Refusal::at(Cause::BadLine, 2),
     }
 }
 
 fn a_missing_word() -> Row {
     Row {
         text: "read m 1 0x0 4 incr\n",
-        fault: TrafficFault::BadLine(1),
+        refusal: Refusal::at(Cause::BadLine, 1),
     }
 }
 
 fn a_pair_too_few() -> Row {
     Row {
         text: "write m 1 0x1 4 incr 112233 112233\r\n",
-        fault: TrafficFault::BadLine(1),
+        refusal: Refusal::at(Cause::BadLine, 1),
     }
 }
 
 fn a_pair_too_many() -> Row {
     Row {
         text: "write m 1 0x1 4 incr 11223344\n",
-        fault: TrafficFault::BadLine(1),
+        refusal: Refusal::at(Cause::BadLine, 1),
     }
 }
 
 fn an_upper_mark() -> Row {
     Row {
         text: "# one\nwait m\nread m 1 0X10 4 incr 1\n",
-        fault: TrafficFault::BadLine(3),
+        refusal: Refusal::at(Cause::BadLine, 3),
     }
 }
 
 fn a_signed_number() -> Row {
     Row {
         text: "read m +1 0x0 4 incr 1",
-        fault: TrafficFault::BadLine(1),
+        refusal: Refusal::at(Cause::BadLine, 1),
     }
 }
 
 fn a_lone_return() -> Row {
     Row {
         text: "wait m \r\r\n",
-        fault: TrafficFault::BadLine(1),
+        refusal: Refusal::at(Cause::BadLine, 1),
     }
 }
 
 fn an_unknown_manager() -> Row {
     Row {
         text: "read m 99 0x0 4 incr 1\nwait M\nwait x",
-        fault: TrafficFault::UnknownManager(2),
+        refusal: Refusal::at(Cause::UnknownManager, 2),
     }
 }
 
 fn a_large_id() -> Row {
     Row {
         text: "read m 1 0x0 8 incr 1\nread m 15 0x0 4 incr 1\nread dma 1 0x0 4 incr 1\n",
-        fault: TrafficFault::BadId(3),
+        refusal: Refusal::at(Cause::BadId, 3),
     }
 }
 
 fn a_bad_line_after_a_large_id() -> Row {
     Row {
         text: "read m 16 0x0 4 incr 1\nread m\n",
-        fault: TrafficFault::BadLine(2),
+        refusal: Refusal::at(Cause::BadLine, 2),
     }
 }
 
 fn too_wide() -> Row {
     Row {
         text: "read m 1 0x0 8 incr 300\n",
-        fault: TrafficFault::IllegalBurst {
-            line: 1,
-            rule: BurstRule::Size,
-        },
+        refusal: Refusal::illegal_burst(1, 1),
     }
 }
 
 fn too_long() -> Row {
     Row {
         text: "read dma 0 0xffc 128 incr 257\n",
-        fault: TrafficFault::IllegalBurst {
-            line: 1,
-            rule: BurstRule::Length,
-        },
+        refusal: Refusal::illegal_burst(1, 2),
     }
 }
 
 fn an_unaligned_wrap() -> Row {
     Row {
         text: "read m 1 0x0 4 wrap 4\nread m 1 0x2 4 wrap 4\n",
-        fault: TrafficFault::IllegalBurst {
-            line: 2,
-            rule: BurstRule::WrapAlign,
-        },
+        refusal: Refusal::illegal_burst(2, 3),
     }
 }
 
 fn two_pages() -> Row {
     Row {
         text: "read m 1 0xffe 4 incr 2\n",
-        fault: TrafficFault::IllegalBurst {
-            line: 1,
-            rule: BurstRule::Page,
-        },
+        refusal: Refusal::illegal_burst(1, 4),
     }
 }
 
@@ -152,7 +140,12 @@ fn compare(rt: &(impl Alloc<A = std::alloc::Global> + Abort), row: &Row) {
         Ok(_) => None,
         Err(fault) => Some(fault),
     };
-    assert_eq!(rt; fault, Some(row.fault), "at {}", row.text);
+    assert_eq!(rt;
+        fault,
+        Some(DocFault::Refused(row.refusal)),
+        "at {}",
+        row.text
+    );
 }
 
 #[test]
@@ -279,7 +272,10 @@ fn the_greatest_traffic_is_read(rt: HostRuntime) -> Result<(), Fail> {
         let more = many_lines(alloc, line, count, last)?;
         match read(alloc, more.as_str()) {
             Ok(_) => return Err(Fail::from("too much is read")),
-            Err(fault) => assert_eq!(rt; fault, TrafficFault::TooMuchTraffic),
+            Err(fault) => assert_eq!(rt;
+                fault,
+                DocFault::Refused(Refusal::new(Cause::TooMuchTraffic))
+            ),
         }
     }
     Ok(())

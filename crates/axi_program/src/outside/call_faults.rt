@@ -1,7 +1,7 @@
 //! Which calls of an object in memory fail, and the counts of its calls and of its faults.
 
 ghost use Rattle.std.specs.Prelude.{◌≡◌, ◌≤◌};
-ghost use Rattle.axi_program.specs.Memory.{new_call_faults, is_due, after_call};
+ghost use Rattle.axi_program.specs.Devices.{new_call_faults, is_due, after_call};
 
 use std::marker::Model;
 
@@ -16,7 +16,7 @@ pub struct CallFaults {
 }
 
 impl Model for CallFaults {
-    ghost use Rattle.axi_program.specs.Memory.{CallFaultsView};
+    ghost use Rattle.axi_program.specs.Devices.{CallFaultsView};
 
     ghost Value = { CallFaultsView };
 

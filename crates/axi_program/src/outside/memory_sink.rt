@@ -3,7 +3,7 @@
 ghost use Rattle.std.specs.Prelude.{◌≡◌, ◌<◌, ◌≤◌, [], length, is_err, IfOk};
 ghost use Rattle.std.specs.Io.KnownBytes.{WriteAppends};
 ghost use Rattle.axi_program.specs.Faults.{HasCause};
-ghost use Rattle.axi_program.specs.Memory.{new_call_faults, write_fails, write_count, after_write};
+ghost use Rattle.axi_program.specs.Devices.{new_call_faults, write_fails, write_count, after_write};
 
 use super::call_faults::CallFaults;
 use super::sink::Sink;
@@ -26,7 +26,7 @@ pub struct MemorySink {
 
 impl Model for MemorySink {
     ghost use Rattle.std.specs.Prelude.{◌<◌, ◌≤◌, vec_len, vec_capacity};
-    ghost use Rattle.axi_program.specs.Memory.{Output, IsReserved};
+    ghost use Rattle.axi_program.specs.Devices.{Output, IsReserved};
 
     ghost Value = { Output };
 

@@ -4,7 +4,7 @@ ghost use Rattle.std.specs.Prelude.{◌≡◌, ◌<◌, ◌≤◌, ◌++◌, len
 ghost use Rattle.std.specs.Io.{ReadsAtMost};
 ghost use Rattle.std.specs.Io.KnownBytes.{ReadConsumes};
 ghost use Rattle.axi_program.specs.Faults.{HasCause};
-ghost use Rattle.axi_program.specs.Memory.{new_call_faults, is_due, read_count, after_read};
+ghost use Rattle.axi_program.specs.Devices.{new_call_faults, is_due, read_count, after_read};
 
 use super::call_faults::CallFaults;
 use super::source::{Failed, Source};
@@ -23,7 +23,7 @@ pub struct MemorySource {
 
 impl Model for MemorySource {
     ghost use Rattle.std.specs.Prelude.{◌<◌, ◌≤◌, drop, vec_len};
-    ghost use Rattle.axi_program.specs.Memory.{Input, IsWithin};
+    ghost use Rattle.axi_program.specs.Devices.{Input, IsWithin};
 
     ghost Value = { Input };
 

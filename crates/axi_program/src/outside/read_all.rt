@@ -2,7 +2,7 @@
 
 ghost use Rattle.std.specs.Prelude.{◌≤◌, vec_len, IfOk, IsErrOf};
 ghost use Rattle.axi_program.specs.Faults.{Rose};
-ghost use Rattle.axi_program.specs.Transfers.{IsWhole, IsOver, IsRest};
+ghost use Rattle.axi_program.specs.DeviceBytes.{IsWhole, IsOver, IsRest};
 
 use super::source::Source;
 use std::alloc::Global;

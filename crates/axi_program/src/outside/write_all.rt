@@ -3,7 +3,7 @@
 ghost use Rattle.std.specs.Prelude.{OnOk, OnErr};
 ghost use Rattle.std.specs.Io.KnownBytes.{Appends};
 ghost use Rattle.axi_program.specs.Faults.{HasCause};
-ghost use Rattle.axi_program.specs.Transfers.{AppendsPrefix};
+ghost use Rattle.axi_program.specs.DeviceBytes.{AppendsPrefix};
 
 use super::sink::Sink;
 use super::source::Failed;

@@ -3,14 +3,15 @@
 ghost use Rattle.std.specs.Prelude.{◌≡◌, ◌<◌, ◌≤◌, ◌^◌, AllPairs, IfOk, IfSome, IsTrue, option_copied};
 ghost use Rattle.std.specs.List.{range_with_len};
 ghost use Rattle.axi_beats.specs.Bus.{IsBusWidth};
-ghost use Rattle.axi_link.specs.Table.{head_of};
+ghost use Rattle.axi_link.specs.LinkWords.{head_of};
 ghost use Rattle.memory_end.specs.Laws.{HasSameArguments};
 ghost use Rattle.memory_end.specs.MemoryState.{IsRequest, new_memory};
 
 use crate::{Memory, MemoryConfig};
 use axi_beats::{Addr, NoMemory, RBeat, Resp, WBeat};
-use axi_link::{Link, Out, set_put};
+use axi_link::{Link, Out};
 use burst_address::legal;
+use node_core::set_put;
 use std::alloc::Global;
 use std::process::Abort;
 

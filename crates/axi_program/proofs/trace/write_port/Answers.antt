@@ -5,7 +5,7 @@ use Rattle.axi_history.specs.declared.port.PortRound.{PortRound}
 use Rattle.trace_text.specs.Form.{line_text}
 use Rattle.axi_program.proofs.TraceLaws.{appends-nothing}
 use Rattle.axi_program.specs.Trace.{is_shown, port_line}
-use Rattle.axi_program.specs.Transfers.{AppendsPrefix}
+use Rattle.axi_program.specs.DeviceBytes.{AppendsPrefix}
 use Rattle.axi_program.proofs.trace.write_port.Goals as goal
 
 -- a port that shows nothing has no line, and one that shows something has its own

@@ -2,7 +2,8 @@ use Rattle.std.proofs.Common.{◌≡◌, ◌≢◌, ◌∙◌, ℕ, true, Option
 use Rattle.std.specs.Option.{option_map}
 use Rattle.std.proofs.lemmas.Option.{slice_get-map, slice_get_within}
 use Rattle.axi_beats.specs.declared.beat.RBeat.{RBeat}
-use Rattle.axi_link.specs.Table.{has_room, head_of, passing, put_of}
+use Rattle.axi_link.specs.LinkWords.{has_room, head_of}
+use Rattle.node_core.specs.Rows.{beat_where, put_of}
 use Rattle.memory_end.specs.declared.entry.ReadEntry.{ReadEntry}
 use Rattle.memory_end.specs.MemoryState.{IsReadEntry}
 use Rattle.memory_end.specs.MemoryTable.{next_beat}
@@ -31,5 +32,5 @@ pub returns-then-last-clause-put : goal.returns-then-last-clause-put
 returns-then-last-clause-put c =
     let room : has_room c.args.link.now.depth c.args.link.now.r ≡ true = sym c.room_r.ensures ∙ c.if-not-room_r.false in
     ap (λ (b : RBeat). put_of c.args.number (Some b)) c.next_beat.ensures
-    ∙ sym (ap (λ (o : Option ReadEntry). put_of c.args.number (passing true (option_map (next_beat c.args.config.now c.args.store.now) o))) c.get.ensures)
-    ∙ sym (ap (λ may. put_of c.args.number (passing may (option_map (next_beat c.args.config.now c.args.store.now) (head_of c.args.entries.now)))) room)
+    ∙ sym (ap (λ (o : Option ReadEntry). put_of c.args.number (beat_where true (option_map (next_beat c.args.config.now c.args.store.now) o))) c.get.ensures)
+    ∙ sym (ap (λ may. put_of c.args.number (beat_where may (option_map (next_beat c.args.config.now c.args.store.now) (head_of c.args.entries.now)))) room)

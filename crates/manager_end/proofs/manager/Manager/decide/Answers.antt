@@ -1,9 +1,9 @@
 use Rattle.std.proofs.Common.{◌≡◌, ◌+◌, ◌<◌, ◌^◌, ℕ, List, true, false, Option, ap, arith, length, refl, subst, sym, ◌∙◌}
 use Rattle.std.specs.Option.{option_copied, option_map}
 use Rattle.std.specs.Prelude.{IfSome, is_some, slice_get}
-use Rattle.axi_link.specs.Acted.{Acted}
+use Rattle.node_core.specs.Acted.{Acted}
 use Rattle.axi_link.specs.LinkView.{LinkView}
-use Rattle.axi_link.specs.Table.{put_of, take_of}
+use Rattle.node_core.specs.Rows.{put_of, take_of}
 use Rattle.axi_link.specs.declared.out.Out.{Out}
 use Rattle.manager_end.specs.Beats.{data_beat, request_of}
 use Rattle.manager_end.specs.ManagerInside.{IsWithin, manager_state, sent_after}
@@ -15,7 +15,7 @@ use Rattle.manager_end.specs.declared.entry.Entry.{Entry}
 use Rattle.manager_end.proofs.ManagerLaws.{manager-stays}
 use Rattle.manager_end.specs.declared.sending.Sending.{Sending}
 use Rattle.manager_end.proofs.RowLemmas.{w-next}
-use Rattle.manager_end.proofs.StepLemmas.{places-within, passing-within, aw-is, ar-is, w-is, b-is, r-is, writes-within, writes-due, reads-within, reads-due, answered-small, room-left, state-same, out-same, acted-same, byte-more, next-within, sent-beats, sent-small, sent-writes, sending-next, got-last, got-some, last-is, sum-small, sum-same}
+use Rattle.manager_end.proofs.StepLemmas.{places-within, beat_where-within, aw-is, ar-is, w-is, b-is, r-is, writes-within, writes-due, reads-within, reads-due, answered-small, room-left, state-same, out-same, acted-same, byte-more, next-within, sent-beats, sent-small, sent-writes, sending-next, got-last, got-some, last-is, sum-small, sum-same}
 use Rattle.manager_end.proofs.manager.Manager.decide.Goals as goal
 
 pub next-write-requires : goal.next-write-requires
@@ -27,7 +27,7 @@ next-read-requires c = places-within false c.self.inside.script c.self.inside.re
 pub put_data-requires-clause-place : goal.put_data-requires-clause-place
 put_data-requires-clause-place c =
     subst (λ (o : Option ℕ). IfSome o (λ place. place < length c.self.inside.script)) (sym c.next_data-data.ensures)
-    (passing-within (λ place. place < length c.self.inside.script) _ c.self.inside.writes.places.items c.self.inside.sending.writes (places-within true c.self.inside.script c.self.inside.writes.places.items c.self.invariant.write_places))
+    (beat_where-within (λ place. place < length c.self.inside.script) _ c.self.inside.writes.places.items c.self.inside.sending.writes (places-within true c.self.inside.script c.self.inside.writes.places.items c.self.invariant.write_places))
 
 pub put_data-requires-clause-within : goal.put_data-requires-clause-within
 put_data-requires-clause-within c =
@@ -72,7 +72,7 @@ step-requires-clause-small c = sent-small (manager_state c.self.inside) c.self.i
 pub step-requires-clause-place : goal.step-requires-clause-place
 step-requires-clause-place c =
     subst (λ (o : Option ℕ). IfSome o (λ place. place < length c.self.inside.script)) (sym c.next_data-data.ensures)
-    (passing-within (λ place. place < length c.self.inside.script) _ c.self.inside.writes.places.items c.self.inside.sending.writes (places-within true c.self.inside.script c.self.inside.writes.places.items c.self.invariant.write_places))
+    (beat_where-within (λ place. place < length c.self.inside.script) _ c.self.inside.writes.places.items c.self.inside.sending.writes (places-within true c.self.inside.script c.self.inside.writes.places.items c.self.invariant.write_places))
 
 pub step-requires-clause-within : goal.step-requires-clause-within
 step-requires-clause-within c =

@@ -5,9 +5,10 @@ use Rattle.axi_beats.specs.declared.beat.Addr.{Addr}
 use Rattle.axi_beats.specs.declared.beat.BBeat.{BBeat}
 use Rattle.axi_beats.specs.declared.beat.RBeat.{RBeat}
 use Rattle.axi_beats.specs.declared.beat.WBeat.{WBeat}
-use Rattle.axi_link.specs.Acted.{Acted}
+use Rattle.node_core.specs.Acted.{Acted}
 use Rattle.axi_link.specs.LinkView.{LinkView}
-use Rattle.axi_link.specs.Table.{head_of, passing, put_of, take_of}
+use Rattle.axi_link.specs.LinkWords.{head_of}
+use Rattle.node_core.specs.Rows.{beat_where, put_of, take_of}
 use Rattle.axi_link.specs.declared.out.Out.{Out}
 use Rattle.memory_end.specs.declared.entry.WriteEntry.{WriteEntry}
 use Rattle.memory_end.specs.MemoryInside.{memory_state}
@@ -53,18 +54,18 @@ the-lacking c = ap oldest_lacking c.put_b.ensures.entries ∙ oldest_lacking-aft
 
 the-w : (c : goal.After-take_ar) → taken_data c.link_at-link.result.now c.put_b.new.entries ≡ memory_w c.args.links.now (state_of c)
 the-w c =
-    ap (λ (o : Option WriteEntry). passing (is_some o) (head_of c.link_at-link.result.now.w)) (the-lacking c)
+    ap (λ (o : Option WriteEntry). beat_where (is_some o) (head_of c.link_at-link.result.now.w)) (the-lacking c)
     ∙ ap (λ (l : LinkView). taken_data l c.self.inside.write_entries) (the-link c)
 
-the-aw : (c : goal.After-take_ar) → passing (not c.full.result) (option_copied c.head_aw.result) ≡ memory_aw c.args.links.now (state_of c)
+the-aw : (c : goal.After-take_ar) → beat_where (not c.full.result) (option_copied c.head_aw.result) ≡ memory_aw c.args.links.now (state_of c)
 the-aw c =
-    ap (λ may. passing may (option_copied c.head_aw.result)) (ap not c.full.ensures.value ∙ fits-not_full (length c.self.inside.write_entries) c.full.ensures.bound)
-    ∙ ap (passing (fits c.self.inside.write_entries)) (c.head_aw.ensures ∙ ap (λ (l : LinkView). head_of l.aw) (the-link c))
+    ap (λ may. beat_where may (option_copied c.head_aw.result)) (ap not c.full.ensures.value ∙ fits-not_full (length c.self.inside.write_entries) c.full.ensures.bound)
+    ∙ ap (beat_where (fits c.self.inside.write_entries)) (c.head_aw.ensures ∙ ap (λ (l : LinkView). head_of l.aw) (the-link c))
 
-the-ar : (c : goal.After-take_ar) → passing (not c.full-2.result) (option_copied c.head_ar.result) ≡ memory_ar c.args.links.now (state_of c)
+the-ar : (c : goal.After-take_ar) → beat_where (not c.full-2.result) (option_copied c.head_ar.result) ≡ memory_ar c.args.links.now (state_of c)
 the-ar c =
-    ap (λ may. passing may (option_copied c.head_ar.result)) (ap not c.full-2.ensures.value ∙ fits-not_full (length c.self.inside.read_entries) c.full-2.ensures.bound)
-    ∙ ap (passing (fits c.self.inside.read_entries)) (c.head_ar.ensures ∙ ap (λ (l : LinkView). head_of l.ar) (the-link c))
+    ap (λ may. beat_where may (option_copied c.head_ar.result)) (ap not c.full-2.ensures.value ∙ fits-not_full (length c.self.inside.read_entries) c.full-2.ensures.bound)
+    ∙ ap (beat_where (fits c.self.inside.read_entries)) (c.head_ar.ensures ∙ ap (λ (l : LinkView). head_of l.ar) (the-link c))
 
 -- and so are the entries and the bytes
 the-writes : (c : goal.After-take_ar) → c.take_aw.new.entries ≡ (memory_next c.args.links.now (state_of c)).write_entries

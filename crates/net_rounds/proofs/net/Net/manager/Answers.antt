@@ -1,6 +1,6 @@
 use Rattle.std.proofs.Common.{◌∷◌, [], List, length, get_or, sym, ap, subst, ◌∙◌, arith}
 use Rattle.std.proofs.Math.Bool.{and-true}
-use Rattle.axi_link.specs.Acted.{Acted}
+use Rattle.node_core.specs.Acted.{Acted}
 use Rattle.manager_end.specs.ManagerState.{ManagerState, is_done}
 use Rattle.std.specs.List.{list_all}
 use Rattle.net_nodes.specs.NodeTable.{node_done}

@@ -2,9 +2,9 @@ use Rattle.std.proofs.Common.{◌≡◌, ◌<◌, ◌+◌, ℕ, List, Option, tr
 use Rattle.std.specs.Option.{option_map_or}
 use Rattle.std.proofs.lemmas.List.{get_or_default}
 use Rattle.std.proofs.lemmas.Option.{slice_get-get_or}
-use Rattle.axi_link.specs.Acted.{no_moves}
+use Rattle.node_core.specs.Acted.{no_moves}
 use Rattle.axi_link.specs.LinkView.{LinkView, empty_link}
-use Rattle.axi_link.specs.Table.{link_of}
+use Rattle.axi_link.specs.LinkWords.{link_of}
 use Rattle.axi_link.specs.declared.out.Out.{Out}
 use Rattle.link_ports.specs.PortView.{port_of}
 use Rattle.net_nodes.specs.NodeTable.{node_out}

@@ -5,9 +5,9 @@ use Rattle.std.proofs.lemmas.Bool.{leb-true, ltb-true}
 use Rattle.std.proofs.lemmas.List.FromFn.{get_or-range_with_len, length-range_with_len}
 use Rattle.axi_beats.specs.declared.beat.Addr.{Addr}
 use Rattle.axi_beats.specs.declared.beat.WBeat.{WBeat}
-use Rattle.axi_link.specs.Acted.{Acted}
+use Rattle.node_core.specs.Acted.{Acted}
 use Rattle.axi_link.specs.LinkView.{LinkView}
-use Rattle.axi_link.specs.Table.{head_of, link_of}
+use Rattle.axi_link.specs.LinkWords.{head_of, link_of}
 use Rattle.memory_end.specs.declared.config.MemoryConfig.{MemoryConfig}
 use Rattle.memory_end.specs.Beats.{word_address}
 use Rattle.memory_end.specs.Laws.{HasSameArguments}

@@ -1,0 +1,4 @@
+pub mod MovesLemmas
+pub mod RowLemmas
+pub mod PaceLemmas
+pub mod TurnLemmas
