@@ -18,7 +18,7 @@ use Rattle.axi_trail.proofs.SlackFacts.{asking_goes_down, answering_goes_up}
 use Rattle.axi_trail.proofs.StreamFacts.{prefix_itself, prefix_nil}
 use Rattle.burst_address.specs.Formulas.{beat_at, lower_lane, size_of, upper_lane}
 use Rattle.burst_address.specs.Legal.{IsLegal}
-use Rattle.link_ports.specs.Example.{ExamplePort, HastyPort, ExampleKeepsContracts, manager_moves, memory_moves, links_between}
+use Rattle.link_ports.specs.Example.{ExamplePort, HastyPort, PortExampleKeepsContracts, manager_moves, memory_moves, links_between}
 use Rattle.link_ports.specs.LegalSchedule.{IsDataOf, IsLegalSchedule}
 use Rattle.link_ports.proofs.ChannelFacts.{grows_itself}
 
@@ -204,5 +204,5 @@ example_answers (suc (suc zero)) = answers_before 2 refl
 example_answers (suc (suc (suc zero))) = answers_before 3 refl
 example_answers (suc (suc (suc (suc n)))) = answers_after n
 
-pub example_keeps_contracts : ExampleKeepsContracts
+pub example_keeps_contracts : PortExampleKeepsContracts
 example_keeps_contracts = (example_is_legal, example_asks, example_answers)
