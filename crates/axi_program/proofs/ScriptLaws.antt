@@ -7,8 +7,6 @@ use Rattle.std.proofs.lemmas.List.{length-map, length-take, map-append, take_mor
 use Rattle.std.proofs.lemmas.List.Elements.{All-map, All-take}
 use Rattle.std.proofs.lemmas.Option.{get_or_from_slice_get, slice_get-get_or, slice_get-map, slice_get_within}
 use Rattle.burst_address.specs.Legal.{IsLegal}
-use Rattle.manager_end.proofs.ListLemmas.{filter-all}
-use Rattle.manager_end.proofs.NumberLemmas.{at-all}
 use Rattle.manager_end.specs.Script.{CanPush, IsScript, ScriptItem, awaited}
 use Rattle.manager_end.specs.declared.script.Txn.{Txn}
 use Rattle.manager_end.specs.declared.script.WriteByte.{WriteByte}
@@ -18,6 +16,7 @@ use Rattle.traffic.specs.Accepted.{AreInOrder, Follows, IsTraffic, Suits, last_a
 use Rattle.traffic.specs.Traffic.{TrafficItem}
 use Rattle.traffic.specs.declared.port.ManagerPort.{ManagerPort}
 use Rattle.axi_program.specs.Traffic.{IsBuiltIn, script_item, script_of}
+use Rattle.plain_lists.proofs.PlaceLemmas.{filter-all, at-all}
 
 -- ---- one manager
 

@@ -1,10 +1,10 @@
 -- The lines of a traced run, one piece after the other.
-use Rattle.std.proofs.Common.{◌≡◌, ◌<◌, ◌≤◌, ◌+◌, ◌-◌, [], ◌++◌, ℕ, zero, suc, List, Option, Some, None, Bool, true, false, refl, sym, ap, subst, ◌∙◌, arith, append_assoc, append-nil}
+use Rattle.std.proofs.Common.{◌≡◌, ◌<◌, ◌≤◌, ◌+◌, ◌-◌, [], ◌++◌, ℕ, zero, suc, List, Option, Some, None, false, refl, sym, ap, subst, ◌∙◌, arith, append_assoc, append-nil, Bool, true}
 use Rattle.std.specs.Io.KnownBytes.{Appends}
-use Rattle.axi_trail.specs.Streams.{over}
 use Rattle.net_rounds.proofs.RunLemmas.{least-from, least-more}
 use Rattle.net_rounds.specs.Network.{Network, after_rounds, is_finished}
 use Rattle.net_rounds.specs.Run.{least_finished, run_length}
+use Rattle.plain_lists.specs.Rounds.{over}
 use Rattle.axi_program.specs.Text.{where_asked}
 
 -- nothing is appended where nothing is written

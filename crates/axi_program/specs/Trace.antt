@@ -1,12 +1,12 @@
 -- The trace of a run: what its links show, round by round.
 use Rattle.std.specs.Prelude.{◌≡◌, ℕ, ◌+◌, ◌||◌, ◌++◌, [], Bool, List, length, is_some, if◌then◌else◌, codes}
 use Rattle.axi_history.specs.declared.port.PortRound.{PortRound}
-use Rattle.axi_trail.specs.Streams.{over}
 use Rattle.net_rounds.specs.Network.{Network, after_decide, after_rounds}
 use Rattle.net_rounds.specs.NetView.{NetView}
 use Rattle.net_rounds.specs.Ports.{port_at}
 use Rattle.net_rounds.specs.Run.{run_length}
 use Rattle.trace_text.specs.Form.{line_text}
+use Rattle.plain_lists.specs.Rounds.{over}
 
 -- some channel offers a beat
 abbrev pub is_shown : PortRound → Bool

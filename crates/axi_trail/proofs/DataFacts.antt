@@ -1,19 +1,20 @@
 -- A write is answered after its data.
-use Rattle.std.proofs.Common.{◌≡◌, ℕ, ◌≤◌, suc, zero, List, [], ◌∷◌, length, map, take, refl, sym, ◌∙◌, ap, inl, inr, arith, filter}
+use Rattle.std.proofs.Common.{◌≡◌, ℕ, ◌≤◌, List, [], ◌∷◌, length, map, take, refl, sym, ◌∙◌, ap, inl, inr, arith, filter}
 use Rattle.std.proofs.lemmas.Bool.{cases_lt}
 use Rattle.std.proofs.lemmas.List.{length-map, take-map}
 use Rattle.axi_beats.specs.declared.beat.Addr.{Addr}
-use Rattle.flight.specs.Entries.{of_key, count_of}
 use Rattle.axi_trail.specs.ContractLaws.{AnsweredHaveTheirData}
-use Rattle.axi_trail.specs.Streams.{IsPrefix, Agree}
 use Rattle.axi_trail.specs.Waiting.{complete}
 use Rattle.axi_trail.specs.Words.{Mark, Asked, Reply, InOrderOfId, completed, marks, marks_of, beats_of, data_marks, write_asked, burst_asked, write_reply, write_replies, mark_of_data, number_of_mark, number_of_asked, number_of_reply, number_of_address, number_of_data, number_of_response, id_of_asked, id_of_reply, len_of_asked}
-use Rattle.axi_trail.proofs.FilterFacts.{of_key-of_key, of_key-map, length-by_counts, length-marks, ids_of_beats, length-ids_of_beats, count_of-ids_of_beats}
-use Rattle.axi_trail.proofs.MarkFacts.{agree_prefix, completed_are_complete}
-use Rattle.axi_trail.proofs.OrderFacts.{at_most_asked, own_ids, own_beats, prefix_total}
-use Rattle.axi_trail.proofs.PrefixFacts.{prefix_length, prefix_map, prefix_flat_map, prefix_of_key}
-use Rattle.axi_trail.proofs.StreamFacts.{prefix_first, prefix_trans}
+use Rattle.axi_trail.proofs.FilterFacts.{length-marks, ids_of_beats, length-ids_of_beats, count_of-ids_of_beats}
+use Rattle.axi_trail.proofs.MarkFacts.{completed_are_complete}
+use Rattle.axi_trail.proofs.OrderFacts.{at_most_asked, own_ids, own_beats}
 use Rattle.axi_trail.proofs.WaitingFacts.{complete-beats}
+use Rattle.plain_lists.specs.Keys.{of_key, count_of}
+use Rattle.plain_lists.specs.Prefixes.{IsPrefix, Agree}
+use Rattle.plain_lists.proofs.KeyLemmas.{of_key-of_key, of_key-map, length-by_counts}
+use Rattle.plain_lists.proofs.PrefixLemmas.{agree_prefix, prefix_total, prefix_length, prefix_map, prefix_flat_map, prefix_of_key, prefix_first, prefix_trans}
+use Rattle.plain_lists.proofs.PartLemmas.{length-take_le}
 
 -- a transaction has no more answers than its requests ask for
 pub own_answers_within : (asked : List Asked) (replies : List Reply) (t : ℕ) → InOrderOfId asked replies → length (of_key number_of_reply t replies) ≤ beats_of (of_key number_of_asked t asked)
@@ -31,11 +32,6 @@ own_answers_within asked replies t order =
 pub beats_of-writes : (addresses : List Addr) → beats_of (map write_asked addresses) ≡ length addresses
 beats_of-writes [] = refl
 beats_of-writes (a ∷ addresses) = omega (arith, beats_of-writes addresses)
-
-length-take_le : {X : Type 0} (n : ℕ) (xs : List X) → length (take n xs) ≤ n
-length-take_le zero xs = omega arith
-length-take_le (suc n) [] = omega arith
-length-take_le (suc n) (x ∷ xs) = omega (arith, length-take_le n xs)
 
 -- the data of completed addresses has passed
 completed_marks : (addresses : List Addr) (passed : List Mark) → Agree passed (marks (map burst_asked addresses)) → IsPrefix (marks (map burst_asked (completed addresses passed))) passed

@@ -3,12 +3,13 @@ use Rattle.std.proofs.Common.{◌≡◌, ◌≢◌, ℕ, ◌+◌, ◌<◌, ◌�
 use Rattle.std.proofs.lemmas.Bool.{ne_eqb, cases_eq, cases_lt}
 use Rattle.std.proofs.lemmas.List.{length-map}
 use Rattle.std.proofs.lemmas.List.Elements.{Contains-append_right}
-use Rattle.flight.specs.Entries.{of_key, count_of, without_oldest, left_after}
 use Rattle.axi_trail.specs.Waiting.{Waiting, fresh, beats_by, pending, advanced, answered_once, answered_by, held}
 use Rattle.axi_trail.specs.Words.{Asked, Reply, beats_of, id_of_asked, len_of_asked, id_of_reply}
 use Rattle.axi_trail.specs.WordLaws.{UnansweredIsHeld, NoneHeldIsAnswered}
-use Rattle.axi_trail.proofs.FilterFacts.{of_key-append, of_key-cons, of_key-skip, of_key-map, of_key-push, beats_of-append}
+use Rattle.axi_trail.proofs.FilterFacts.{beats_of-append}
 use Rattle.axi_trail.proofs.WaitingFacts.{pending-beat, pending-zero, none-pending, pending-has, advanced-last, advanced-more}
+use Rattle.plain_lists.specs.Keys.{of_key, count_of, without_oldest, left_after}
+use Rattle.plain_lists.proofs.KeyLemmas.{of_key-append, of_key-cons, of_key-skip, of_key-map, of_key-push, place_in}
 
 module _ {X : Type 0} (len_of id_of : X → ℕ) where
   abbrev id_waiting : Waiting X → ℕ
@@ -162,24 +163,6 @@ pub held-singles : {X : Type 0} (id_of : X → ℕ) (xs : List X) (ids : List �
 held-singles id_of xs [] = refl
 held-singles id_of xs (id ∷ ids) = ap (λ t. answered_by (λ x. 0) id_of t ids) (once-single id_of id xs) ∙ held-singles id_of (without_oldest id_of id xs) ids
 
--- what stands in a filtered list stands in the list
-unfiltered : {X : Type 0} (key_of : X → ℕ) (key : ℕ) (xs front : List X) (x : X) (back : List X) → of_key key_of key xs ≡ front ++ x ∷ back → (left : List X) × (right : List X) × (xs ≡ left ++ x ∷ right)
-unfiltered key_of key [] [] x back e = absurd (cc)
-unfiltered key_of key [] (f ∷ front) x back e = absurd (cc)
-unfiltered {X} key_of key (y ∷ xs) front x back e = elim (cases_eq (key_of y) key) [
-  | inr ne ↦
-      let found : (left : List X) × (right : List X) × (xs ≡ left ++ x ∷ right) = unfiltered key_of key xs front x back (sym (of_key-skip key_of key y xs ne) ∙ e) in
-      (y ∷ found.0, found.1, ap (λ t. y ∷ t) found.2)
-  | inl own ↦ after y xs front (sym (of_key-cons key_of key y xs own) ∙ e) (λ front' e'. unfiltered key_of key xs front' x back e')
-]
-  where
-    after : (y : X) (xs front : List X) → y ∷ of_key key_of key xs ≡ front ++ x ∷ back → ((front' : List X) → of_key key_of key xs ≡ front' ++ x ∷ back → (left : List X) × (right : List X) × (xs ≡ left ++ x ∷ right)) →
-        (left : List X) × (right : List X) × (y ∷ xs ≡ left ++ x ∷ right)
-    after y xs [] h rest = ([], xs, ap (λ t. t ∷ xs) (let head : y ≡ x = cc in head))
-    after y xs (f ∷ front) h rest =
-        let found : (left : List X) × (right : List X) × (xs ≡ left ++ x ∷ right) = rest front (cc) in
-        (y ∷ found.0, found.1, ap (λ t. y ∷ t) found.2)
-
 stands : {X : Type 0} (xs left : List X) (x : X) (right : List X) → xs ≡ left ++ x ∷ right → Contains xs x
 stands {X} xs left x right e = subst (λ (ys : List X). Contains ys x) (sym e) (Contains-append_right left (x ∷ right) x (0, omega arith, refl))
 
@@ -191,8 +174,7 @@ count_of-replies id replies = ap length (of_key-map (λ k. k) id_of_reply id rep
 pending_is_held : (asked : List Asked) (ids : List ℕ) (id : ℕ) (front : List (Waiting Asked)) (w : Waiting Asked) (back : List (Waiting Asked)) →
     pending len_of_asked (count_of id ids) (of_key id_of_asked id asked) ≡ front ++ w ∷ back → Contains (held len_of_asked id_of_asked asked ids) w
 pending_is_held asked ids id front w back e =
-    let found : (left : List (Waiting Asked)) × (right : List (Waiting Asked)) × (held len_of_asked id_of_asked asked ids ≡ left ++ w ∷ right) =
-    unfiltered (λ v. v.request.id) id (held len_of_asked id_of_asked asked ids) front w back (held-of_id len_of_asked id_of_asked asked ids id ∙ e) in
+    let found = place_in (λ (v : Waiting Asked). v.request.id) id (held len_of_asked id_of_asked asked ids) front w back (held-of_id len_of_asked id_of_asked asked ids id ∙ e) in
     stands (held len_of_asked id_of_asked asked ids) found.0 w found.1 found.2
 
 waits : (asked : List Asked) (ids : List ℕ) (before : List Asked) (a : Asked) (after : List Asked) → of_key id_of_asked a.id asked ≡ of_key id_of_asked a.id before ++ a ∷ of_key id_of_asked a.id after →

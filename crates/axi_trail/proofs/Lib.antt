@@ -6,7 +6,6 @@ pub mod InductionFacts
 pub mod MarkFacts
 pub mod OrderFacts
 pub mod PlaceFacts
-pub mod PrefixFacts
 pub mod SlackFacts
 pub mod StepFacts
 pub mod StreamFacts

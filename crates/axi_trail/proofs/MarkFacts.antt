@@ -1,34 +1,16 @@
 -- Facts on the marks of bursts, and on those that pending requests lack.
-use Rattle.std.proofs.Common.{◌≡◌, ℕ, ◌+◌, ◌-◌, ◌<◌, ◌≤◌, suc, zero, Bool, true, false, cond, List, [], ◌∷◌, ◌++◌, length, take, drop, get_or, refl, sym, ◌∙◌, ap, inl, inr, arith, length-append}
+use Rattle.std.proofs.Common.{◌≡◌, ℕ, ◌+◌, ◌-◌, ◌<◌, ◌≤◌, suc, zero, Bool, true, false, cond, List, [], ◌∷◌, ◌++◌, length, take, drop, refl, sym, ◌∙◌, ap, inl, inr, arith, length-append}
 use Rattle.std.specs.Prelude.{filter, flat_map}
 use Rattle.std.proofs.lemmas.Bool.{cases_Bool, cases_lt}
-use Rattle.std.proofs.lemmas.List.{get_or_append_left}
 use Rattle.std.proofs.lemmas.List.Elements.{filter-append}
-use Rattle.axi_trail.specs.Streams.{IsPrefix, Agree, selected}
 use Rattle.axi_trail.specs.Waiting.{pending, complete}
 use Rattle.axi_trail.specs.Words.{Mark, Asked, EndsAtLast, owed_marks, pending_asked, burst_marks, marks_of, marks, completed, number_of_mark, number_of_asked, number_of_waiting, len_of_asked}
-use Rattle.axi_trail.proofs.FilterFacts.{filter_cons, filter_skip, burst_selected, burst_left_out, length-burst_marks}
-use Rattle.axi_trail.proofs.StreamFacts.{prefix_nil}
+use Rattle.axi_trail.proofs.FilterFacts.{burst_selected, burst_left_out, length-burst_marks}
 use Rattle.axi_trail.proofs.WaitingFacts.{pending-past, pending-within, complete-past, complete-within}
-use Rattle.flight.proofs.HeldFacts.{drop_nothing}
-
-module _ {X : Type 0} where
-  pub agree_tail : (x y : X) (xs ys : List X) → Agree (x ∷ xs) (y ∷ ys) → Agree xs ys
-  agree_tail x y xs ys agree = record { same = λ place past in_xs in_ys. agree.same (suc place) past (omega arith) (omega arith) }
-
-  -- of two lists that agree, the shorter is the beginning of the longer
-  pub agree_prefix : (xs ys : List X) → Agree xs ys → length xs ≤ length ys → IsPrefix xs ys
-  agree_prefix [] ys agree le = prefix_nil ys
-  agree_prefix (x ∷ xs) [] agree le = absurd (omega arith)
-  agree_prefix (x ∷ xs) (y ∷ ys) agree le =
-      let tail : IsPrefix xs ys = agree_prefix xs ys (agree_tail x y xs ys agree) (omega arith) in
-      let head : x ≡ y = agree.same 0 x (omega arith) (omega arith) in
-      record { rest = tail.rest; whole = ap (λ t. y ∷ t) tail.whole ∙ ap (λ h. h ∷ (xs ++ tail.rest)) (sym head) }
-
-  pub prefix_agree : {xs ys : List X} → IsPrefix xs ys → Agree xs ys
-  prefix_agree {xs} p = record {
-    same = λ place past in_xs in_ys. sym (ap (λ t. get_or t place past) p.whole ∙ get_or_append_left xs p.rest past place in_xs);
-  }
+use Rattle.plain_lists.specs.Prefixes.{IsPrefix}
+use Rattle.plain_lists.specs.Keys.{selected}
+use Rattle.plain_lists.proofs.KeyLemmas.{filter_cons, filter_skip}
+use Rattle.plain_lists.proofs.PartLemmas.{drop_nothing}
 
 -- bursts end at their last beat
 pub burst_ends : (number len : ℕ) → EndsAtLast (burst_marks number len)

@@ -1,51 +1,17 @@
 -- The requests of a transaction are answered in their order.
-use Rattle.std.proofs.Common.{◌≡◌, ◌≢◌, ℕ, ◌+◌, ◌<◌, ◌≤◌, ◌==◌, suc, Bool, true, false, cond, List, [], ◌∷◌, ◌++◌, length, map, replicate, refl, sym, ◌∙◌, ap, subst, inl, inr, arith, append_assoc, append-nil, length-append}
-use Rattle.std.specs.Prelude.{filter}
+use Rattle.std.proofs.Common.{◌≡◌, ◌≢◌, ℕ, ◌+◌, ◌<◌, ◌≤◌, ◌==◌, suc, List, [], ◌∷◌, ◌++◌, length, map, replicate, refl, sym, ◌∙◌, ap, subst, inl, inr, arith, append_assoc, append-nil, length-append}
 use Rattle.std.proofs.lemmas.Bool.{cases_eq, cases_lt}
 use Rattle.std.proofs.lemmas.List.{length-map, length-replicate}
 use Rattle.std.proofs.lemmas.List.Concat.{flat_map-append}
-use Rattle.flight.specs.Entries.{of_key, count_of}
 use Rattle.axi_trail.specs.ContractLaws.{OwnRequestsInOrder, HeldHaveOneId}
 use Rattle.axi_trail.specs.LinkContracts.{OneIdAtATime}
 use Rattle.axi_trail.specs.Schedule.{Share}
-use Rattle.axi_trail.specs.Streams.{IsPrefix}
 use Rattle.axi_trail.specs.Words.{Asked, Reply, IsAnswered, InOrderOfId, beats_of, marks, marks_of, mark_of_reply, number_of_mark, number_of_asked, number_of_reply, id_of_asked, id_of_reply}
-use Rattle.axi_trail.proofs.FilterFacts.{of_key-of_key, of_key-append, of_key-cons, of_key-skip, of_key-push, of_key-push_other, of_key-map, length-by_counts, marks-of_number, length-marks, beats_of-append, ids_of_beats, length-ids_of_beats, count_of-ids_of_beats, count_of-append, count_of-replicate}
-use Rattle.axi_trail.proofs.PrefixFacts.{prefix_length, prefix_of_key}
-use Rattle.axi_trail.proofs.StreamFacts.{prefix_nil}
-
-module _ {X : Type 0} where
-  pub front_of : (xs ys r s : List X) → xs ++ r ≡ ys ++ s → length xs ≤ length ys → IsPrefix xs ys
-  front_of [] ys r s e le = prefix_nil ys
-  front_of (x ∷ xs) [] r s e le = absurd (omega arith)
-  front_of (x ∷ xs) (y ∷ ys) r s e le =
-      let head : y ≡ x = cc in
-      let tail : xs ++ r ≡ ys ++ s = cc in
-      let front : IsPrefix xs ys = front_of xs ys r s tail (omega arith) in
-      record { rest = front.rest; whole = ap (λ t. y ∷ t) front.whole ∙ ap (λ h. h ∷ (xs ++ front.rest)) head }
-
-  -- of two beginnings of a list, the shorter is a beginning of the longer
-  pub prefix_total : {xs ys zs : List X} → IsPrefix xs zs → IsPrefix ys zs → length xs ≤ length ys → IsPrefix xs ys
-  prefix_total {xs} {ys} p q le = front_of xs ys p.rest q.rest (sym p.whole ∙ q.whole) le
-
-  pub length-filter_le : (test : X → Bool) (xs : List X) → length (filter test xs) ≤ length xs
-  length-filter_le test [] = omega arith
-  length-filter_le test (x ∷ xs) =
-      let go : (b : Bool) → length (cond b (x ∷ filter test xs) (filter test xs)) ≤ suc (length xs) =
-      elim [ true ↦ omega (arith, length-filter_le test xs) | false ↦ omega (arith, length-filter_le test xs) ]
-      in go (test x)
-
-  -- a beginning that is longer by n than another one passes a test at most n times more
-  pub count_front : (test : X → Bool) (n : ℕ) (xs us rest vs : List X) → xs ++ rest ≡ us ++ vs → length xs ≤ length us + n → length (filter test xs) ≤ length (filter test us) + n
-  count_front test n [] us rest vs e le = omega arith
-  count_front test n (x ∷ xs) [] rest vs e le = omega (arith, length-filter_le test (x ∷ xs))
-  count_front test n (x ∷ xs) (u ∷ us) rest vs e le =
-      let head : x ≡ u = cc in
-      let tail : xs ++ rest ≡ us ++ vs = cc in
-      let shorter : length (filter test xs) ≤ length (filter test us) + n = count_front test n xs us rest vs tail (omega arith) in
-      let go : (b : Bool) → length (cond b (x ∷ filter test xs) (filter test xs)) ≤ length (cond b (u ∷ filter test us) (filter test us)) + n =
-      elim [ true ↦ omega arith | false ↦ omega arith ]
-      in subst (λ (y : X). length (cond (test x) (x ∷ filter test xs) (filter test xs)) ≤ length (cond (test y) (u ∷ filter test us) (filter test us)) + n) head (go (test x))
+use Rattle.axi_trail.proofs.FilterFacts.{marks-of_number, length-marks, beats_of-append, ids_of_beats, length-ids_of_beats, count_of-ids_of_beats}
+use Rattle.plain_lists.specs.Keys.{of_key, count_of}
+use Rattle.plain_lists.specs.Prefixes.{IsPrefix}
+use Rattle.plain_lists.proofs.KeyLemmas.{of_key-of_key, of_key-append, of_key-cons, of_key-skip, of_key-push, of_key-push_other, of_key-map, length-by_counts, count_of-append, count_of-replicate}
+use Rattle.plain_lists.proofs.PrefixLemmas.{prefix_length, prefix_of_key, count_front, prefix_total}
 
 -- the answers to a transaction under one ID, counted by their marks
 pub own_marks : (i t : ℕ) (replies : List Reply) →

@@ -3,38 +3,18 @@ use Rattle.std.proofs.Common.{◌≡◌, ◌≢◌, ℕ, ◌+◌, ◌-◌, ◌�
 use Rattle.std.proofs.lemmas.Bool.{cases_eq}
 use Rattle.std.proofs.lemmas.List.{length-map, length-replicate, take_at}
 use Rattle.std.proofs.lemmas.List.Concat.{flat_map-append}
-use Rattle.flight.specs.Entries.{of_key, count_of}
 use Rattle.axi_trail.specs.ContractLaws.{OldestHeldIsNextOfItsOwn}
 use Rattle.axi_trail.specs.LinkContracts.{OneIdAtATime}
 use Rattle.axi_trail.specs.Schedule.{Share}
-use Rattle.axi_trail.specs.Streams.{IsPrefix}
 use Rattle.axi_trail.specs.Words.{Mark, Asked, Reply, IsAnswered, InOrderOfId, held_asked, beats_of, marks, marks_of, mark_of_reply, number_of_mark, number_of_asked, number_of_reply, id_of_asked, id_of_reply, len_of_asked}
-use Rattle.axi_trail.proofs.FilterFacts.{of_key-of_key, of_key-append, of_key-cons, of_key-skip, of_key-push, length-by_counts, length-marks, beats_of-append, ids_of_beats, length-ids_of_beats, count_of-ids_of_beats, count_of-append, count_of-replicate, count_of-replicate_other}
+use Rattle.axi_trail.proofs.FilterFacts.{length-marks, beats_of-append, ids_of_beats, length-ids_of_beats, count_of-ids_of_beats}
 use Rattle.axi_trail.proofs.MarkFacts.{length_own, take_past}
 use Rattle.axi_trail.proofs.OrderFacts.{own_marks, own_ids, own_beats, at_most_asked, earlier, later}
 use Rattle.axi_trail.proofs.StepFacts.{own_pending, first_has_id}
 use Rattle.axi_trail.proofs.WaitingFacts.{pending-place}
-
--- the place in a list of an element of its filtered list, with what stands before it
-place_in : {X : Type 0} (key_of : X → ℕ) (key : ℕ) (xs front : List X) (x : X) (back : List X) → of_key key_of key xs ≡ front ++ x ∷ back →
-    (left : List X) × (right : List X) × (xs ≡ left ++ x ∷ right) × (of_key key_of key left ≡ front)
-place_in key_of key [] [] x back e = absurd (cc)
-place_in key_of key [] (f ∷ front) x back e = absurd (cc)
-place_in {X} key_of key (y ∷ xs) front x back e = elim (cases_eq (key_of y) key) [
-  | inr ne ↦
-      let found : (left : List X) × (right : List X) × (xs ≡ left ++ x ∷ right) × (of_key key_of key left ≡ front) = place_in key_of key xs front x back (sym (of_key-skip key_of key y xs ne) ∙ e) in
-      (y ∷ found.0, found.1, ap (λ t. y ∷ t) found.2, of_key-skip key_of key y found.0 ne ∙ found.3)
-  | inl own ↦ after y xs front own (sym (of_key-cons key_of key y xs own) ∙ e) (λ front' e'. place_in key_of key xs front' x back e')
-]
-  where
-    after : (y : X) (xs front : List X) → key_of y ≡ key → y ∷ of_key key_of key xs ≡ front ++ x ∷ back →
-        ((front' : List X) → of_key key_of key xs ≡ front' ++ x ∷ back → (left : List X) × (right : List X) × (xs ≡ left ++ x ∷ right) × (of_key key_of key left ≡ front')) →
-        (left : List X) × (right : List X) × (y ∷ xs ≡ left ++ x ∷ right) × (of_key key_of key left ≡ front)
-    after y xs [] own h rest = ([], xs, ap (λ t. t ∷ xs) (let head : y ≡ x = cc in head), refl)
-    after y xs (f ∷ front) own h rest =
-        let found : (left : List X) × (right : List X) × (xs ≡ left ++ x ∷ right) × (of_key key_of key left ≡ front) = rest front (cc) in
-        let head : y ≡ f = cc in
-        (y ∷ found.0, found.1, ap (λ t. y ∷ t) found.2, of_key-cons key_of key y found.0 own ∙ ap (λ t. y ∷ t) found.3 ∙ ap (λ t. t ∷ front) head)
+use Rattle.plain_lists.specs.Keys.{of_key, count_of}
+use Rattle.plain_lists.specs.Prefixes.{IsPrefix}
+use Rattle.plain_lists.proofs.KeyLemmas.{of_key-of_key, of_key-append, of_key-cons, of_key-skip, of_key-push, length-by_counts, count_of-append, count_of-replicate, count_of-replicate_other, place_in}
 
 -- how many beats of a transaction are among the first marks: all of its requests before one, and so many of it
 own_up_to : (t done : ℕ) (front : List Asked) (a : Asked) (rest : List Asked) (ms : List Mark) → IsPrefix ms (marks (front ++ a ∷ rest)) → length ms ≡ beats_of front + done → done ≤ a.len → a.number ≡ t →

@@ -7,14 +7,13 @@ use Rattle.axi_beats.specs.declared.beat.RBeat.{RBeat}
 use Rattle.axi_trail.specs.ContractLaws.{AskingGoesDown, AnsweringGoesUp, AskedThroughLink, AnsweredThroughLink}
 use Rattle.axi_trail.specs.LinkContracts.{Requests, without_id}
 use Rattle.axi_trail.specs.Schedule.{Share, bytes_on}
-use Rattle.axi_trail.specs.Streams.{IsPrefix}
 use Rattle.axi_trail.specs.Trail.{IsBehind, IsFifo, trail_above, trail_below, seen_above, seen_below}
 use Rattle.axi_trail.specs.Words.{Mark, Asked, Reply, IsAnswered, InOrderOfId, marks_of, completed, mark_of_data, mark_of_reply, write_asked, burst_asked, write_reply, read_reply, number_of_address, number_of_data, number_of_response, number_of_read_data, id_of_asked, id_of_reply}
-use Rattle.axi_link.specs.LinkWords.{link_of}
 use Rattle.axi_trail.proofs.TrailFacts.{links_are_queues, taken_was_put_before, heads_are_behind}
-use Rattle.axi_trail.proofs.StreamFacts.{prefix_itself, prefix_nil, prefix_trans}
-use Rattle.axi_trail.proofs.PrefixFacts.{prefix_after, prefix_length, prefix_take, prefix_filter, prefix_of_key, prefix_map, prefix_flat_map, prefix_of_same, All_front, Agree_fronts}
+use Rattle.plain_lists.specs.Prefixes.{IsPrefix}
+use Rattle.plain_lists.proofs.PrefixLemmas.{prefix_itself, prefix_nil, prefix_trans, prefix_after, prefix_length, prefix_take, prefix_filter, prefix_of_key, prefix_map, prefix_flat_map, prefix_of_same, All_front, Agree_fronts}
 use Rattle.axi_beats.specs.Lanes.{Span}
+use Rattle.axi_link.specs.LinkWords.{link_of}
 
 -- an answered request stays answered
 pub answered_grows : (before : List Asked) (a : Asked) {replies more : List Reply} → IsPrefix replies more → IsAnswered before a replies → IsAnswered before a more

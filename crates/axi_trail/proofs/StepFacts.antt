@@ -3,18 +3,18 @@ use Rattle.std.proofs.Common.{◌≡◌, ℕ, ◌-◌, ◌<◌, ◌≤◌, ◌==
 use Rattle.std.specs.Prelude.{flat_map}
 use Rattle.std.proofs.lemmas.Bool.{ne_eqb, cases_eq, cases_lt, cases_Bool}
 use Rattle.std.proofs.lemmas.List.{length-map, map-append, drop_at, take_at}
-use Rattle.flight.specs.Entries.{of_key, count_of}
-use Rattle.axi_trail.specs.Streams.{Agree, IsPrefix, selected}
 use Rattle.axi_trail.specs.Waiting.{Waiting, fresh, waiting_shown, pending, advanced, answered_once, answered_by, held}
 use Rattle.axi_trail.specs.Words.{Mark, Asked, Reply, InOrderOfId, owed_marks, next_mark, next_reply, held_asked, pending_asked, burst_marks, marks, beats_of, mark_of_reply, number_of_mark, number_of_asked, number_of_reply, number_of_waiting, id_of_waiting, id_of_asked, id_of_reply, len_of_asked}
 use Rattle.axi_trail.specs.WordLaws.{NextBeat, NextBeatOfSelected, BeatKeepsOrder, NextAnswer, AnswerKeepsOrder, LaterRequestsAreHeld, HeldOfSelected}
-use Rattle.axi_trail.proofs.FilterFacts.{filter_cons, filter_skip, filter_map, filter-push, filter-push_skip, of_key-cons, of_key-skip, of_key-push, of_key-push_other, length-marks}
+use Rattle.axi_trail.proofs.FilterFacts.{length-marks}
 use Rattle.axi_trail.proofs.HeldFacts.{once-own, once-other, held-answer, held-request, held-of_id, count_of-replies}
-use Rattle.axi_trail.proofs.MarkFacts.{agree_prefix, pending_owe_the_rest, pending_of_selected}
-use Rattle.axi_trail.proofs.PrefixFacts.{prefix_length}
+use Rattle.axi_trail.proofs.MarkFacts.{pending_owe_the_rest, pending_of_selected}
 use Rattle.axi_trail.proofs.SlackFacts.{in_order_goes_up}
-use Rattle.axi_trail.proofs.StreamFacts.{prefix_append, prefix_itself}
 use Rattle.axi_trail.proofs.WaitingFacts.{pending-past, pending-within, pending-none, none-pending, advanced-last, advanced-more}
+use Rattle.plain_lists.specs.Keys.{of_key, count_of, selected}
+use Rattle.plain_lists.specs.Prefixes.{Agree, IsPrefix}
+use Rattle.plain_lists.proofs.KeyLemmas.{filter_cons, filter_skip, filter_map, filter-push, filter-push_skip, of_key-cons, of_key-skip, of_key-push, of_key-push_other}
+use Rattle.plain_lists.proofs.PrefixLemmas.{agree_prefix, prefix_length, prefix_append, prefix_itself}
 
 -- a pending request lacks its last beat at least
 pub pending-lacks : {X : Type 0} (len_of : X → ℕ) (count : ℕ) (xs : List X) (w : Waiting X) (others : List (Waiting X)) → pending len_of count xs ≡ w ∷ others → w.done ≤ len_of w.request

@@ -2,12 +2,13 @@
 use Rattle.std.proofs.Common.{◌≡◌, ℕ, suc, true, List, ◌++◌, take, refl, ◌∙◌, ap}
 use Rattle.axi_link.specs.LinkView.{LinkView}
 use Rattle.axi_link.specs.Moves.{takes_from, appended}
-use Rattle.axi_link.specs.LinkWords.{link_of}
 use Rattle.axi_link.specs.declared.out.Out.{Out}
-use Rattle.axi_trail.specs.Streams.{IsPrefix}
 use Rattle.axi_trail.specs.Trail.{trail_above, trail_below, IsQueue, IsLinkRun, IsFifo, IsBehind}
 use Rattle.axi_trail.specs.TrailLaws.{TrailsGrow, LinksAreQueues, TakenWasPutBefore, HeadsAreBehind, BehindIsTransitive}
-use Rattle.axi_trail.proofs.StreamFacts.{prefix_append, prefix_trans, prefix_taken, queue_is_rest, taken_was_put}
+use Rattle.axi_trail.proofs.StreamFacts.{prefix_taken, queue_is_rest, taken_was_put}
+use Rattle.plain_lists.specs.Prefixes.{IsPrefix}
+use Rattle.plain_lists.proofs.PrefixLemmas.{prefix_append, prefix_trans}
+use Rattle.axi_link.specs.LinkWords.{link_of}
 
 pub trails_grow : TrailsGrow
 trails_grow outs links n number = (refl, refl, refl, refl)

@@ -1,14 +1,14 @@
 -- What holds of every link that keeps the two contracts.
 use Rattle.std.specs.Prelude.{◌≡◌, ◌+◌, ◌≤◌, ◌↔◌, ◌++◌, ◌∷◌, [], ℕ, suc, List, length, map, take}
 use Rattle.axi_link.specs.LinkView.{LinkView}
-use Rattle.axi_link.specs.LinkWords.{link_of}
 use Rattle.axi_link.specs.declared.out.Out.{Out}
-use Rattle.flight.specs.Entries.{of_key}
 use Rattle.axi_trail.specs.LinkContracts.{Asks, Answers, OneIdAtATime}
 use Rattle.axi_trail.specs.Schedule.{Share, Schedule, Progress, Grows, SameChain}
 use Rattle.axi_trail.specs.Trail.{Beats, IsBehind, IsLinkRun, trail_above, trail_below, seen_above, seen_below}
 use Rattle.axi_trail.specs.Waiting.{Waiting}
 use Rattle.axi_trail.specs.Words.{Asked, Reply, IsAnswered, InOrderOfId, held_asked, beats_of, burst_asked, number_of_asked, number_of_reply, number_of_response, number_of_data, id_of_waiting}
+use Rattle.plain_lists.specs.Keys.{of_key}
+use Rattle.axi_link.specs.LinkWords.{link_of}
 
 -- what is asked at the upper end is asked at the lower end, which has taken less and answered more
 abbrev pub AskingGoesDown : Type 0

@@ -3,7 +3,6 @@ pub mod Example
 pub mod LinkContracts
 pub mod NetworkLaws
 pub mod Schedule
-pub mod Streams
 pub mod Trail
 pub mod TrailLaws
 pub mod Waiting

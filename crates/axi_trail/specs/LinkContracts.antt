@@ -3,11 +3,11 @@
 -- the channels).
 use Rattle.std.specs.Prelude.{◌≡◌, ◌≢◌, ◌<◌, ◌≤◌, ◌^◌, ◌++◌, ◌∷◌, ℕ, List, Bool, IsTrue, All, length, map, flat_map}
 use Rattle.axi_beats.specs.declared.beat.Addr.{Addr}
-use Rattle.flight.specs.Entries.{of_key}
 use Rattle.axi_trail.specs.Schedule.{Share, Schedule, Progress, SameChain, ComesBefore, bytes_on}
-use Rattle.axi_trail.specs.Streams.{IsPrefix, Agree}
 use Rattle.axi_trail.specs.Trail.{Beats}
 use Rattle.axi_trail.specs.Words.{Asked, Reply, IsAnswered, InOrderOfId, completed, data_marks, announced_marks, writes_asked, write_replies, reads_asked, read_replies, write_asked, burst_asked, number_of_address, number_of_asked, number_of_data, number_of_response, number_of_read_data}
+use Rattle.plain_lists.specs.Keys.{of_key}
+use Rattle.plain_lists.specs.Prefixes.{IsPrefix, Agree}
 
 -- the address without its ID, which nodes on the way may change
 abbrev pub without_id : Addr → Addr

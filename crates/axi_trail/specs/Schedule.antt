@@ -1,11 +1,11 @@
 -- What one link has to carry for each transaction, as it follows from the network and the traffic alone.
 use Rattle.std.specs.Prelude.{◌≡◌, ◌<◌, ◌+◌, ◌++◌, ◌∷◌, [], ℕ, List, Bool, IsTrue, slice_range}
-use Rattle.axi_beats.specs.Lanes.{Span}
 use Rattle.axi_beats.specs.declared.beat.Addr.{Addr}
 use Rattle.axi_beats.specs.declared.beat.WBeat.{WBeat}
 use Rattle.axi_beats.specs.declared.beat.RBeat.{RBeat}
 use Rattle.axi_beats.specs.declared.response.Resp.{Resp}
-use Rattle.axi_trail.specs.Streams.{IsPrefix}
+use Rattle.plain_lists.specs.Prefixes.{IsPrefix}
+use Rattle.axi_beats.specs.Lanes.{Span}
 
 -- One transaction on one link, in one direction; all lists are empty where it doesn't come by.
 pub record Share : Type 0 where

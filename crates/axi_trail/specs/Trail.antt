@@ -1,14 +1,15 @@
 -- Trails: all beats that one end of a link has passed (Arm IHI 0022, handshake process).
-use Rattle.std.specs.Prelude.{◌≡◌, ◌++◌, [], ℕ, suc, List, Bool, take}
+use Rattle.std.specs.Prelude.{◌≡◌, ◌++◌, [], ℕ, suc, List, Bool, true, false, take}
 use Rattle.axi_beats.specs.declared.beat.Addr.{Addr}
 use Rattle.axi_beats.specs.declared.beat.WBeat.{WBeat}
 use Rattle.axi_beats.specs.declared.beat.BBeat.{BBeat}
 use Rattle.axi_beats.specs.declared.beat.RBeat.{RBeat}
 use Rattle.axi_link.specs.LinkView.{LinkView, empty_link}
 use Rattle.axi_link.specs.Moves.{takes_from, appended, without_head, link_after}
-use Rattle.axi_link.specs.LinkWords.{link_of}
 use Rattle.axi_link.specs.declared.out.Out.{Out}
-use Rattle.axi_trail.specs.Streams.{over, beat_taken, IsPrefix}
+use Rattle.plain_lists.specs.Rounds.{over}
+use Rattle.plain_lists.specs.Prefixes.{IsPrefix}
+use Rattle.axi_link.specs.LinkWords.{link_of}
 
 -- the beats that one end of a link has passed on each channel, oldest first
 pub record Beats : Type 0 where
@@ -28,6 +29,11 @@ no_beats = record { aw = []; w = []; b = []; ar = []; r = [] }
 -- the first beats, and then the others
 abbrev pub joined : Beats → Beats → Beats
 joined first more = record { aw = first.aw ++ more.aw; w = first.w ++ more.w; b = first.b ++ more.b; ar = first.ar ++ more.ar; r = first.r ++ more.r }
+
+-- the head of a queue, where it is taken
+abbrev pub beat_taken : {X : Type 0} → Bool → List X → List X
+beat_taken true queue = take 1 queue
+beat_taken false queue = []
 
 -- what the node above a link moves on it in a round: it puts addresses and write data, and takes answers
 abbrev pub moved_above : Out → List LinkView → Trail

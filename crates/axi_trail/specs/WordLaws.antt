@@ -1,48 +1,11 @@
 -- What holds of requests, their write data and their answers, whatever a node does. Laws of lists of any type are
 -- stated here for lists of one type, such as numbers or addresses.
-use Rattle.std.specs.Prelude.{◌≡◌, ◌≢◌, ℕ, Bool, true, suc, ◌≤◌, ◌++◌, ◌∷◌, [], List, Contains, length, map, take, drop, flat_map}
+use Rattle.std.specs.Prelude.{◌≡◌, ℕ, Bool, true, suc, ◌≤◌, ◌++◌, ◌∷◌, [], List, Contains, length, map, take, drop, flat_map}
 use Rattle.axi_beats.specs.declared.beat.Addr.{Addr}
-use Rattle.flight.specs.Entries.{of_key, count_of, left_after}
-use Rattle.axi_trail.specs.Streams.{IsPrefix, Agree, over, picked, selected}
 use Rattle.axi_trail.specs.Waiting.{Waiting, fresh, request_of, waiting_shown, beats_by, pending, complete, advanced, answered_once, held}
 use Rattle.axi_trail.specs.Words.{Mark, Asked, Reply, IsAnswered, InOrderOfId, EndsAtLast, owed_marks, next_mark, next_reply, held_asked, pending_asked, marks, marks_of, completed, number_of_mark, number_of_asked, number_of_reply, number_of_waiting, id_of_waiting, id_of_asked, len_of_asked}
-
--- Beats of a number or an ID.
-
--- one more beat of the key is the last one of the key, and one of another key is none of it
-abbrev pub OneMoreOfKey : Type 0
-OneMoreOfKey =
-    (key_of : ℕ → ℕ) (key : ℕ) (xs : List ℕ) (x : ℕ) →
-    (key_of x ≡ key → of_key key_of key (xs ++ x ∷ []) ≡ of_key key_of key xs ++ x ∷ [])
-    × (key_of x ≢ key → of_key key_of key (xs ++ x ∷ []) ≡ of_key key_of key xs)
-
--- the beats of a key in the beginning of a list are the beginning of those in the list
-abbrev pub BeginningOfKey : Type 0
-BeginningOfKey = (key_of : ℕ → ℕ) (key : ℕ) (xs ys : List ℕ) → IsPrefix xs ys → IsPrefix (of_key key_of key xs) (of_key key_of key ys)
-
--- it is all the same whether beats are told apart by number first or by ID first
-abbrev pub KeysInEitherOrder : Type 0
-KeysInEitherOrder = (id_of number_of : ℕ → ℕ) (id number : ℕ) (xs : List ℕ) → of_key id_of id (of_key number_of number xs) ≡ of_key number_of number (of_key id_of id xs)
-
--- of two lists that agree, the shorter is the beginning of the longer
-abbrev pub AgreeingIsBeginning : Type 0
-AgreeingIsBeginning = (xs ys : List Mark) → Agree xs ys → length xs ≤ length ys → IsPrefix xs ys
-
--- a beginning agrees with its list, and so does each beginning of either
-abbrev pub BeginningsAgree : Type 0
-BeginningsAgree =
-    (xs ys us vs : List Mark) →
-    (IsPrefix xs ys → Agree xs ys) × (IsPrefix us xs → IsPrefix vs ys → Agree xs ys → Agree us vs)
-
--- what goes through a list beat by beat, done to all rounds together, gives what it gives of each round, in order
-abbrev pub RoundsOneByOne : Type 0
-RoundsOneByOne =
-    (f : List ℕ → List ℕ) → f [] ≡ [] → ((xs ys : List ℕ) → f (xs ++ ys) ≡ f xs ++ f ys) →
-    (added given : ℕ → List ℕ) → ((n : ℕ) → f (added n) ≡ given n) → (n : ℕ) → f (over added n) ≡ over given n
-
--- what is picked of two lists of pairs is what is picked of the first one, and then of the second one
-abbrev pub PickedOfMore : Type 0
-PickedOfMore = (selects : ℕ → Bool) (pairs more : List (ℕ × ℕ)) → picked selects (pairs ++ more) ≡ picked selects pairs ++ picked selects more
+use Rattle.plain_lists.specs.Keys.{of_key, count_of, left_after, selected}
+use Rattle.plain_lists.specs.Prefixes.{IsPrefix, Agree}
 
 -- Marks.
 

@@ -4,10 +4,10 @@ use Rattle.axi_beats.specs.declared.beat.Addr.{Addr}
 use Rattle.axi_beats.specs.declared.beat.WBeat.{WBeat}
 use Rattle.axi_beats.specs.declared.beat.BBeat.{BBeat}
 use Rattle.axi_beats.specs.declared.beat.RBeat.{RBeat}
-use Rattle.flight.specs.Entries.{of_key}
-use Rattle.axi_trail.specs.Streams.{IsPrefix}
 use Rattle.axi_trail.specs.Trail.{Beats}
 use Rattle.axi_trail.specs.Waiting.{Waiting, beats_by, held, pending}
+use Rattle.plain_lists.specs.Keys.{of_key}
+use Rattle.plain_lists.specs.Prefixes.{IsPrefix}
 
 -- the mark of a beat of a burst: the number of its transaction, and whether it is the last beat of its burst
 pub record Mark : Type 0 where

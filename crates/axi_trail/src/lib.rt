@@ -15,4 +15,4 @@ mod word_laws;
 pub use contract_laws::{example_of_contracts, laws_of_contracts};
 pub use network_laws::law_of_rounds;
 pub use trail_laws::laws_of_trails;
-pub use word_laws::{laws_of_beats, laws_of_held, laws_of_pending};
+pub use word_laws::{laws_of_held, laws_of_marks, laws_of_pending};

@@ -1,26 +1,12 @@
 //! What holds of requests, their write data and their answers, whatever a node does.
 
-ghost use Rattle.axi_trail.specs.WordLaws.{OneMoreOfKey, BeginningOfKey, KeysInEitherOrder, AgreeingIsBeginning, BeginningsAgree, RoundsOneByOne, PickedOfMore, OneMoreBurst, BeginningOfMarks, MarksOfSelected, BurstsEndAtLast};
+ghost use Rattle.axi_trail.specs.WordLaws.{OneMoreBurst, BeginningOfMarks, MarksOfSelected, BurstsEndAtLast};
 ghost use Rattle.axi_trail.specs.WordLaws.{BeatOfFirstPending, RequestIsPending, PendingAreLast, NonePending, PendingOweTheRest, PendingOfSelected, PendingOfShown, CompletedAreComplete, NextBeat, NextBeatOfSelected, BeatKeepsOrder};
 ghost use Rattle.axi_trail.specs.WordLaws.{AnswerOfOldestHeld, RequestIsHeld, HeldOfId, HeldOfSingles, HeldOfShown, HeldOfSelected, LaterRequestsAreHeld, NextAnswer, AnswerKeepsOrder, UnansweredIsHeld, NoneHeldIsAnswered};
 
-/// The laws of beats of one number or ID, of beginnings, and of the marks of bursts. The mark of a
-/// beat is the number of its transaction, and whether it is the last beat of its burst.
-pub fn laws_of_beats()
-    // Beats of one number or ID.
-    ensures more { OneMoreOfKey }
-    ensures beginning { BeginningOfKey }
-    ensures either { KeysInEitherOrder }
-
-    // Lists of which one is the beginning of the other.
-    ensures agreeing { AgreeingIsBeginning }
-    ensures agree { BeginningsAgree }
-
-    // What rounds add.
-    ensures rounds { RoundsOneByOne }
-    ensures picks { PickedOfMore }
-
-    // The marks of bursts.
+/// The laws of the marks of bursts. The mark of a beat is the number of its transaction, and whether
+/// it is the last beat of its burst.
+pub fn laws_of_marks()
     ensures burst { OneMoreBurst }
     ensures marks { BeginningOfMarks }
     ensures selection { MarksOfSelected }

@@ -2,3 +2,6 @@ pub mod Lists
 pub mod Forms
 pub mod LinkForms
 pub mod PlanFacts
+pub mod Uppers
+pub mod Orders
+pub mod Paths

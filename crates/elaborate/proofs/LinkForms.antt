@@ -8,10 +8,10 @@ use Rattle.node_graph.proofs.Levels.{in-append}
 use Rattle.node_graph.proofs.Members.{in-numbers, repeats-each_once}
 use Rattle.node_graph.proofs.Ways.{below-above}
 use Rattle.topology.proofs.AcceptedFacts.{below-targets}
-use Rattle.topology.specs.Document.{DocumentNode, graph_of, named, names_of, node_at, uppers_of}
+use Rattle.topology.specs.Document.{DocumentNode, graph_of, is_manager, named, names_of, node_at, uppers_of}
 use Rattle.topology.specs.declared.kind.Kind.{Kind}
 use Rattle.topology.specs.declared.kind.Kind.TheVariants as kind
-use Rattle.elaborate.specs.Laws.{is_mux}
+use Rattle.elaborate.specs.Laws.{is_first, is_mux}
 use Rattle.elaborate.specs.Plan.{PlanNode, demux_itself, entrance, entrances, error_part, first_part, input_demux, is_crossbar, itself, parts_by_kind, plan_nodes, split_part, targets}
 use Rattle.elaborate.specs.declared.part.Part.{Part}
 use Rattle.elaborate.specs.declared.part.Part.TheVariants as part
@@ -81,6 +81,7 @@ pub record Entered (nodes : List DocumentNode) (to number : ℕ) : Type 0 where
   pub document : node.document ≡ to
   pub outer : is_behind node.part ≡ false
   pub joint : is_mux node.part ≡ is_mux_kind (node_at nodes to).kind
+  pub first : is_first node.part ≡ is_manager (node_at nodes to).kind
 
 abbrev entrance_by : List DocumentNode → ℕ → ℕ → Kind → ℕ
 entrance_by nodes upper to k = if is_crossbar k then first_part nodes to + 2 * place_in (uppers_of nodes to) upper else first_part nodes to
@@ -88,14 +89,14 @@ entrance_by nodes upper to k = if is_crossbar k then first_part nodes to + 2 * p
 Some-part : (p q : Part) → Some p ≡ Some q → p ≡ q
 Some-part p q e = cc
 
-own-outer : (k : Kind) (p : Part) → own_part k ≡ Some p → (is_behind p ≡ false) × (is_mux p ≡ is_mux_kind k)
-own-outer kind.Manager p e = let same : p ≡ part.Manager = sym (Some-part part.Manager p e) in (ap is_behind same, ap is_mux same)
-own-outer kind.Memory p e = let same : p ≡ part.Memory = sym (Some-part part.Memory p e) in (ap is_behind same, ap is_mux same)
-own-outer kind.LiteMemory p e = let same : p ≡ part.LiteMemory = sym (Some-part part.LiteMemory p e) in (ap is_behind same, ap is_mux same)
-own-outer kind.Slice p e = let same : p ≡ part.Slice = sym (Some-part part.Slice p e) in (ap is_behind same, ap is_mux same)
-own-outer kind.Mux p e = let same : p ≡ part.Mux = sym (Some-part part.Mux p e) in (ap is_behind same, ap is_mux same)
-own-outer kind.Remap p e = let same : p ≡ part.Remap = sym (Some-part part.Remap p e) in (ap is_behind same, ap is_mux same)
-own-outer kind.Up p e = let same : p ≡ part.Up = sym (Some-part part.Up p e) in (ap is_behind same, ap is_mux same)
+own-outer : (k : Kind) (p : Part) → own_part k ≡ Some p → (is_behind p ≡ false) × (is_mux p ≡ is_mux_kind k) × (is_first p ≡ is_manager k)
+own-outer kind.Manager p e = let same : p ≡ part.Manager = sym (Some-part part.Manager p e) in (ap is_behind same, ap is_mux same, ap is_first same)
+own-outer kind.Memory p e = let same : p ≡ part.Memory = sym (Some-part part.Memory p e) in (ap is_behind same, ap is_mux same, ap is_first same)
+own-outer kind.LiteMemory p e = let same : p ≡ part.LiteMemory = sym (Some-part part.LiteMemory p e) in (ap is_behind same, ap is_mux same, ap is_first same)
+own-outer kind.Slice p e = let same : p ≡ part.Slice = sym (Some-part part.Slice p e) in (ap is_behind same, ap is_mux same, ap is_first same)
+own-outer kind.Mux p e = let same : p ≡ part.Mux = sym (Some-part part.Mux p e) in (ap is_behind same, ap is_mux same, ap is_first same)
+own-outer kind.Remap p e = let same : p ≡ part.Remap = sym (Some-part part.Remap p e) in (ap is_behind same, ap is_mux same, ap is_first same)
+own-outer kind.Up p e = let same : p ≡ part.Up = sym (Some-part part.Up p e) in (ap is_behind same, ap is_mux same, ap is_first same)
 own-outer other p e = absurd (None-Some p e)
 
 pub at-kind : (nodes : List DocumentNode) (place inner number : ℕ) (node : PlanNode) (k : Kind) → place < length nodes → (node_at nodes place).kind ≡ k → slice_get (parts_by_kind nodes place k) inner ≡ Some node → number ≡ first_part nodes place + inner →
@@ -105,7 +106,7 @@ at-kind nodes place inner number node k less is at sum =
 
 entered-own : (nodes : List DocumentNode) (upper to : ℕ) (k : Kind) (p : Part) → to < length nodes → (node_at nodes to).kind ≡ k → own_part k ≡ Some p → Entered nodes to (first_part nodes to)
 entered-own nodes upper to k p less is own =
-    record { node = itself nodes to p; at = at-kind nodes to 0 (first_part nodes to) (itself nodes to p) k less is (get-own nodes to p k own) (omega arith); document = refl; outer = (own-outer k p own).0; joint = (own-outer k p own).1 ∙ ap is_mux_kind (sym is) }
+    record { node = itself nodes to p; at = at-kind nodes to 0 (first_part nodes to) (itself nodes to p) k less is (get-own nodes to p k own) (omega arith); document = refl; outer = (own-outer k p own).0; joint = (own-outer k p own).1 ∙ ap is_mux_kind (sym is); first = (own-outer k p own).2 ∙ ap is_manager (sym is) }
 
 entered-by : (nodes : List DocumentNode) (upper to : ℕ) (k : Kind) → to < length nodes → (node_at nodes to).kind ≡ k → is_in (uppers_of nodes to) upper ≡ true → Entered nodes to (entrance_by nodes upper to k)
 entered-by nodes upper to kind.Manager less is there = entered-own nodes upper to kind.Manager part.Manager less is refl
@@ -116,11 +117,11 @@ entered-by nodes upper to kind.Mux less is there = entered-own nodes upper to ki
 entered-by nodes upper to kind.Remap less is there = entered-own nodes upper to kind.Remap part.Remap less is refl
 entered-by nodes upper to kind.Up less is there = entered-own nodes upper to kind.Up part.Up less is refl
 entered-by nodes upper to kind.Down less is there =
-    record { node = split_part nodes to; at = at-kind nodes to 0 (first_part nodes to) (split_part nodes to) kind.Down less is refl (omega arith); document = refl; outer = refl; joint = ap is_mux_kind (sym is) }
+    record { node = split_part nodes to; at = at-kind nodes to 0 (first_part nodes to) (split_part nodes to) kind.Down less is refl (omega arith); document = refl; outer = refl; joint = ap is_mux_kind (sym is); first = ap is_manager (sym is) }
 entered-by nodes upper to kind.Lite less is there =
-    record { node = split_part nodes to; at = at-kind nodes to 0 (first_part nodes to) (split_part nodes to) kind.Lite less is refl (omega arith); document = refl; outer = refl; joint = ap is_mux_kind (sym is) }
+    record { node = split_part nodes to; at = at-kind nodes to 0 (first_part nodes to) (split_part nodes to) kind.Lite less is refl (omega arith); document = refl; outer = refl; joint = ap is_mux_kind (sym is); first = ap is_manager (sym is) }
 entered-by nodes upper to kind.Demux less is there =
-    record { node = demux_itself nodes to; at = at-kind nodes to 0 (first_part nodes to) (demux_itself nodes to) kind.Demux less is refl (omega arith); document = refl; outer = refl; joint = ap is_mux_kind (sym is) }
+    record { node = demux_itself nodes to; at = at-kind nodes to 0 (first_part nodes to) (demux_itself nodes to) kind.Demux less is refl (omega arith); document = refl; outer = refl; joint = ap is_mux_kind (sym is); first = ap is_manager (sym is) }
 entered-by nodes upper to kind.Crossbar less is there =
     let i : ℕ = place_in (uppers_of nodes to) upper in
     record {
@@ -130,6 +131,7 @@ entered-by nodes upper to kind.Crossbar less is there =
       document = refl;
       outer = refl;
       joint = ap is_mux_kind (sym is);
+      first = ap is_manager (sym is);
     }
 
 pub entered : (nodes : List DocumentNode) (upper to : ℕ) → to < length nodes → is_in (uppers_of nodes to) upper ≡ true → Entered nodes to (entrance nodes upper to)

@@ -104,7 +104,7 @@ entered-target nodes place to number less there is =
     subst (Entered nodes to) (sym is) (entered nodes place to (target-known nodes (node_at nodes place) to there) (target-upper nodes place to less there))
 
 -- the mux of a crossbar's target
-target-at : (nodes : List DocumentNode) (place j number : ℕ) → place < length nodes → (node_at nodes place).kind ≡ kind.Crossbar → j < length (targets nodes place) → number ≡ first_part nodes place + (2 * length (uppers_of nodes place) + j) →
+pub target-at : (nodes : List DocumentNode) (place j number : ℕ) → place < length nodes → (node_at nodes place).kind ≡ kind.Crossbar → j < length (targets nodes place) → number ≡ first_part nodes place + (2 * length (uppers_of nodes place) + j) →
     slice_get (plan_nodes nodes) number ≡ Some (target_mux nodes place j)
 target-at nodes place j number less is within sum =
     at-kind nodes place (2 * length (uppers_of nodes place) + j) number (target_mux nodes place j) kind.Crossbar less is (get-target nodes place j within) sum

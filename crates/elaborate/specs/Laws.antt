@@ -2,6 +2,7 @@
 use Rattle.std.specs.Prelude.{◌≡◌, ◌<◌, ℕ, List, Some, Bool, false, true, length, slice_get}
 use Rattle.node_graph.specs.Graph.{is_in, nodes_below}
 use Rattle.node_graph.specs.Laws.{IsAcyclic}
+use Rattle.node_graph.specs.Order.{repeats}
 use Rattle.topology.specs.Document.{DocumentNode}
 use Rattle.topology.specs.Refused.{IsAccepted}
 use Rattle.elaborate.specs.Plan.{PlanNode, plan_graph, plan_nodes}
@@ -30,3 +31,19 @@ abbrev pub OneIsAbove : Type 0
 OneIsAbove =
     (nodes : List DocumentNode) → IsAccepted nodes → (lower : ℕ) (node : PlanNode) → slice_get (plan_nodes nodes) lower ≡ Some node → is_mux node.part ≡ false →
     (one other : ℕ) → is_in (nodes_below (plan_graph nodes) one) lower ≡ true → is_in (nodes_below (plan_graph nodes) other) lower ≡ true → one ≡ other
+
+-- at least one does so above each that isn't a manager
+abbrev pub SomeIsAbove : Type 0
+SomeIsAbove =
+    (nodes : List DocumentNode) → IsAccepted nodes → (lower : ℕ) (node : PlanNode) → slice_get (plan_nodes nodes) lower ≡ Some node → is_first node.part ≡ false →
+    (upper : ℕ) × (is_in (nodes_below (plan_graph nodes) upper) lower ≡ true)
+
+-- and none above a manager
+abbrev pub NoneIsAbove : Type 0
+NoneIsAbove =
+    (nodes : List DocumentNode) → IsAccepted nodes → (lower : ℕ) (node : PlanNode) → slice_get (plan_nodes nodes) lower ≡ Some node → is_first node.part ≡ true →
+    (upper : ℕ) → is_in (nodes_below (plan_graph nodes) upper) lower ≡ false
+
+-- no plan node stands twice below another
+abbrev pub NoneIsTwiceBelow : Type 0
+NoneIsTwiceBelow = (nodes : List DocumentNode) (upper : ℕ) → repeats (nodes_below (plan_graph nodes) upper) ≡ false

@@ -1,4 +1,5 @@
 pub mod Plan
 pub mod Path
 pub mod Laws
+pub mod PathLaws
 pub mod KnownPlans

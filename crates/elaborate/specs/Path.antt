@@ -1,11 +1,11 @@
--- The path of an address over a plan.
+-- The path of an address over a plan, and the order of its nodes.
 use Rattle.std.specs.Prelude.{◌-◌, ℕ, zero, suc, List, [], ◌∷◌, Option, length, map, slice_get, slice_index_or, unwrap_or}
 use Rattle.std.specs.Option.{option_and_then, option_map_or}
 use Rattle.address_map.specs.Regions.{serving_port}
 use Rattle.address_map.specs.declared.region.Region.{Region}
-use Rattle.node_graph.specs.Order.{place_in}
+use Rattle.node_graph.specs.Order.{order_of, place_in}
 use Rattle.topology.specs.Document.{DocumentNode, NamedRegion, named, node_at, targets_of}
-use Rattle.elaborate.specs.Plan.{PlanNode, first_part, plan_nodes}
+use Rattle.elaborate.specs.Plan.{PlanNode, first_part, plan_graph, plan_nodes}
 use Rattle.elaborate.specs.declared.part.Part.{Part}
 use Rattle.elaborate.specs.declared.part.Part.TheVariants as part
 
@@ -42,3 +42,9 @@ module _ (nodes : List DocumentNode) where
   -- the plan node where it ends
   abbrev pub target_of : ℕ → ℕ → ℕ
   target_of manager address = slice_index_or (path_of manager address) (length (path_of manager address) - 1) 0
+
+-- ---- order
+
+-- the plan nodes from the managers downwards
+abbrev pub plan_order : List DocumentNode → List ℕ
+plan_order nodes = order_of (plan_graph nodes)

@@ -4,8 +4,10 @@
 
 pub use known::known_plans;
 pub use part::Part;
+pub use path_laws::laws_of_order;
 pub use plan_laws::laws;
 
 mod known;
 mod part;
+mod path_laws;
 mod plan_laws;

@@ -1,11 +1,12 @@
 -- Facts on the entries of a key, and on their places.
-use Rattle.std.proofs.Common.{◌≡◌, ◌≢◌, ℕ, ◌<◌, ◌==◌, suc, zero, Bool, true, false, cond, List, [], ◌∷◌, Option, Some, None, length, map, take, drop, get_or, refl, sym, ◌∙◌, ap, subst, arith, eq-eqb}
+use Rattle.std.proofs.Common.{◌≡◌, ◌≢◌, ℕ, ◌<◌, ◌==◌, suc, zero, Bool, true, false, cond, List, [], ◌∷◌, Option, Some, None, length, map, take, get_or, refl, sym, ap, subst, arith, eq-eqb}
 use Rattle.std.specs.Prelude.{remove, slice_get, slice_set}
 use Rattle.std.proofs.lemmas.Bool.{eqb-true, ne_eqb}
 use Rattle.std.proofs.lemmas.Grind.{common_steps}
 use Rattle.std.specs.List.{refill}
 use Rattle.std.specs.Option.{option_map}
-use Rattle.flight.specs.Entries.{place_of, of_key, without_oldest}
+use Rattle.flight.specs.Entries.{place_of}
+use Rattle.plain_lists.specs.Keys.{of_key, without_oldest}
 
 pub some-inner : {X : Type 0} (x y : X) → Some x ≡ Some y → x ≡ y
 some-inner x y e = cc
@@ -67,25 +68,6 @@ of_key-no_place key_of key (x ∷ xs) e =
     let go : (b : Bool) → cond b (Some 0) (option_map suc (place_of key (map key_of xs))) ≡ None → cond b (x ∷ of_key key_of key xs) (of_key key_of key xs) ≡ [] =
     elim [ true ↦ λ h. absurd (cc) | false ↦ λ h. of_key-no_place key_of key xs (none-shift (place_of key (map key_of xs)) h) ]
     in go (key_of x == key) e
-
--- without the oldest of a key, the first of its entries is gone
-pub of_key-without : {X : Type 0} (key_of : X → ℕ) (key : ℕ) (entries : List X) → of_key key_of key (without_oldest key_of key entries) ≡ drop 1 (of_key key_of key entries)
-of_key-without key_of key [] = refl
-of_key-without key_of key (x ∷ xs) =
-    let go : (b : Bool) → (key_of x == key) ≡ b → of_key key_of key (cond b xs (x ∷ without_oldest key_of key xs)) ≡ drop 1 (cond b (x ∷ of_key key_of key xs) (of_key key_of key xs)) =
-    elim [ true ↦ λ h. refl | false ↦ λ h. ap (λ b. cond b (x ∷ of_key key_of key (without_oldest key_of key xs)) (of_key key_of key (without_oldest key_of key xs))) h ∙ of_key-without key_of key xs ]
-    in go (key_of x == key) refl
-
--- without the oldest of a key, the entries of another key are as they were
-pub of_key-without_other : {X : Type 0} (key_of : X → ℕ) (key other : ℕ) (entries : List X) → other ≢ key → of_key key_of other (without_oldest key_of key entries) ≡ of_key key_of other entries
-of_key-without_other key_of key other [] ne = refl
-of_key-without_other key_of key other (x ∷ xs) ne =
-    let go : (b : Bool) → (key_of x == key) ≡ b → of_key key_of other (cond b xs (x ∷ without_oldest key_of key xs)) ≡ of_key key_of other (x ∷ xs) =
-    elim [
-      | true ↦ λ h. ap (λ c. cond c (x ∷ of_key key_of other xs) (of_key key_of other xs)) (sym (ne_eqb (key_of x) other (λ e. ne (sym e ∙ eqb-true (key_of x) key h))))
-      | false ↦ λ h. ap (λ t. cond (key_of x == other) (x ∷ t) t) (of_key-without_other key_of key other xs ne)
-    ]
-    in go (key_of x == key) refl
 
 -- to write an entry with the key of the one that stands there keeps all keys
 pub map-set_same : {X : Type 0} (key_of : X → ℕ) (entries : List X) (place : ℕ) (entry : X) → slice_get (map key_of entries) place ≡ Some (key_of entry) → map key_of (slice_set entries place entry) ≡ map key_of entries

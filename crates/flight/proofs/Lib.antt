@@ -1,2 +1,1 @@
 pub mod EntryFacts
-pub mod HeldFacts

@@ -1,7 +1,6 @@
 -- Each address on a link is a legal burst, so rules 3 to 8 are kept.
 use Rattle.std.proofs.Common.{◌≡◌, ℕ, Bool, true, false, not, cond, List, [], ◌∷◌, ◌++◌, Some, None, length, map, All, refl, ap, ◌∙◌, subst, arith, length-append}
 use Rattle.std.proofs.lemmas.List.{get_or_at, map-append}
-use Rattle.axi_beats.specs.Codes.{response_code}
 use Rattle.axi_beats.specs.declared.beat.Addr.{Addr}
 use Rattle.axi_beats.specs.declared.beat.Burst.{Burst}
 use Rattle.axi_beats.specs.declared.beat.Burst.TheVariants.{Fixed, Incr, Wrap}
@@ -10,15 +9,16 @@ use Rattle.axi_beats.specs.declared.response.Resp.TheVariants.{Okay, SlvErr, Dec
 use Rattle.axi_history.specs.PortRules.{least_broken, address_rules, request_of, is_not_exokay}
 use Rattle.axi_trail.specs.LinkContracts.{Requests, without_id}
 use Rattle.axi_trail.specs.Schedule.{Share}
-use Rattle.axi_trail.specs.Streams.{IsPrefix}
 use Rattle.axi_trail.specs.Words.{Asked, Reply, number_of_address}
-use Rattle.axi_trail.proofs.FilterFacts.{of_key-push}
-use Rattle.axi_trail.proofs.PrefixFacts.{All_front}
 use Rattle.burst_address.specs.Formulas.{size_of, beats_of}
 use Rattle.burst_address.specs.Legal.{IsLegal, is_too_wide, is_length_of, is_start_of, is_in_page}
 use Rattle.burst_address.specs.declared.rule.BurstRule.TheVariants.{Size, Length, WrapAlign, Page}
-use Rattle.flight.specs.Entries.{of_key}
 use Rattle.link_ports.specs.PortView.{seen_address}
+use Rattle.plain_lists.specs.Prefixes.{IsPrefix}
+use Rattle.plain_lists.proofs.KeyLemmas.{of_key-push}
+use Rattle.plain_lists.proofs.PrefixLemmas.{All_front}
+use Rattle.plain_lists.specs.Keys.{of_key}
+use Rattle.axi_beats.specs.Codes.{response_code}
 
 -- a burst that breaks none of four rules keeps rules 3 to 8
 no_rule_broken : (wide fits starts stays : Bool) →

@@ -12,10 +12,11 @@ use Rattle.axi_history.specs.PortHistory.{beats_asked, ends_a_request}
 use Rattle.axi_history.specs.PortRules.{writes_of, responses_of, read_beats_of, reads_of}
 use Rattle.axi_trail.specs.Words.{Mark, InOrderOfId, burst_marks, marks, completed, write_asked, burst_asked, write_reply, read_reply, mark_of_data, mark_of_reply, id_of_address, id_of_asked, id_of_reply, beats_of}
 use Rattle.axi_trail.proofs.DataFacts.{beats_of-writes}
-use Rattle.axi_trail.proofs.FilterFacts.{of_key-map, of_key-append, of_key-cons, filter_map, length-burst_marks, length-marks}
-use Rattle.axi_trail.proofs.PrefixFacts.{prefix_length}
-use Rattle.flight.specs.Entries.{of_key}
+use Rattle.axi_trail.proofs.FilterFacts.{length-burst_marks, length-marks}
 use Rattle.link_ports.specs.PortView.{seen_address, seen_itself, seen_response, seen_read_beat}
+use Rattle.plain_lists.proofs.KeyLemmas.{of_key-map, filter_map, of_key-between}
+use Rattle.plain_lists.proofs.PrefixLemmas.{prefix_length}
+use Rattle.plain_lists.specs.Keys.{of_key}
 
 -- ---- which beat of its burst has `last`
 
@@ -67,11 +68,6 @@ seen_reads id addresses = ap (map beats_asked) (of_key-map (λ a. a.id) seen_add
 
 seen_beats : (id : ℕ) (beats : List RBeat) → length (read_beats_of id (map seen_read_beat beats)) ≡ length (of_key (λ r. r.id) id beats)
 seen_beats id beats = ap length (of_key-map (λ r. r.id) seen_read_beat id beats) ∙ length-map (of_key (λ r. r.id) id beats) seen_read_beat
-
--- the beats of a key, where one of the key stands between others
-of_key-between : {X : Type 0} (key_of : X → ℕ) (xs : List X) (y : X) (ys : List X) → of_key key_of (key_of y) (xs ++ y ∷ ys) ≡ of_key key_of (key_of y) xs ++ y ∷ of_key key_of (key_of y) ys
-of_key-between key_of xs y ys =
-    of_key-append key_of (key_of y) xs (y ∷ ys) ∙ ap (λ t. of_key key_of (key_of y) xs ++ t) (of_key-cons key_of (key_of y) y ys refl)
 
 -- beat m stands among all that are asked for
 step_of_marks : (own : List Addr) (front : List Mark) (m : Mark) (rest : List Mark) → marks (map burst_asked own) ≡ front ++ m ∷ rest →

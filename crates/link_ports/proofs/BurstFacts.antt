@@ -5,12 +5,11 @@ use Rattle.axi_beats.specs.declared.beat.WBeat.{WBeat}
 use Rattle.axi_history.specs.declared.port.RawAddr.{RawAddr}
 use Rattle.axi_history.specs.PortHistory.{bursts, joined_to_first}
 use Rattle.axi_history.specs.PortRules.{each_beat, has_last_where_due}
-use Rattle.axi_trail.specs.Streams.{IsPrefix, Agree}
 use Rattle.axi_trail.specs.Words.{Mark, burst_marks, mark_of_data, number_of_data}
-use Rattle.axi_trail.proofs.FilterFacts.{of_key-cons, of_key-skip}
-use Rattle.axi_trail.proofs.MarkFacts.{agree_tail}
-use Rattle.axi_trail.proofs.PrefixFacts.{prefix_cons, prefix_same}
-use Rattle.flight.specs.Entries.{of_key}
+use Rattle.plain_lists.specs.Prefixes.{IsPrefix, Agree}
+use Rattle.plain_lists.proofs.KeyLemmas.{of_key-cons, of_key-skip}
+use Rattle.plain_lists.proofs.PrefixLemmas.{agree_tail, prefix_cons, prefix_same}
+use Rattle.plain_lists.specs.Keys.{of_key}
 
 -- the first burst of write data that follows the marks of a burst, and then others
 pub record FirstBurst (number len : ℕ) (beats : List WBeat) (marked : List Mark) : Type 0 where

@@ -21,7 +21,6 @@ use Rattle.axi_trail.specs.Schedule.{Share, Schedule, Progress, Grows}
 use Rattle.axi_trail.specs.Trail.{Beats, seen_above, IsLinkRun, IsFifo, seen_below, trail_above, trail_below}
 use Rattle.axi_trail.specs.Words.{Asked, Reply, InOrderOfId, completed, mark_of_data, write_asked, burst_asked, write_reply, read_reply, write_replies, read_replies}
 use Rattle.axi_trail.proofs.SlackFacts.{asked_through_link}
-use Rattle.axi_trail.proofs.StreamFacts.{prefix_itself}
 use Rattle.axi_trail.proofs.TrailFacts.{links_are_queues}
 use Rattle.burst_address.specs.Legal.{IsLegal}
 use Rattle.link_ports.specs.LegalSchedule.{IsLegalSchedule}
@@ -32,6 +31,7 @@ use Rattle.link_ports.proofs.AnswerFacts.{itself, response_follows, read_follows
 use Rattle.link_ports.proofs.DataFacts.{lasts_kept, strobes_kept, left_at_first}
 use Rattle.link_ports.proofs.HandshakeFacts.{handshake_kept}
 use Rattle.link_ports.proofs.ViewFacts.{waiting_are_offered_again, transferred_are_trails, offered_are_trails}
+use Rattle.plain_lists.proofs.PrefixLemmas.{prefix_itself}
 
 pub grows_itself : (now : Progress) → Grows now now
 grows_itself now = record { issued = λ t done. done; written = λ t done. done; filled = λ t. prefix_itself (now.filled t) }

@@ -1,9 +1,9 @@
 -- Write data has `last` where it is due and its strobes on valid lanes, so rules 9 and 10 are kept.
-use Rattle.std.proofs.Common.{◌≡◌, ◌≢◌, ℕ, suc, ◌+◌, ◌<◌, ◌==◌, ◌||◌, Bool, true, cond, not, List, [], ◌∷◌, ◌++◌, length, map, drop, get_or, refl, sym, ◌∙◌, ap, subst, inl, inr, arith, append_assoc, eq-eqb}
+use Rattle.std.proofs.Common.{◌≡◌, ◌≢◌, ℕ, suc, ◌+◌, ◌<◌, ◌==◌, ◌||◌, Bool, true, cond, not, List, [], ◌∷◌, ◌++◌, length, map, get_or, refl, sym, ◌∙◌, ap, subst, inl, inr, arith, eq-eqb}
 use Rattle.std.specs.Prelude.{zip, flat_map, nat_lt}
 use Rattle.std.specs.List.{AllZip}
 use Rattle.std.proofs.lemmas.Bool.{ne_eqb, cases_eq, cond-true, cond-false, or_right, and_from}
-use Rattle.std.proofs.lemmas.List.{length-map, get_or_append_left, drop_at}
+use Rattle.std.proofs.lemmas.List.{length-map, get_or_append_left}
 use Rattle.axi_beats.specs.declared.beat.Addr.{Addr}
 use Rattle.axi_beats.specs.declared.beat.WBeat.{WBeat}
 use Rattle.axi_history.specs.declared.port.RawAddr.{RawAddr}
@@ -11,18 +11,17 @@ use Rattle.axi_history.specs.PortHistory.{bursts}
 use Rattle.axi_history.specs.PortRules.{each_beat, each_addressed_beat, has_last_where_due, has_strobes_on_valid_lanes, keeps_address_rules, request_of, strobes_within}
 use Rattle.axi_trail.specs.LinkContracts.{without_id}
 use Rattle.axi_trail.specs.Schedule.{Share}
-use Rattle.axi_trail.specs.Streams.{IsPrefix, Agree}
 use Rattle.axi_trail.specs.Words.{marks, burst_asked, burst_marks, mark_of_data, number_of_data, number_of_address}
-use Rattle.axi_trail.proofs.FilterFacts.{of_key-append, of_key-cons, of_key-skip, length-burst_marks}
-use Rattle.axi_trail.proofs.OrderFacts.{prefix_total}
-use Rattle.axi_trail.proofs.PrefixFacts.{prefix_length, prefix_same, prefix_of_same}
-use Rattle.axi_trail.proofs.StreamFacts.{prefix_append, prefix_trans}
+use Rattle.axi_trail.proofs.FilterFacts.{length-burst_marks}
 use Rattle.burst_address.specs.Formulas.{beat_at, lower_lane, size_of, upper_lane}
-use Rattle.flight.specs.Entries.{of_key}
 use Rattle.link_ports.specs.LegalSchedule.{IsDataOf}
 use Rattle.link_ports.specs.PortView.{seen_address}
 use Rattle.link_ports.proofs.AddressFacts.{seen_is_asked}
 use Rattle.link_ports.proofs.BurstFacts.{FirstBurst, first_burst, lasts_due, own_data, others_data}
+use Rattle.plain_lists.specs.Prefixes.{IsPrefix, Agree}
+use Rattle.plain_lists.proofs.KeyLemmas.{of_key-append, of_key-cons, of_key-skip}
+use Rattle.plain_lists.proofs.PrefixLemmas.{prefix_total, prefix_length, prefix_same, prefix_of_same, prefix_append, prefix_trans, prefix_cut}
+use Rattle.plain_lists.specs.Keys.{of_key}
 
 -- a question about each addressed beat, of the first address and of the others
 next_address : (bus : ℕ) (question : RawAddr → ℕ → WBeat → Bool) (a : RawAddr) (addresses : List RawAddr) (beats : List WBeat) (burst : List WBeat) (others : List (List WBeat)) →
@@ -87,13 +86,6 @@ record FirstPart (bus : ℕ) (part : Addr) (parts : List Addr) (lists : List (Li
 first_part : (bus : ℕ) (part : Addr) (parts : List Addr) (lists : List (List WBeat)) → AllZip (IsDataOf bus) (part ∷ parts) lists → FirstPart bus part parts lists
 first_part bus part parts [] legal = absurd legal
 first_part bus part parts (beats ∷ others) legal = record { beats = beats; others = others; whole = refl; is_data = legal.0; legal = legal.1 }
-
--- without equally long beginnings, a beginning stays one
-prefix_cut : {X : Type 0} (xs ys us vs : List X) → length xs ≡ length ys → IsPrefix (xs ++ us) (ys ++ vs) → IsPrefix us vs
-prefix_cut xs ys us vs long p = record {
-  rest = p.rest;
-  whole = sym (drop_at ys vs (length ys) refl) ∙ ap (drop (length ys)) (p.whole ∙ append_assoc xs us p.rest) ∙ drop_at xs (us ++ p.rest) (length ys) long;
-}
 
 module _ (bus : ℕ) (a : Addr) (addresses : List Addr) (burst others : List WBeat) (own : IsPrefix (map mark_of_data burst) (burst_marks a.tag.txn a.len)) where
   -- the burst of an address is the data of its part, or the beginning of it; once it is whole, the other parts are left

@@ -9,18 +9,18 @@ use Rattle.axi_link.specs.Moves.{appended}
 use Rattle.axi_trail.specs.Example.{read_address, write_address, write_data_beat, write_response, no_share, read_share, write_share, example_schedule, example_progress, example_upper, example_lower}
 use Rattle.axi_trail.specs.LinkContracts.{Asks, Answers, Requests}
 use Rattle.axi_trail.specs.Schedule.{Share}
-use Rattle.axi_trail.specs.Streams.{IsPrefix, over}
 use Rattle.axi_trail.specs.Trail.{Beats, no_beats, moved_below, trail_above, trail_below}
 use Rattle.axi_trail.specs.Words.{Asked, Reply, burst_asked}
-use Rattle.axi_trail.proofs.ExampleFacts as trails
-use Rattle.axi_trail.proofs.PrefixFacts.{prefix_same, prefix_of_same}
 use Rattle.axi_trail.proofs.SlackFacts.{asking_goes_down, answering_goes_up}
-use Rattle.axi_trail.proofs.StreamFacts.{prefix_itself, prefix_nil}
 use Rattle.burst_address.specs.Formulas.{beat_at, lower_lane, size_of, upper_lane}
 use Rattle.burst_address.specs.Legal.{IsLegal}
 use Rattle.link_ports.specs.Example.{ExamplePort, HastyPort, PortExampleKeepsContracts, manager_moves, memory_moves, links_between}
 use Rattle.link_ports.specs.LegalSchedule.{IsDataOf, IsLegalSchedule}
 use Rattle.link_ports.proofs.ChannelFacts.{grows_itself}
+use Rattle.plain_lists.specs.Prefixes.{IsPrefix}
+use Rattle.plain_lists.specs.Rounds.{over}
+use Rattle.plain_lists.proofs.PrefixLemmas.{prefix_same, prefix_of_same, prefix_itself, prefix_nil}
+use Rattle.axi_trail.proofs.ExampleFacts as trails
 
 pub example_port : ExamplePort
 example_port = (record { depth = 2; opens = refl; moves = λ n. refl }, refl, refl)

@@ -12,9 +12,10 @@ use Rattle.axi_link.specs.LinkView.{LinkView}
 use Rattle.axi_link.specs.Moves.{takes_from, appended, without_head}
 use Rattle.axi_link.specs.LinkWords.{link_of}
 use Rattle.axi_link.specs.declared.out.Out.{Out}
-use Rattle.axi_trail.specs.Streams.{over, beat_taken}
 use Rattle.link_ports.specs.PortLaws.{IsOffered, TransferredAreTrails, OfferedAreTrails, WaitingAreOfferedAgain}
 use Rattle.link_ports.specs.PortView.{seen_address, seen_itself, seen_response, seen_read_beat, channel_seen, port_round}
+use Rattle.plain_lists.specs.Rounds.{over}
+use Rattle.axi_trail.specs.Trail.{beat_taken}
 
 module _ {X Y : Type 0} (seen_as : X → Y) where
   -- one round

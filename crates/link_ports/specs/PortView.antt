@@ -13,8 +13,8 @@ use Rattle.axi_link.specs.LinkView.{LinkView}
 use Rattle.axi_link.specs.Moves.{takes_from}
 use Rattle.axi_link.specs.LinkWords.{link_of}
 use Rattle.axi_link.specs.declared.out.Out.{Out}
-use Rattle.axi_trail.specs.Streams.{over}
 use Rattle.axi_beats.specs.Codes.{burst_code, response_code}
+use Rattle.plain_lists.specs.Rounds.{over}
 
 -- the beats as they are seen on the channels: no access is exclusive, and a W beat is seen as it is
 abbrev pub seen_address : Addr → RawAddr

@@ -4,8 +4,8 @@ use Rattle.std.specs.Prelude.{slice_get}
 use Rattle.std.proofs.lemmas.Bool.{eqb-true, or_cases}
 use Rattle.std.proofs.lemmas.Option.{same_Some, slice_get_within}
 use Rattle.manager_end.specs.Script.{ScriptItem, IsScript, awaited}
-use Rattle.manager_end.proofs.ListLemmas.{item-there, take-from, take-has}
 use Rattle.manager_end.proofs.ScriptLemmas.{script-item}
+use Rattle.plain_lists.proofs.PlaceLemmas.{item-there, take-from, take-has}
 
 module _ (script : List ScriptItem) (is : IsScript script) where
   front-length : (n : ℕ) (item : ScriptItem) → slice_get script n ≡ Some item → length (take n script) ≡ n

@@ -9,14 +9,8 @@ use Rattle.std.proofs.lemmas.Simd.{map-map}
 use Rattle.axi_beats.specs.declared.beat.Addr.{Addr}
 use Rattle.axi_beats.specs.declared.beat.WBeat.{WBeat}
 use Rattle.burst_address.specs.Formulas.{beats_of}
-use Rattle.flight.specs.Entries.{of_key}
-use Rattle.axi_trail.proofs.FilterFacts.{of_key-append, of_key-cons, of_key-skip}
-use Rattle.axi_trail.proofs.MarkFacts.{prefix_agree}
-use Rattle.axi_trail.proofs.PrefixFacts.{Agree_fronts, prefix_after, prefix_flat_map, prefix_map, prefix_of_key, prefix_of_same, prefix_same}
-use Rattle.axi_trail.proofs.StreamFacts.{prefix_first, prefix_itself, prefix_nil, prefix_trans}
 use Rattle.axi_trail.specs.LinkContracts.{OneIdAtATime, Requests, WholeBeforeTheNext}
 use Rattle.axi_trail.specs.Schedule.{Progress, Schedule}
-use Rattle.axi_trail.specs.Streams.{Agree, IsPrefix}
 use Rattle.axi_trail.specs.Trail.{Beats}
 use Rattle.axi_trail.specs.Words.{Asked, Mark, Reply, announced_marks, burst_asked, burst_marks, data_marks, mark_of_data, marks, marks_of, number_of_data, read_replies, write_replies}
 use Rattle.manager_end.specs.Beats.{data_beat, data_beats, request_of as request_of_item}
@@ -26,10 +20,14 @@ use Rattle.manager_end.specs.ManagerTrail.{HasItem, IsScheduleOf, ManagerAsks, M
 use Rattle.manager_end.specs.Script.{ScriptItem}
 use Rattle.manager_end.proofs.AskedLemmas.{ids-asked, lone-numbers, lone-of_key, one-asked, parts-asked, whole-asked}
 use Rattle.manager_end.proofs.HeldLemmas.{asked_by}
-use Rattle.manager_end.proofs.ListLemmas.{map-from, take-from, take-one}
-use Rattle.manager_end.proofs.NumberLemmas.{all-at, at-all, number_of_item}
+use Rattle.manager_end.proofs.NumberLemmas.{number_of_item}
 use Rattle.manager_end.proofs.PlaceLemmas.{direction-at}
 use Rattle.manager_end.proofs.SentLemmas.{data_of_first}
+use Rattle.plain_lists.specs.Keys.{of_key}
+use Rattle.plain_lists.proofs.KeyLemmas.{of_key-append, of_key-cons, of_key-skip}
+use Rattle.plain_lists.proofs.PrefixLemmas.{prefix_agree, Agree_fronts, prefix_after, prefix_flat_map, prefix_map, prefix_of_key, prefix_of_same, prefix_same, prefix_first, prefix_itself, prefix_nil, prefix_trans}
+use Rattle.plain_lists.specs.Prefixes.{Agree, IsPrefix}
+use Rattle.plain_lists.proofs.PlaceLemmas.{map-from, take-from, take-one, all-at, at-all}
 
 -- the data of a transaction has its number
 data-numbers : (bus t : ℕ) (p : ℕ × ScriptItem) (ks : List ℕ) → number_of_item p ≡ t → of_key number_of_data t (map (data_beat p.1 bus) ks) ≡ map (data_beat p.1 bus) ks

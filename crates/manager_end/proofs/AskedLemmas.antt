@@ -5,22 +5,21 @@ use Rattle.std.proofs.lemmas.Bool.{cases_eq, eq-eqb}
 use Rattle.std.proofs.lemmas.List.{length-map, take_at, take-map}
 use Rattle.std.proofs.lemmas.Option.{same_Some}
 use Rattle.axi_beats.specs.declared.beat.Addr.{Addr}
-use Rattle.flight.specs.Entries.{of_key}
-use Rattle.axi_trail.proofs.FilterFacts.{of_key-cons, of_key-map, of_key-skip}
-use Rattle.axi_trail.proofs.PrefixFacts.{prefix_same, prefix_of_same}
-use Rattle.axi_trail.proofs.StreamFacts.{prefix_itself, prefix_nil}
 use Rattle.axi_trail.specs.LinkContracts.{OneIdAtATime, WholeBeforeTheNext, without_id}
 use Rattle.axi_trail.specs.Schedule.{SameChain, Schedule}
-use Rattle.axi_trail.specs.Streams.{IsPrefix}
 use Rattle.axi_trail.specs.Words.{Asked, Reply, number_of_address, number_of_asked}
 use Rattle.manager_end.specs.Beats.{request_of as request_of_item}
 use Rattle.manager_end.specs.ManagerState.{of_direction}
 use Rattle.manager_end.specs.ManagerTrail.{HasItem, IsItsOwn, IsScheduleOf, shares_of}
 use Rattle.manager_end.specs.Script.{ScriptItem}
 use Rattle.manager_end.proofs.HeldLemmas.{asked_by}
-use Rattle.manager_end.proofs.ListLemmas.{map-from, take-from, take-has}
-use Rattle.manager_end.proofs.NumberLemmas.{all-at, at-all, at-contains, number-before, number-once, number_of_item}
-use Rattle.manager_end.proofs.PlaceLemmas.{direction-at, direction-before, direction-of, direction-once, filter-has}
+use Rattle.manager_end.proofs.NumberLemmas.{number-before, number-once, number_of_item}
+use Rattle.manager_end.proofs.PlaceLemmas.{direction-at, direction-before, direction-of, direction-once}
+use Rattle.plain_lists.specs.Keys.{of_key}
+use Rattle.plain_lists.proofs.KeyLemmas.{of_key-cons, of_key-map, of_key-skip}
+use Rattle.plain_lists.proofs.PrefixLemmas.{prefix_same, prefix_of_same, prefix_itself, prefix_nil}
+use Rattle.plain_lists.specs.Prefixes.{IsPrefix}
+use Rattle.plain_lists.proofs.PlaceLemmas.{map-from, take-from, take-has, all-at, at-all, at-contains, filter-has, middle}
 
 -- a key stands at one place
 abbrev pub IsLone : {X : Type 0} → (X → ℕ) → List X → Type 0
@@ -58,11 +57,6 @@ module _ {X : Type 0} (key_of : X → ℕ) (key : ℕ) where
 
 pub lone-take : {X : Type 0} (key_of : X → ℕ) (n : ℕ) (xs : List X) → IsLone key_of xs → IsLone key_of (take n xs)
 lone-take key_of n xs lone j k x y at_x at_y same = lone j k x y (take-from n xs j x at_x).1 (take-from n xs k y at_y).1 same
-
--- what stands in the middle
-pub middle : {X : Type 0} (xs : List X) (x : X) (ys : List X) → slice_get (xs ++ x ∷ ys) (length xs) ≡ Some x
-middle [] x ys = refl
-middle (z ∷ zs) x ys = middle zs x ys
 
 module _ (schedule : Schedule) (bus : ℕ) (script : List ScriptItem) (scheduled : IsScheduleOf schedule bus script) (write : Bool) where
   pub lone-numbers : IsLone number_of_item (of_direction write script)

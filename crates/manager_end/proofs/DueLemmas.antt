@@ -14,7 +14,7 @@ use Rattle.manager_end.specs.ManagerState.{IsDue, bytes_by, is_answered}
 use Rattle.manager_end.specs.ManagerTable.{read_in}
 use Rattle.manager_end.specs.Script.{ScriptItem}
 use Rattle.manager_end.proofs.BurstLemmas.{bytes-next, lane-count, lane-order}
-use Rattle.manager_end.proofs.NumberLemmas.{at-all}
+use Rattle.plain_lists.proofs.PlaceLemmas.{at-all}
 
 -- transactions of two directions stand at two places
 pub due-apart : (script : List ScriptItem) (n m : Bool) (p q : ℕ) (a b : AnswerView) → n ≢ m → IsDue script n p a → IsDue script m q b → p ≢ q

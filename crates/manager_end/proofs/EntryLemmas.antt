@@ -9,7 +9,6 @@ use Rattle.std.proofs.lemmas.Option.{same_Some}
 use Rattle.axi_beats.specs.declared.beat.BBeat.{BBeat}
 use Rattle.axi_beats.specs.declared.beat.RBeat.{RBeat}
 use Rattle.axi_link.specs.LinkView.{LinkView}
-use Rattle.flight.specs.Entries.{without_oldest}
 use Rattle.manager_end.specs.Answer.{AnswerView, is_last}
 use Rattle.manager_end.specs.ManagerOrder.{note_at}
 use Rattle.manager_end.specs.ManagerState.{ManagerState, IsManager, entries_of, entry_of, is_answered, issued_of, of_direction}
@@ -18,10 +17,11 @@ use Rattle.manager_end.specs.Script.{ScriptItem}
 use Rattle.manager_end.specs.declared.entry.Entry.{Entry}
 use Rattle.manager_end.proofs.DueLemmas.{last-answers, read-is}
 use Rattle.manager_end.proofs.IssueLemmas.{issued-next, next-noted, one-place}
-use Rattle.manager_end.proofs.ListLemmas.{Rise, filter-all, filter-both, filter-same, find-first, find-has, map-from, map-has, rise-filter, rise-tail, rise-take, take-from, take-has, take-one}
 use Rattle.manager_end.proofs.NoteLemmas.{Kept, Wrote, Read, Issued, change-of, b-noted, r-noted, b-taken, r-taken, mapped, next_of, next-found, next-waits, taken_of, taken-found, taken-waits}
-use Rattle.manager_end.proofs.PlaceLemmas.{direction-rises, filter-from, filter-has}
+use Rattle.manager_end.proofs.PlaceLemmas.{direction-rises}
 use Rattle.manager_end.proofs.TurnLemmas.{Same, Came, Went, leaving-taken, leaving_of, turn-of}
+use Rattle.plain_lists.specs.Keys.{without_oldest}
+use Rattle.plain_lists.proofs.PlaceLemmas.{Rise, filter-all, filter-both, filter-same, find-first, find-has, map-from, map-has, rise-filter, rise-tail, rise-take, take-from, take-has, take-one, filter-from, filter-has}
 
 -- the transaction isn't answered
 abbrev pub is_open : ManagerState → ℕ × ScriptItem → Bool

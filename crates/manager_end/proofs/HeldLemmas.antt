@@ -5,16 +5,16 @@ use Rattle.std.proofs.lemmas.List.{map-append}
 use Rattle.std.proofs.lemmas.List.Elements.{All-cons, All-filter, All-head, All-map, All-tail}
 use Rattle.std.proofs.lemmas.Option.{same_Some}
 use Rattle.axi_beats.specs.declared.beat.Addr.{Addr}
-use Rattle.flight.specs.Entries.{of_key, count_of, without_oldest}
 use Rattle.axi_trail.specs.Waiting.{Waiting, fresh, request_of, waiting_shown, beats_by, advanced, answered_once, answered_by, held}
 use Rattle.axi_trail.specs.Words.{Asked, Reply, InOrderOfId, held_asked, beats_of, id_of_asked, id_of_reply, id_of_waiting, len_of_asked, next_reply}
-use Rattle.axi_trail.proofs.FilterFacts.{of_key-append, of_key-map}
 use Rattle.axi_trail.proofs.HeldFacts.{held-answer, held-request}
 use Rattle.axi_trail.proofs.StepFacts.{answer_keeps_order, answers_within, held-shown, later_requests_are_held, next_answer}
 use Rattle.manager_end.specs.Beats.{request_of as request_of_item}
 use Rattle.manager_end.specs.ManagerState.{entry_of}
 use Rattle.manager_end.specs.Script.{ScriptItem}
 use Rattle.manager_end.specs.declared.entry.Entry.{Entry}
+use Rattle.plain_lists.specs.Keys.{of_key, count_of, without_oldest}
+use Rattle.plain_lists.proofs.KeyLemmas.{of_key-append, of_key-map}
 
 abbrev pub id_of_item : ℕ × ScriptItem → ℕ
 id_of_item p = p.1.txn.request.id

@@ -10,7 +10,6 @@ pub mod DueLemmas
 pub mod EntryLemmas
 pub mod HeldLemmas
 pub mod IssueLemmas
-pub mod ListLemmas
 pub mod ManagerLaws
 pub mod NoteLemmas
 pub mod NumberLemmas

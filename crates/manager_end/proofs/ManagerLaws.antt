@@ -12,13 +12,9 @@ use Rattle.std.proofs.lemmas.Option.{slice_get_within, slice_get-get_or}
 use Rattle.axi_beats.specs.declared.beat.BBeat.{BBeat}
 use Rattle.axi_beats.specs.declared.beat.RBeat.{RBeat}
 use Rattle.axi_beats.specs.Bus.{IsBusWidth}
-use Rattle.node_core.specs.Fits.{TakeFits, PutFits}
 use Rattle.axi_link.specs.LinkView.{LinkView}
-use Rattle.axi_link.specs.LinkWords.{link_of, head_of, has_room}
-use Rattle.node_core.specs.Rows.{beat_where, put_of, take_of}
 use Rattle.burst_address.specs.Bytes.{bytes_before}
 use Rattle.burst_address.specs.Legal.{IsLegal}
-use Rattle.flight.specs.Entries.{without_oldest}
 use Rattle.manager_end.specs.Answer.{AnswerView, answered_in, awaited_of, is_last, unanswered}
 use Rattle.manager_end.specs.Beats.{request_of, data_beat, bytes_on_valid_lanes}
 use Rattle.manager_end.specs.Laws.{DoneIsAnswered, ManagerBegins, ManagerMovesFit}
@@ -28,10 +24,15 @@ use Rattle.manager_end.specs.Script.{ScriptItem}
 use Rattle.manager_end.specs.declared.entry.Entry.{Entry}
 use Rattle.manager_end.proofs.DueLemmas.{answered-now, last-answers, read-is, read-more, write-last}
 use Rattle.manager_end.proofs.IssueLemmas.{issues-begin, issues-stay}
-use Rattle.manager_end.proofs.ListLemmas.{all-counted}
 use Rattle.manager_end.proofs.NoteLemmas.{ending-same}
-use Rattle.manager_end.proofs.RowLemmas.{All-middle, answering-found, aw-next, aw-fits, ar-next, ar-fits, w-issued, w-next}
+use Rattle.manager_end.proofs.RowLemmas.{answering-found, aw-next, aw-fits, ar-next, ar-fits, w-issued, w-next}
 use Rattle.manager_end.proofs.WaitingLemmas.{All-oldest, AreKept, kept-turned, kept-answered, kept-came, kept-issued, waiting-issued, waiting-next}
+use Rattle.plain_lists.specs.Keys.{without_oldest}
+use Rattle.plain_lists.proofs.PlaceLemmas.{all-counted}
+use Rattle.plain_lists.proofs.PartLemmas.{All-middle}
+use Rattle.node_core.specs.Fits.{TakeFits, PutFits}
+use Rattle.axi_link.specs.LinkWords.{link_of, head_of, has_room}
+use Rattle.node_core.specs.Rows.{beat_where, put_of, take_of}
 
 -- B in a round
 kept-b : (script : List ScriptItem) (size round : ℕ) (answers : List AnswerView) (answered : ℕ) (entries : List Entry) (others own : List ℕ) (o : Option (Entry × BBeat)) → 0 < round → ((a : Entry × BBeat) → o ≡ Some a → find (λ (entry : Entry). entry.id == a.0.id) entries ≡ Some a.0) → AreKept script true false size answers answered (map (λ (entry : Entry). entry.place) entries ++ own) others → AreKept script true false size (note_write round o answers) (answered + more (is_some o)) (map (λ (entry : Entry). entry.place) (left_waiting o entries) ++ own) others
@@ -63,7 +64,7 @@ kept-a : (script : List ScriptItem) (n m : Bool) (size round : ℕ) (answers : L
 kept-a script n m size round answers answered entries issued transactions others None next kept = rw add-zero kept
 kept-a script n m size round answers answered entries issued transactions others (Some x) next kept =
     let is = next x refl
-    in let within = All-middle (λ p. p < length answers) (map (λ (entry : Entry). entry.place) entries) (map (λ (p : ℕ × ScriptItem). p.0) (drop (issued + 1) transactions)) x.0 (subst (All (λ p. p < length answers)) (waiting-next entries issued transactions x is) kept.own_waiting.within)
+    in let within = All-middle (λ p. p < length answers) (map (λ (entry : Entry). entry.place) entries) x.0 (map (λ (p : ℕ × ScriptItem). p.0) (drop (issued + 1) transactions)) (subst (All (λ p. p < length answers)) (waiting-next entries issued transactions x is) kept.own_waiting.within)
     in subst (λ (places : List ℕ). AreKept script n m size (note_issue round (Some x) answers) answered places others) (sym (waiting-issued entries issued transactions x is))
     (kept-issued script n m size round x.0 answers answered (waiting entries issued transactions) others within kept)
 

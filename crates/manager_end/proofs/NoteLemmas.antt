@@ -7,8 +7,6 @@ use Rattle.std.proofs.lemmas.List.{get_or-set_same, get_or-set_other, length-set
 use Rattle.axi_beats.specs.declared.beat.BBeat.{BBeat}
 use Rattle.axi_beats.specs.declared.beat.RBeat.{RBeat}
 use Rattle.axi_link.specs.LinkView.{LinkView}
-use Rattle.node_core.specs.Rows.{beat_where}
-use Rattle.flight.specs.Entries.{without_oldest}
 use Rattle.manager_end.specs.Answer.{AnswerView, unanswered, is_last, issued_in, answered_in}
 use Rattle.manager_end.specs.Beats.{bytes_on_valid_lanes}
 use Rattle.manager_end.specs.ManagerOrder.{note_at}
@@ -17,8 +15,11 @@ use Rattle.manager_end.specs.ManagerTable.{manager_aw, manager_ar, manager_b, ma
 use Rattle.manager_end.specs.Script.{ScriptItem}
 use Rattle.manager_end.specs.declared.entry.Entry.{Entry}
 use Rattle.manager_end.proofs.DueLemmas.{due-apart, read-is}
-use Rattle.manager_end.proofs.RowLemmas.{All-middle, aw-after, aw-next, ar-after, ar-next, b-found, r-found}
+use Rattle.manager_end.proofs.RowLemmas.{aw-after, aw-next, ar-after, ar-next, b-found, r-found}
 use Rattle.manager_end.proofs.WaitingLemmas.{All-oldest, others-left, waiting-next}
+use Rattle.plain_lists.specs.Keys.{without_oldest}
+use Rattle.plain_lists.proofs.PartLemmas.{All-middle}
+use Rattle.node_core.specs.Rows.{beat_where}
 
 -- whether something moves at this place
 pub hits : {X : Type 0} (place_of : X → ℕ) (o : Option X) (q : ℕ) → ((x : X) × (o ≡ Some x) × (q ≡ place_of x)) ⊎ ((x : X) → o ≡ Some x → q ≢ place_of x)
@@ -111,7 +112,7 @@ module _ (links : List LinkView) (s : ManagerState) where
 
   pub next-place : (write : Bool) (p : ℕ × ScriptItem) (P : ℕ → Type 0) → next_of write ≡ Some p → All P (waiting (entries_of write s) (issued_of write s) (of_direction write s.script)) → P p.0
   next-place write p P is all =
-      All-middle P (map (λ (entry : Entry). entry.place) (entries_of write s)) (map (λ (p : ℕ × ScriptItem). p.0) (drop (issued_of write s + 1) (of_direction write s.script))) p.0
+      All-middle P (map (λ (entry : Entry). entry.place) (entries_of write s)) p.0 (map (λ (p : ℕ × ScriptItem). p.0) (drop (issued_of write s + 1) (of_direction write s.script)))
       (subst (All P) (waiting-next (entries_of write s) (issued_of write s) (of_direction write s.script) p (next-found write p is)) all)
 
   module _ (is : IsManager s) where
@@ -119,7 +120,7 @@ module _ (links : List LinkView) (s : ManagerState) where
     pub own-apart : (write : Bool) (e : Entry) (p : ℕ × ScriptItem) → taken_of write ≡ Some e → next_of write ≡ Some p → e.place ≢ p.0
     own-apart write e p taken next same =
         let others = others-left e.id (entries_of write s) (map (λ (p : ℕ × ScriptItem). p.0) (drop (issued_of write s) (of_direction write s.script))) e (taken-found write e taken) (wait-of s write is).distinct
-        in All-middle (λ other. other ≢ e.place) (map (λ (entry : Entry). entry.place) (without_oldest (λ (entry : Entry). entry.id) e.id (entries_of write s))) (map (λ (p : ℕ × ScriptItem). p.0) (drop (issued_of write s + 1) (of_direction write s.script))) p.0
+        in All-middle (λ other. other ≢ e.place) (map (λ (entry : Entry). entry.place) (without_oldest (λ (entry : Entry). entry.id) e.id (entries_of write s))) p.0 (map (λ (p : ℕ × ScriptItem). p.0) (drop (issued_of write s + 1) (of_direction write s.script)))
         (subst (All (λ other. other ≢ e.place)) (waiting-next (without_oldest (λ (entry : Entry). entry.id) e.id (entries_of write s)) (issued_of write s) (of_direction write s.script) p (next-found write p next)) others)
         (sym same)
 

@@ -1,8 +1,8 @@
 -- The numbers of a script's transactions, which rise, and those that are seen on the link.
-use Rattle.std.proofs.Common.{◌≡◌, ◌↔◌, ℕ, ◌<◌, Bool, List, Some, All, Contains, map, take, get_or, sym, ◌∙◌, ap, subst, inl, inr, arith}
+use Rattle.std.proofs.Common.{◌≡◌, ◌↔◌, ℕ, ◌<◌, Bool, List, Some, Contains, map, take, get_or, sym, ◌∙◌, ap, subst, inl, inr, arith}
 use Rattle.std.specs.Prelude.{AllPairs, slice_get}
 use Rattle.std.proofs.lemmas.Bool.{cases_order}
-use Rattle.std.proofs.lemmas.Option.{get_or_from_slice_get, slice_get-get_or, slice_get_within}
+use Rattle.std.proofs.lemmas.Option.{get_or_from_slice_get, slice_get_within}
 use Rattle.std.proofs.lemmas.Simd.{map-map}
 use Rattle.axi_beats.specs.declared.beat.Addr.{Addr}
 use Rattle.axi_trail.specs.Words.{number_of_address}
@@ -10,22 +10,8 @@ use Rattle.manager_end.specs.Beats.{request_of as request_of_item}
 use Rattle.manager_end.specs.ManagerOrder.{IsAt, note_at}
 use Rattle.manager_end.specs.ManagerState.{ManagerState, NotesIssues, issued_of, of_direction}
 use Rattle.manager_end.specs.Script.{ScriptItem}
-use Rattle.manager_end.proofs.ListLemmas.{map-from, map-has, take-from, take-has}
 use Rattle.manager_end.proofs.PlaceLemmas.{direction-at, direction-of}
-
-module _ {X : Type 0} where
-  -- what holds of each item by its place, and the other way round
-  pub all-at : (P : X → Type 0) (xs : List X) → ((k : ℕ) (x : X) → slice_get xs k ≡ Some x → P x) → All P xs
-  all-at P xs each = λ k d within. each k (get_or xs k d) (slice_get-get_or xs k d within)
-
-  pub at-all : (P : X → Type 0) (xs : List X) (k : ℕ) (x : X) → All P xs → slice_get xs k ≡ Some x → P x
-  at-all P xs k x all at = subst P (get_or_from_slice_get xs k x x at) (all k x (slice_get_within xs k x at))
-
-  pub contains-at : (xs : List X) (k : ℕ) (x : X) → slice_get xs k ≡ Some x → Contains xs x
-  contains-at xs k x at = (k, slice_get_within xs k x at, get_or_from_slice_get xs k x x at)
-
-  pub at-contains : (xs : List X) (x : X) → Contains xs x → (k : ℕ) × (slice_get xs k ≡ Some x)
-  at-contains xs x has = (has.0, slice_get-get_or xs has.0 x has.1 ∙ ap (λ y. Some y) has.2)
+use Rattle.plain_lists.proofs.PlaceLemmas.{map-from, map-has, take-from, take-has, contains-at, at-contains}
 
 abbrev pub number_of_item : ℕ × ScriptItem → ℕ
 number_of_item p = p.1.txn.number

@@ -16,10 +16,10 @@ use Rattle.manager_end.proofs.AfterLemmas.{after-holds}
 use Rattle.manager_end.proofs.DueLemmas.{last-answers, more-answers}
 use Rattle.manager_end.proofs.EntryLemmas.{answered-none, entries-stay, some-answered, taken-is, taken-first}
 use Rattle.manager_end.proofs.IssueLemmas.{new-note}
-use Rattle.manager_end.proofs.ListLemmas.{all-counted, item-there, some-counted}
 use Rattle.manager_end.proofs.NoteLemmas.{Kept, Wrote, Read, Issued, change-of, b-taken, r-taken, next_of, next-after, next-found, next-waits, taken_of, taken-waits}
 use Rattle.manager_end.proofs.PlaceLemmas.{direction-at, direction-before, direction-of}
 use Rattle.manager_end.proofs.TurnLemmas.{Same, Came, Went, leaving-taken, leaving_of, turn-of}
+use Rattle.plain_lists.proofs.PlaceLemmas.{all-counted, item-there, some-counted}
 
 -- the next transaction isn't noted as issued
 pub next-unissued : (links : List LinkView) (s : ManagerState) → IsManager s → (write : Bool) (p : ℕ × ScriptItem) → next_of links s write ≡ Some p → (note_at s p.0).issued ≡ 0

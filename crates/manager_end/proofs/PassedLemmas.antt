@@ -7,11 +7,7 @@ use Rattle.std.proofs.lemmas.Simd.{map-map}
 use Rattle.axi_beats.specs.declared.beat.Addr.{Addr}
 use Rattle.axi_link.specs.LinkView.{LinkView}
 use Rattle.axi_link.specs.Moves.{appended, takes_from}
-use Rattle.axi_link.specs.LinkWords.{head_of}
-use Rattle.node_core.specs.Rows.{beat_where, put_of, take_of}
-use Rattle.flight.specs.Entries.{of_key, count_of, without_oldest}
-use Rattle.axi_trail.specs.Streams.{beat_taken}
-use Rattle.axi_trail.specs.Trail.{moved_above}
+use Rattle.axi_trail.specs.Trail.{moved_above, beat_taken}
 use Rattle.axi_trail.specs.Waiting.{Waiting, beats_by}
 use Rattle.axi_trail.specs.Words.{Reply, InOrderOfId, id_of_reply}
 use Rattle.manager_end.specs.Beats.{data_beat, request_of as request_of_item}
@@ -20,8 +16,11 @@ use Rattle.manager_end.specs.ManagerTable.{answering, below, left_waiting, manag
 use Rattle.manager_end.specs.Script.{ScriptItem}
 use Rattle.manager_end.specs.declared.entry.Entry.{Entry}
 use Rattle.manager_end.proofs.HeldLemmas.{answers-few, asked_by, entries_held, find-held, held-entries, held-more, holding, id_held, id_of_item, single_len, taken-next}
-use Rattle.manager_end.proofs.ListLemmas.{take-one}
 use Rattle.manager_end.proofs.WaitingLemmas.{oldest-id}
+use Rattle.plain_lists.specs.Keys.{of_key, count_of, without_oldest}
+use Rattle.plain_lists.proofs.PlaceLemmas.{take-one}
+use Rattle.axi_link.specs.LinkWords.{head_of}
+use Rattle.node_core.specs.Rows.{beat_where, put_of, take_of}
 
 module _ {X : Type 0} where
   -- a put on the link is one beat more

@@ -1,77 +1,13 @@
 -- The transactions of one direction, by their places in the script.
-use Rattle.std.proofs.Common.{◌≡◌, ℕ, ◌+◌, ◌<◌, ◌≤◌, zero, suc, Bool, true, false, cond, List, [], ◌∷◌, Option, Some, None, refl, sym, ◌∙◌, ap, inl, inr, arith}
+use Rattle.std.proofs.Common.{◌≡◌, ℕ, ◌+◌, ◌<◌, Bool, true, false, List, Option, Some, None, refl, sym, ◌∙◌, ap, inl, inr, arith}
 use Rattle.std.specs.List.{enumerate_from}
 use Rattle.std.specs.Option.{option_map}
-use Rattle.std.specs.Prelude.{filter, not, slice_get}
+use Rattle.std.specs.Prelude.{not, slice_get}
 use Rattle.std.proofs.lemmas.Bool.{cases_order, not-true}
 use Rattle.manager_end.specs.ManagerState.{is_directed, of_direction}
 use Rattle.manager_end.specs.Script.{ScriptItem}
 use Rattle.manager_end.specs.declared.script.Txn.{Txn}
-
-module _ {X : Type 0} where
-  -- an item of a list that is numbered from m on
-  pub slice_get-enumerate : (m : ℕ) (xs : List X) (k : ℕ) → slice_get (enumerate_from m xs) k ≡ option_map (λ x. (m + k, x)) (slice_get xs k)
-  slice_get-enumerate m [] k = refl
-  slice_get-enumerate m (x ∷ xs) zero = ap (λ (n : ℕ). Some (n, x)) (omega arith)
-  slice_get-enumerate m (x ∷ xs) (suc k) =
-      slice_get-enumerate (m + 1) xs k ∙ ap (λ (n : ℕ). option_map (λ x. (n, x)) (slice_get xs k)) (omega arith)
-
-  -- what passes a filter is in it
-  pub filter-has : (test : X → Bool) (xs : List X) (k : ℕ) (x : X) → slice_get xs k ≡ Some x → test x ≡ true → (n : ℕ) × (slice_get (filter test xs) n ≡ Some x)
-  filter-has test [] k x at passes = absurd (cc)
-  filter-has test (y ∷ ys) zero x at passes =
-      let same : y ≡ x = cc
-      in let here : test y ≡ true = ap test same ∙ passes
-      in (0, ap (λ (b : Bool). slice_get (cond b (y ∷ filter test ys) (filter test ys)) 0) here ∙ at)
-  filter-has test (y ∷ ys) (suc k) x at passes =
-      let rest : (n : ℕ) × (slice_get (filter test ys) n ≡ Some x) = filter-has test ys k x at passes
-      in let go : (b : Bool) → (n : ℕ) × (slice_get (cond b (y ∷ filter test ys) (filter test ys)) n ≡ Some x) = elim [ true ↦ (suc rest.0, rest.1) | false ↦ rest ]
-      in go (test y)
-
-  -- what is in a filter passes it, and is in the list
-  pub filter-from : (test : X → Bool) (xs : List X) (n : ℕ) (x : X) → slice_get (filter test xs) n ≡ Some x → (test x ≡ true) × (k : ℕ) × (slice_get xs k ≡ Some x)
-  filter-from test [] n x at = absurd (cc)
-  filter-from test (y ∷ ys) n x at =
-      let later : (m : ℕ) → slice_get (filter test ys) m ≡ Some x → (test x ≡ true) × (k : ℕ) × (slice_get (y ∷ ys) k ≡ Some x) =
-      λ m there. let rest = filter-from test ys m x there in (rest.0, suc rest.1, rest.2)
-      in let first : (m : ℕ) → test y ≡ true → slice_get (y ∷ filter test ys) m ≡ Some x → (test x ≡ true) × (k : ℕ) × (slice_get (y ∷ ys) k ≡ Some x) =
-      elim [
-        | zero ↦ λ passes here. let same : y ≡ x = cc in (ap test (sym same) ∙ passes, 0, here)
-        | suc m ↦ λ passes there. later m there
-      ]
-      in let go : (b : Bool) → test y ≡ b → slice_get (cond b (y ∷ filter test ys) (filter test ys)) n ≡ Some x → (test x ≡ true) × (k : ℕ) × (slice_get (y ∷ ys) k ≡ Some x) =
-      elim [ true ↦ λ passes there. first n passes there | false ↦ λ fails there. later n there ]
-      in go (test y) refl at
-
-  -- of numbered items, those that pass have numbers from the first one on
-  numbers-least : (test : ℕ × X → Bool) (m : ℕ) (xs : List X) (n : ℕ) (p : ℕ × X) → slice_get (filter test (enumerate_from m xs)) n ≡ Some p → m ≤ p.0
-  numbers-least test m [] n p at = absurd (cc)
-  numbers-least test m (x ∷ xs) n p at =
-      let later : (k : ℕ) → slice_get (filter test (enumerate_from (m + 1) xs)) k ≡ Some p → m ≤ p.0 = λ k there. let least = numbers-least test (m + 1) xs k p there in omega arith
-      in let first : (k : ℕ) → slice_get ((m, x) ∷ filter test (enumerate_from (m + 1) xs)) k ≡ Some p → m ≤ p.0 =
-      elim [ zero ↦ λ here. let same : (m, x) ≡ p = cc in let number : m ≡ p.0 = ap (λ (q : ℕ × X). q.0) same in omega arith | suc k ↦ later k ]
-      in let go : (b : Bool) → slice_get (cond b ((m, x) ∷ filter test (enumerate_from (m + 1) xs)) (filter test (enumerate_from (m + 1) xs))) n ≡ Some p → m ≤ p.0 =
-      elim [ true ↦ first n | false ↦ later n ]
-      in go (test (m, x)) at
-
-  -- and their numbers rise
-  pub numbers-rise : (test : ℕ × X → Bool) (m : ℕ) (xs : List X) (j k : ℕ) (p q : ℕ × X) → slice_get (filter test (enumerate_from m xs)) j ≡ Some p → slice_get (filter test (enumerate_from m xs)) k ≡ Some q → j < k → p.0 < q.0
-  numbers-rise test m [] j k p q at_p at_q lt = absurd (cc)
-  numbers-rise test m (x ∷ xs) j k p q at_p at_q lt =
-      let kept : (i l : ℕ) → slice_get ((m, x) ∷ filter test (enumerate_from (m + 1) xs)) i ≡ Some p → slice_get ((m, x) ∷ filter test (enumerate_from (m + 1) xs)) l ≡ Some q → i < l → p.0 < q.0 =
-      elim [
-        | zero ↦ elim [
-          | zero ↦ λ a b less. absurd (omega arith)
-          | suc l ↦ λ a b less. let least = numbers-least test (m + 1) xs l q b in let same : (m, x) ≡ p = cc in let number : m ≡ p.0 = ap (λ (r : ℕ × X). r.0) same in omega arith
-        ]
-        | suc i ↦ elim [
-          | zero ↦ λ a b less. absurd (omega arith)
-          | suc l ↦ λ a b less. numbers-rise test (m + 1) xs i l p q a b (omega arith)
-        ]
-      ]
-      in let go : (b : Bool) → slice_get (cond b ((m, x) ∷ filter test (enumerate_from (m + 1) xs)) (filter test (enumerate_from (m + 1) xs))) j ≡ Some p → slice_get (cond b ((m, x) ∷ filter test (enumerate_from (m + 1) xs)) (filter test (enumerate_from (m + 1) xs))) k ≡ Some q → p.0 < q.0 =
-      elim [ true ↦ λ a b. kept j k a b lt | false ↦ λ a b. numbers-rise test (m + 1) xs j k p q a b lt ]
-      in go (test (m, x)) at_p at_q
+use Rattle.plain_lists.proofs.PlaceLemmas.{filter-from, filter-has, numbers-rise, slice_get-enumerate}
 
 directed-is : (write : Bool) (txn : Txn) → is_directed write txn ≡ true → txn.write ≡ write
 directed-is true txn is = is

@@ -1,19 +1,18 @@
 -- What the rows of the manager's table say where they move something.
-use Rattle.std.proofs.Common.{◌≡◌, ℕ, ◌<◌, ◌≤◌, ◌==◌, Bool, true, false, List, [], ◌∷◌, ◌++◌, Option, Some, None, length, refl, sym, subst}
-use Rattle.std.specs.Prelude.{All, find, nat_lt, slice_get}
+use Rattle.std.proofs.Common.{◌≡◌, ℕ, ◌<◌, ◌≤◌, ◌==◌, Bool, true, false, List, Option, Some, None, length, refl, sym, subst}
+use Rattle.std.specs.Prelude.{find, nat_lt, slice_get}
 use Rattle.std.specs.Option.{option_map}
 use Rattle.std.proofs.lemmas.Bool.{ltb-true, leb-true, and_parts}
-use Rattle.std.proofs.lemmas.List.Elements.{All-head, All-tail}
 use Rattle.axi_beats.specs.declared.beat.BBeat.{BBeat}
 use Rattle.axi_beats.specs.declared.beat.RBeat.{RBeat}
 use Rattle.axi_link.specs.LinkView.{LinkView}
-use Rattle.axi_link.specs.LinkWords.{head_of}
-use Rattle.node_core.specs.Rows.{beat_where}
 use Rattle.manager_end.specs.ManagerState.{ManagerState, writes_of, reads_of}
 use Rattle.manager_end.specs.ManagerTable.{below, answering, ready, fits, manager_aw, manager_w, manager_ar, manager_b, manager_r}
 use Rattle.manager_end.specs.Script.{ScriptItem}
 use Rattle.manager_end.specs.declared.entry.Entry.{Entry}
 use Rattle.manager_end.proofs.WaitingLemmas.{oldest-id}
+use Rattle.axi_link.specs.LinkWords.{head_of}
+use Rattle.node_core.specs.Rows.{beat_where}
 
 module _ {X : Type 0} where
   -- what passes is there, and its condition holds
@@ -47,11 +46,6 @@ ready-after answered (Some x) next is =
     let both = beat_where-some _ (Some x) next is
     in let same : x ≡ next = cc
     in subst (λ (p : ℕ × ScriptItem). p.1.txn.after ≤ answered) same (leb-true x.1.txn.after answered both.0)
-
--- what holds of all holds of one in the middle
-pub All-middle : (P : ℕ → Type 0) (xs ys : List ℕ) (y : ℕ) → All P (xs ++ y ∷ ys) → P y
-All-middle P [] ys y all = All-head P y ys all
-All-middle P (x ∷ xs) ys y all = All-middle P xs ys y (All-tail P x (xs ++ y ∷ ys) all)
 
 module _ (links : List LinkView) (s : ManagerState) where
   pub aw-next : (next : ℕ × ScriptItem) → manager_aw links s ≡ Some next → slice_get (writes_of s.script) s.issued_writes ≡ Some next

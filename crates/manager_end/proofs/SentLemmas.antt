@@ -12,7 +12,7 @@ use Rattle.manager_end.specs.Beats.{data_beat, data_beats}
 use Rattle.manager_end.specs.ManagerTable.{beats_after, ends_data, more}
 use Rattle.manager_end.specs.ManagerTrail.{first_data}
 use Rattle.manager_end.specs.Script.{ScriptItem}
-use Rattle.manager_end.proofs.ListLemmas.{take-one}
+use Rattle.plain_lists.proofs.PlaceLemmas.{take-one}
 
 -- the first data beats of a write
 pub first-beats : (bus k : ℕ) (item : ScriptItem) → k ≤ beats_of item.txn.request → take k (data_beats item bus) ≡ map (data_beat item bus) (range_with_len 0 k)

@@ -13,12 +13,8 @@ use Rattle.axi_beats.specs.declared.beat.Addr.{Addr}
 use Rattle.axi_beats.specs.declared.beat.WBeat.{WBeat}
 use Rattle.axi_beats.specs.declared.beat.BBeat.{BBeat}
 use Rattle.axi_beats.specs.declared.beat.RBeat.{RBeat}
-use Rattle.node_core.specs.Acted.{Acted}
 use Rattle.axi_link.specs.declared.out.Out.{Out}
 use Rattle.axi_link.specs.LinkView.{LinkView}
-use Rattle.axi_link.specs.LinkWords.{has_room}
-use Rattle.node_core.specs.Rows.{beat_where}
-use Rattle.axi_trail.proofs.OrderFacts.{length-filter_le}
 use Rattle.burst_address.specs.Bytes.{beat_bytes, bytes_before}
 use Rattle.manager_end.specs.Answer.{AnswerView, is_last, unanswered}
 use Rattle.manager_end.specs.ManagerInside.{IsWithin, sent_after}
@@ -35,6 +31,10 @@ use Rattle.manager_end.proofs.PlaceLemmas.{direction-at}
 use Rattle.manager_end.proofs.RowLemmas.{w-next}
 use Rattle.manager_end.proofs.ScriptLemmas.{script-short}
 use Rattle.manager_end.proofs.WaitingLemmas.{All-entries}
+use Rattle.plain_lists.proofs.PrefixLemmas.{length-filter_le}
+use Rattle.node_core.specs.Acted.{Acted}
+use Rattle.axi_link.specs.LinkWords.{has_room}
+use Rattle.node_core.specs.Rows.{beat_where}
 
 module _ (write : Bool) (script : List ScriptItem) (places : List ℕ) (same : places ≡ map (λ (p : ℕ × ScriptItem). p.0) (of_direction write script)) where
   numbered : All (λ (p : ℕ × ScriptItem). (p.0 < length script) × ((d : ScriptItem) → get_or script p.0 d ≡ p.1)) (of_direction write script)

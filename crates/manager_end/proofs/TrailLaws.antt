@@ -11,10 +11,7 @@ use Rattle.axi_beats.specs.declared.beat.RBeat.{RBeat}
 use Rattle.axi_beats.specs.declared.response.Resp.{Resp}
 use Rattle.axi_link.specs.LinkView.{LinkView}
 use Rattle.burst_address.specs.Formulas.{beats_of}
-use Rattle.flight.specs.Entries.{of_key}
-use Rattle.axi_trail.proofs.StreamFacts.{prefix_nil}
 use Rattle.axi_trail.specs.LinkContracts.{Answers}
-use Rattle.axi_beats.specs.Lanes.{Span}
 use Rattle.axi_trail.specs.Schedule.{Schedule, Progress, bytes_on}
 use Rattle.axi_trail.specs.Trail.{Beats}
 use Rattle.axi_trail.specs.Words.{number_of_response, number_of_read_data}
@@ -31,10 +28,14 @@ use Rattle.manager_end.proofs.EntryLemmas.{stays-same}
 use Rattle.manager_end.proofs.IssueLemmas.{new-note}
 use Rattle.manager_end.proofs.ManagerLaws.{manager-begins, manager-stays}
 use Rattle.manager_end.proofs.NoteLemmas.{b-noted, b-taken, r-noted, r-taken, hits, mapped, taken_of, taken-waits}
-use Rattle.manager_end.proofs.NumberLemmas.{at-all, issued-shown, number-once}
+use Rattle.manager_end.proofs.NumberLemmas.{issued-shown, number-once}
 use Rattle.manager_end.proofs.OrderLaws.{order-begins, order-stays}
 use Rattle.manager_end.proofs.PlaceLemmas.{direction-of}
 use Rattle.manager_end.proofs.TrailLemmas.{ar-after, aw-after, b-after, b-number, own-here, own-other, r-after, r-number, read-entries-after, w-after, write-entries-after}
+use Rattle.plain_lists.specs.Keys.{of_key}
+use Rattle.plain_lists.proofs.PrefixLemmas.{prefix_nil}
+use Rattle.plain_lists.proofs.PlaceLemmas.{at-all}
+use Rattle.axi_beats.specs.Lanes.{Span}
 
 -- the bytes of one more beat
 bytes-push : (rs : List RBeat) (spans : List Span) (r : RBeat) (span : Span) → slice_get spans (length rs) ≡ Some span → bytes_on (rs ++ r ∷ []) spans ≡ bytes_on rs spans ++ slice_range r.lanes span.low (span.high + 1)

@@ -1,5 +1,5 @@
 -- A manager's trail after one more round, and the answers in it.
-use Rattle.std.proofs.Common.{◌≡◌, ◌≢◌, ℕ, ◌+◌, ◌==◌, zero, suc, Bool, true, false, cond, List, [], ◌∷◌, ◌++◌, Option, Some, None, All, length, map, take, refl, sym, ◌∙◌, ap, subst, inl, inr, arith, append-nil, eq-eqb}
+use Rattle.std.proofs.Common.{◌≡◌, ◌≢◌, ℕ, ◌+◌, ◌==◌, suc, Bool, true, false, cond, List, [], ◌∷◌, ◌++◌, Option, Some, None, All, length, map, take, refl, sym, ◌∙◌, ap, subst, inl, inr, arith, append-nil, eq-eqb}
 use Rattle.std.specs.Option.{option_map, option_to_list}
 use Rattle.std.specs.Prelude.{find, slice_get}
 use Rattle.std.proofs.lemmas.Bool.{cases_eq, ne_eqb}
@@ -11,10 +11,6 @@ use Rattle.axi_beats.specs.declared.beat.BBeat.{BBeat}
 use Rattle.axi_beats.specs.declared.beat.RBeat.{RBeat}
 use Rattle.axi_beats.specs.declared.beat.WBeat.{WBeat}
 use Rattle.axi_link.specs.LinkView.{LinkView}
-use Rattle.axi_link.specs.LinkWords.{head_of}
-use Rattle.node_core.specs.Rows.{beat_where}
-use Rattle.flight.specs.Entries.{count_of, of_key}
-use Rattle.axi_trail.proofs.FilterFacts.{of_key-map, of_key-push, of_key-push_other}
 use Rattle.axi_trail.proofs.HeldFacts.{held-of_id}
 use Rattle.axi_trail.proofs.PlaceFacts.{oldest_held_is_next_of_its_own}
 use Rattle.axi_trail.proofs.StepFacts.{pending-lacks}
@@ -31,21 +27,19 @@ use Rattle.manager_end.specs.ManagerTable.{below, ending, manager_aw, manager_w,
 use Rattle.manager_end.specs.ManagerTrail.{IsScheduleOf, ManagerKeeps, held_items, manager_trail, sent_data, shares_of}
 use Rattle.manager_end.specs.Script.{ScriptItem}
 use Rattle.manager_end.specs.declared.entry.Entry.{Entry}
-use Rattle.manager_end.proofs.AskedLemmas.{IsLone, lone-numbers, lone-take, middle, none-of_key, one-asked}
+use Rattle.manager_end.proofs.AskedLemmas.{IsLone, lone-numbers, lone-take, none-of_key, one-asked}
 use Rattle.manager_end.proofs.HeldLemmas.{asked_by, entries_held, held-shows, holding, holding-has, id_held, id_of_item, single_len}
 use Rattle.manager_end.proofs.NoteLemmas.{r-taken, taken-waits}
-use Rattle.manager_end.proofs.NumberLemmas.{all-at, number_of_item}
+use Rattle.manager_end.proofs.NumberLemmas.{number_of_item}
 use Rattle.manager_end.proofs.PassedLemmas.{answering-own, ar-moved, aw-moved, b-moved, first-held, put-grows, r-moved, reply_by, take-next, taken-own, w-moved, waits-next}
 use Rattle.manager_end.proofs.PlaceLemmas.{direction-at}
-use Rattle.manager_end.proofs.ListLemmas.{map-from, take-from}
 use Rattle.manager_end.proofs.RowLemmas.{ar-next, aw-next, w-next}
 use Rattle.manager_end.proofs.SentLemmas.{sent-grows}
-
--- what stands in front of a longer list
-front-at : {X : Type 0} (xs ys : List X) (k : ℕ) (x : X) → slice_get xs k ≡ Some x → slice_get (xs ++ ys) k ≡ Some x
-front-at [] ys k x at = absurd (cc)
-front-at (z ∷ zs) ys zero x at = at
-front-at (z ∷ zs) ys (suc k) x at = front-at zs ys k x at
+use Rattle.plain_lists.specs.Keys.{count_of, of_key}
+use Rattle.plain_lists.proofs.KeyLemmas.{of_key-map, of_key-push, of_key-push_other}
+use Rattle.plain_lists.proofs.PlaceLemmas.{middle, all-at, map-from, take-from, front-at}
+use Rattle.axi_link.specs.LinkWords.{head_of}
+use Rattle.node_core.specs.Rows.{beat_where}
 
 -- a lone key doesn't stand before its place
 lone-before : {X : Type 0} (key_of : X → ℕ) (xs before : List X) (x : X) (after : List X) → IsLone key_of xs → xs ≡ before ++ x ∷ after → of_key key_of (key_of x) before ≡ []

@@ -8,8 +8,7 @@ use Rattle.std.proofs.lemmas.List.Elements.{All-cons, All-head, All-tail}
 use Rattle.std.proofs.lemmas.List.Sums.{sum_by-set}
 use Rattle.std.proofs.lemmas.Option.{slice_get_within, get_or_from_slice_get}
 use Rattle.axi_beats.specs.declared.beat.RBeat.{RBeat}
-use Rattle.node_core.specs.Rows.{beat_where}
-use Rattle.flight.specs.Entries.{place_of, without_oldest}
+use Rattle.flight.specs.Entries.{place_of}
 use Rattle.flight.proofs.EntryFacts.{some-inner}
 use Rattle.manager_end.specs.Answer.{AnswerView, is_last, unanswered, issued_in, noted}
 use Rattle.manager_end.specs.ManagerState.{IsDue, AreWaiting, AreDistinct, waiting, is_answered}
@@ -18,6 +17,8 @@ use Rattle.manager_end.specs.Script.{ScriptItem}
 use Rattle.manager_end.specs.declared.direction.Direction.{Direction}
 use Rattle.manager_end.specs.declared.entry.Entry.{Entry}
 use Rattle.manager_end.proofs.DueLemmas.{due-apart}
+use Rattle.plain_lists.specs.Keys.{without_oldest}
+use Rattle.node_core.specs.Rows.{beat_where}
 
 -- what holds of all places holds of those that are left
 pub All-left : (P : ℕ → Type 0) (id : ℕ) (entries : List Entry) (more : List ℕ) → All P (map (λ (entry : Entry). entry.place) entries ++ more) → All P (map (λ (entry : Entry). entry.place) (without_oldest (λ (entry : Entry). entry.id) id entries) ++ more)

@@ -4,17 +4,17 @@ use Rattle.std.specs.Prelude.{◌==◌, ◌+◌, ◌&&◌, ◌++◌, ◌∷◌, 
 use Rattle.std.specs.Option.{option_map}
 use Rattle.axi_beats.specs.declared.beat.BBeat.{BBeat}
 use Rattle.axi_beats.specs.declared.beat.RBeat.{RBeat}
-use Rattle.node_core.specs.Acted.{Acted}
 use Rattle.axi_link.specs.LinkView.{LinkView}
-use Rattle.axi_link.specs.LinkWords.{link_of, head_of, has_room}
-use Rattle.node_core.specs.Rows.{beat_where, put_of, take_of}
 use Rattle.axi_link.specs.declared.out.Out.{Out}
-use Rattle.flight.specs.Entries.{without_oldest}
 use Rattle.manager_end.specs.Answer.{AnswerView, issued_in, is_last, answered_in, noted, unanswered}
 use Rattle.manager_end.specs.Beats.{request_of, data_beat, bytes_on_valid_lanes}
 use Rattle.manager_end.specs.ManagerState.{ManagerState, writes_of, reads_of}
 use Rattle.manager_end.specs.Script.{ScriptItem}
 use Rattle.manager_end.specs.declared.entry.Entry.{Entry}
+use Rattle.plain_lists.specs.Keys.{without_oldest}
+use Rattle.node_core.specs.Acted.{Acted}
+use Rattle.axi_link.specs.LinkWords.{link_of, head_of, has_room}
+use Rattle.node_core.specs.Rows.{beat_where, put_of, take_of}
 
 -- the link below as it stands
 abbrev pub below : List LinkView → ManagerState → LinkView

@@ -6,19 +6,19 @@ use Rattle.std.specs.List.{range_with_len}
 use Rattle.axi_beats.specs.declared.beat.Addr.{Addr}
 use Rattle.axi_link.specs.LinkView.{LinkView}
 use Rattle.axi_trail.specs.LinkContracts.{Asks, Answers, without_id}
-use Rattle.axi_beats.specs.Lanes.{Span}
 use Rattle.axi_trail.specs.Schedule.{Schedule, Share, Progress, SameChain, bytes_on}
 use Rattle.axi_trail.specs.Trail.{Beats, no_beats, joined, moved_above}
 use Rattle.axi_trail.specs.Waiting.{held, request_of}
 use Rattle.axi_trail.specs.Words.{InOrderOfId, number_of_address, number_of_response, number_of_read_data, reads_asked, read_replies, writes_asked, write_replies}
 use Rattle.burst_address.specs.Formulas.{beats_of}
 use Rattle.burst_address.specs.Legal.{IsLegal}
-use Rattle.flight.specs.Entries.{of_key}
 use Rattle.manager_end.specs.Beats.{data_beats, high_lane, low_lane, request_of as request_of_item}
 use Rattle.manager_end.specs.ManagerOrder.{AreInOrder, IsAt, note_at}
 use Rattle.manager_end.specs.ManagerState.{ManagerState, IsManager, entry_of, new_manager, writes_of, reads_of}
 use Rattle.manager_end.specs.ManagerTable.{manager_next, manager_out}
 use Rattle.manager_end.specs.Script.{ScriptItem, IsScript}
+use Rattle.plain_lists.specs.Keys.{of_key}
+use Rattle.axi_beats.specs.Lanes.{Span}
 
 -- the shares of a direction
 abbrev pub shares_of : Schedule → Bool → ℕ → Share

@@ -1,14 +1,12 @@
 //! The transactions of one direction, writes or reads: what is issued of them, and what waits.
 
-ghost use Rattle.std.specs.Prelude.{◌≡◌, ◌==◌, ◌<◌, ◌+◌, ◌&&◌, ◌++◌, ◌∷◌, [], All, Some, find};
-ghost use Rattle.std.specs.Prelude.{length, map, nat_lt, slice_get, vec_len, if◌then◌else◌, IfOk};
-ghost use Rattle.std.specs.Prelude.{IfSome, IsSome, OnOk};
+ghost use Rattle.std.specs.Prelude.{◌≡◌, ◌==◌, ◌<◌, ◌+◌, ◌&&◌, ◌++◌, ◌∷◌, [], All, Some, find, length, map, nat_lt, slice_get, vec_len, if◌then◌else◌, IfOk, IfSome, IsSome, OnOk};
 ghost use Rattle.std.specs.Option.{option_map};
-ghost use Rattle.node_core.specs.Rows.{beat_where};
-ghost use Rattle.flight.specs.Entries.{without_oldest};
 ghost use Rattle.manager_end.specs.ManagerState.{is_directed, of_direction};
 ghost use Rattle.manager_end.specs.ManagerTable.{fits, ready, with_issued};
 ghost use Rattle.manager_end.specs.Placed.{placed};
+ghost use Rattle.plain_lists.specs.Keys.{without_oldest};
+ghost use Rattle.node_core.specs.Rows.{beat_where};
 
 use crate::entry::Entry;
 use crate::script::{Script, Txn};

@@ -5,12 +5,12 @@ use Rattle.std.specs.List.{AllByRecursion}
 use Rattle.std.proofs.lemmas.Bool.{cases_eq, ne_eqb}
 use Rattle.std.proofs.lemmas.List.Elements.{filter-append}
 use Rattle.axi_trail.specs.Schedule.{Share, ComesBefore}
-use Rattle.axi_trail.proofs.FilterFacts.{filter_cons, filter_skip}
 use Rattle.memory_end.specs.Accesses.{accesses_of, left_at}
 use Rattle.memory_end.specs.Beats.{Byte}
 use Rattle.memory_end.specs.Events.{Access, accesses}
 use Rattle.memory_end.specs.MemoryTrail.{AccessesInOrder}
-use Rattle.memory_end.proofs.TrailLists.{split_append}
+use Rattle.plain_lists.proofs.KeyLemmas.{filter_cons, filter_skip}
+use Rattle.plain_lists.proofs.PartLemmas.{split_append}
 
 -- the test of an access
 abbrev is_of : Bool → ℕ → Access → Bool

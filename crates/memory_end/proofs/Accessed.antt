@@ -4,7 +4,6 @@ use Rattle.axi_beats.specs.declared.beat.RBeat.{RBeat}
 use Rattle.axi_beats.specs.declared.beat.WBeat.{WBeat}
 use Rattle.axi_trail.specs.Schedule.{Schedule, bytes_on}
 use Rattle.axi_trail.specs.Words.{number_of_data, number_of_read_data}
-use Rattle.flight.specs.Entries.{of_key}
 use Rattle.memory_end.specs.Accesses.{accesses_of, allowed_before, due_reads, due_writes, filled_bytes, left_at}
 use Rattle.memory_end.specs.Beats.{Byte}
 use Rattle.memory_end.specs.Events.{Access, accesses}
@@ -12,6 +11,7 @@ use Rattle.memory_end.specs.MemoryTrail.{AccessesInOrder}
 use Rattle.memory_end.specs.Status.{is_inside}
 use Rattle.memory_end.specs.Store.{Store, byte_at}
 use Rattle.memory_end.specs.declared.config.MemoryConfig.{MemoryConfig}
+use Rattle.plain_lists.specs.Keys.{of_key}
 
 pub record Accessed (schedule : Schedule) (config : MemoryConfig) (store : Store) (w : List WBeat) (r : List RBeat) (all : List Access) : Type 0 where
   pub written : (number : ℕ) → map (λ (a : Access). a.byte) (accesses_of true number all) ≡ due_writes config (schedule.writes number) (length (of_key number_of_data number w))

@@ -21,8 +21,8 @@ use Rattle.axi_beats.specs.Response.{worst_of}
 use Rattle.memory_end.specs.MemoryState.{IsMemoryConfig}
 use Rattle.memory_end.specs.Store.{Store, byte_at, lanes_between}
 use Rattle.memory_end.specs.Beats.{first_lane, lane_count, strobed_lanes, is_strobed, bytes_on, written_bytes, strobed_status, valid_status, answered_lanes, answered_byte, is_valid}
-use Rattle.memory_end.proofs.ListLemmas.{filter-range-below, filter-none, filter-empty, range-below, map-range-agree, map-range-constant}
 use Rattle.memory_end.specs.Status.{is_inside, write_status, is_okay, worst_among}
+use Rattle.plain_lists.proofs.RangeLemmas.{filter-range-below, filter-none, filter-empty, range-below, map-range-agree, map-range-constant}
 
 or-left : (P : Type 0) (a b : Bool) → IsTrue (a || b) → (a ≡ true → P) → (b ≡ true → P) → P
 or-left P true b e left right = left refl

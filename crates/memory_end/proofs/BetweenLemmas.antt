@@ -3,7 +3,7 @@ use Rattle.std.proofs.Common.{◌≡◌, ℕ, ◌+◌, ◌<◌, ◌≤◌, ◌&&
 use Rattle.std.specs.Prelude.{slice_set}
 use Rattle.std.proofs.lemmas.Bool.{cases_lt, le-leb, lt-leb, lt-ltb, le-ltb}
 use Rattle.memory_end.specs.Store.{Store, byte_at, lanes_between}
-use Rattle.memory_end.proofs.ListLemmas.{map-range-agree, map-range-constant, map-range-set}
+use Rattle.plain_lists.proofs.RangeLemmas.{map-range-agree, map-range-constant, map-range-set}
 
 module _ (store : Store) (word low : ℕ) where
   -- what stands on a lane

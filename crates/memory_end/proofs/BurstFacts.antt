@@ -25,7 +25,7 @@ use Rattle.memory_end.specs.Status.{is_inside, is_okay, read_status, worst_among
 use Rattle.memory_end.specs.Store.{line_of}
 use Rattle.memory_end.specs.declared.config.MemoryConfig.{MemoryConfig}
 use Rattle.memory_end.proofs.BeatLemmas.{is_inside-lane, lanes-on_bus, lanes-ordered, width-bounds, word-in_line}
-use Rattle.memory_end.proofs.ListLemmas.{range-below, range-split}
+use Rattle.plain_lists.proofs.RangeLemmas.{range-below, range-split}
 
 -- ---- lanes and bytes
 

@@ -5,19 +5,19 @@ use Rattle.std.proofs.lemmas.List.Concat.{flat_map-append}
 use Rattle.axi_beats.specs.declared.beat.Addr.{Addr}
 use Rattle.axi_trail.specs.LinkContracts.{WholeBeforeTheNext, without_id}
 use Rattle.axi_trail.specs.Schedule.{ComesBefore, Share}
-use Rattle.axi_trail.specs.Streams.{IsPrefix}
 use Rattle.axi_trail.specs.Waiting.{Waiting, pending}
 use Rattle.axi_trail.specs.Words.{Asked, Mark, burst_asked, marks, marks_of, number_of_address, number_of_asked, number_of_mark}
-use Rattle.axi_trail.proofs.FilterFacts.{length-marks, of_key-append, of_key-cons, of_key-map, of_key-push_other}
-use Rattle.axi_trail.proofs.OrderFacts.{count_front, own_beats}
-use Rattle.axi_trail.proofs.PrefixFacts.{prefix_length}
+use Rattle.axi_trail.proofs.FilterFacts.{length-marks}
+use Rattle.axi_trail.proofs.OrderFacts.{own_beats}
 use Rattle.axi_trail.proofs.WaitingFacts.{pending-place}
-use Rattle.flight.specs.Entries.{of_key}
 use Rattle.memory_end.specs.Tracks.{len_of_address}
 use Rattle.memory_end.proofs.PartPlaces.{count_marks}
 use Rattle.memory_end.proofs.ReadTracks.{beats-shown}
 use Rattle.memory_end.proofs.TrackFacts.{beats_of_all}
-use Rattle.memory_end.proofs.TrailLists.{find_key}
+use Rattle.plain_lists.specs.Prefixes.{IsPrefix}
+use Rattle.plain_lists.proofs.KeyLemmas.{of_key-append, of_key-cons, of_key-map, of_key-push_other, find_key}
+use Rattle.plain_lists.proofs.PrefixLemmas.{count_front, prefix_length}
+use Rattle.plain_lists.specs.Keys.{of_key}
 
 beats-push : (xs : List Addr) (x : Addr) → beats_of_all (xs ++ x ∷ []) ≡ beats_of_all xs + suc x.len
 beats-push [] x = omega arith

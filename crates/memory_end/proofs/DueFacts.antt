@@ -1,5 +1,5 @@
 -- What is due at a memory, part by part.
-use Rattle.std.proofs.Common.{◌≡◌, ℕ, ◌+◌, suc, zero, List, [], ◌∷◌, ◌++◌, length, map, take, refl, sym, ◌∙◌, ap, arith, add-one, append-nil}
+use Rattle.std.proofs.Common.{◌≡◌, ℕ, ◌+◌, suc, zero, List, [], ◌∷◌, ◌++◌, length, map, refl, sym, ◌∙◌, ap, arith, add-one, append-nil}
 use Rattle.std.specs.Prelude.{All, filter, flat_map, zip}
 use Rattle.std.specs.List.{range_with_len}
 use Rattle.std.proofs.lemmas.Grind.{flat_map-append}
@@ -18,7 +18,8 @@ use Rattle.memory_end.specs.MemoryState.{IsMemoryConfig}
 use Rattle.memory_end.specs.Status.{is_inside}
 use Rattle.memory_end.specs.declared.config.MemoryConfig.{MemoryConfig}
 use Rattle.memory_end.proofs.BurstFacts.{reads-burst_bytes}
-use Rattle.memory_end.proofs.ListLemmas.{range-more}
+use Rattle.plain_lists.proofs.RangeLemmas.{range-more}
+use Rattle.plain_lists.proofs.PartLemmas.{zip-append, zip-take}
 
 -- a beat of a part
 abbrev beat_of : Addr → ℕ → BeatOf
@@ -53,18 +54,6 @@ pub due-reads : DueReadsAreOfParts
 due-reads config share is legal =
     ap (flat_map (read_addresses config)) (take_all (length (beats_of_parts share.parts)) (beats_of_parts share.parts) (omega arith))
     ∙ parts-read config is share.parts legal
-
--- pairs
-zip-take : {X Y : Type 0} (xs : List X) (ys : List Y) → take (length xs) (zip xs ys) ≡ zip xs ys
-zip-take [] ys = refl
-zip-take (x ∷ xs) [] = refl
-zip-take (x ∷ xs) (y ∷ ys) = ap (λ t. (x, y) ∷ t) (zip-take xs ys)
-
-zip-append : {X Y : Type 0} (xs more : List X) (ys others : List Y) → length ys ≡ length xs → zip (xs ++ more) (ys ++ others) ≡ zip xs ys ++ zip more others
-zip-append [] more [] others e = refl
-zip-append [] more (y ∷ ys) others e = absurd (omega arith)
-zip-append (x ∷ xs) more [] others e = absurd (omega arith)
-zip-append (x ∷ xs) more (y ∷ ys) others e = ap (λ t. (x, y) ∷ t) (zip-append xs more ys others (omega arith))
 
 module _ (config : MemoryConfig) where
   abbrev writes_of : BeatOf × WBeat → List Byte

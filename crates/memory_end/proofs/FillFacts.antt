@@ -7,11 +7,7 @@ use Rattle.std.proofs.lemmas.List.{length-map, map-append, drop_at, take_at}
 use Rattle.std.proofs.lemmas.Simd.{map-map}
 use Rattle.std.proofs.lemmas.List.FromFn.{length-range_with_len}
 use Rattle.axi_beats.specs.declared.beat.RBeat.{RBeat}
-use Rattle.axi_beats.specs.Lanes.{Span}
 use Rattle.axi_trail.specs.Schedule.{bytes_on}
-use Rattle.axi_trail.specs.Streams.{IsPrefix}
-use Rattle.axi_trail.proofs.PrefixFacts.{prefix_cons}
-use Rattle.axi_trail.proofs.StreamFacts.{prefix_itself, prefix_nil}
 use Rattle.memory_end.specs.Accesses.{BeatOf, allowed_bytes, filled_bytes, read_addresses, span_of}
 use Rattle.memory_end.specs.Beats.{Byte, answered_byte, answered_lanes, first_lane, lane_address, lane_count, read_bytes, valid_lanes}
 use Rattle.memory_end.specs.MemoryState.{IsMemoryConfig}
@@ -19,7 +15,10 @@ use Rattle.memory_end.specs.Status.{is_okay, read_status}
 use Rattle.memory_end.specs.Store.{Store, byte_at}
 use Rattle.memory_end.specs.declared.config.MemoryConfig.{MemoryConfig}
 use Rattle.memory_end.proofs.LaneFacts.{lanes-within}
-use Rattle.memory_end.proofs.ListLemmas.{map-range-agree, range-split}
+use Rattle.plain_lists.specs.Prefixes.{IsPrefix}
+use Rattle.plain_lists.proofs.PrefixLemmas.{prefix_cons, prefix_itself, prefix_nil}
+use Rattle.plain_lists.proofs.RangeLemmas.{map-range-agree, range-split}
+use Rattle.axi_beats.specs.Lanes.{Span}
 
 -- how many are allowed
 abbrev pub count_allowed : List Bool → ℕ

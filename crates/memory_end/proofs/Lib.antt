@@ -9,7 +9,6 @@ pub mod EntryLemmas
 pub mod FillFacts
 pub mod FitLemmas
 pub mod LaneFacts
-pub mod ListLemmas
 pub mod MemoryLemmas
 pub mod MoveFacts
 pub mod OwnWrites
@@ -24,7 +23,6 @@ pub mod StoreLemmas
 pub mod TrackFacts
 pub mod TrailAnswers
 pub mod TrailAsked
-pub mod TrailLists
 pub mod TrailSteps
 pub mod WriteAccess
 pub mod WriteSteps

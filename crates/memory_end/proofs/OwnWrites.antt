@@ -7,19 +7,19 @@ use Rattle.axi_beats.specs.declared.beat.Addr.{Addr}
 use Rattle.axi_beats.specs.declared.beat.WBeat.{WBeat}
 use Rattle.axi_beats.specs.declared.response.Resp.{Resp}
 use Rattle.axi_trail.specs.LinkContracts.{without_id}
-use Rattle.axi_trail.specs.Streams.{IsPrefix}
 use Rattle.axi_trail.specs.Words.{burst_asked, burst_marks, mark_of_data, marks, number_of_address, number_of_data}
-use Rattle.axi_trail.proofs.FilterFacts.{length-burst_marks, of_key-append, of_key-cons, of_key-skip}
-use Rattle.axi_trail.proofs.PrefixFacts.{prefix_cons}
-use Rattle.axi_trail.proofs.StreamFacts.{prefix_nil}
+use Rattle.axi_trail.proofs.FilterFacts.{length-burst_marks}
 use Rattle.burst_address.specs.Formulas.{beats_of}
-use Rattle.flight.specs.Entries.{of_key}
 use Rattle.memory_end.specs.Accesses.{burst_status}
 use Rattle.memory_end.specs.Tracks.{tracked, with_data_so_far}
 use Rattle.memory_end.specs.declared.config.MemoryConfig.{MemoryConfig}
 use Rattle.memory_end.specs.declared.entry.WriteEntry.{WriteEntry}
 use Rattle.memory_end.proofs.LaneFacts.{burst-without_id}
 use Rattle.memory_end.proofs.TrackFacts.{beats_of_all}
+use Rattle.plain_lists.specs.Prefixes.{IsPrefix}
+use Rattle.plain_lists.proofs.KeyLemmas.{of_key-append, of_key-cons, of_key-skip}
+use Rattle.plain_lists.proofs.PrefixLemmas.{prefix_cons, prefix_nil}
+use Rattle.plain_lists.specs.Keys.{of_key}
 
 abbrev pub number_of_entry : WriteEntry → ℕ
 number_of_entry e = e.request.tag.txn

@@ -6,18 +6,19 @@ use Rattle.std.proofs.lemmas.List.{length-map, map-append, take_at, drop_at}
 use Rattle.std.proofs.Math.Seq.{drop-append-add}
 use Rattle.std.proofs.lemmas.List.FromFn.{length-range_with_len}
 use Rattle.axi_beats.specs.declared.beat.Addr.{Addr}
-use Rattle.flight.specs.Entries.{of_key}
 use Rattle.axi_trail.specs.LinkContracts.{without_id}
-use Rattle.axi_trail.specs.Streams.{IsPrefix}
 use Rattle.axi_trail.specs.Waiting.{Waiting, pending}
 use Rattle.axi_trail.specs.Words.{Mark, burst_asked, burst_marks, marks, number_of_address, number_of_mark}
-use Rattle.axi_trail.proofs.FilterFacts.{burst_left_out, burst_selected, length-burst_marks, of_key-append, of_key-cons, of_key-skip}
+use Rattle.axi_trail.proofs.FilterFacts.{burst_left_out, burst_selected, length-burst_marks}
 use Rattle.axi_trail.proofs.MarkFacts.{length_own, take_past}
 use Rattle.axi_trail.proofs.WaitingFacts.{pending-past, pending-place, pending-within}
 use Rattle.memory_end.specs.Accesses.{BeatOf, beats_of_parts}
 use Rattle.memory_end.specs.Tracks.{len_of_address}
-use Rattle.memory_end.proofs.ListLemmas.{range-split}
 use Rattle.memory_end.proofs.TrackFacts.{beats_of_all}
+use Rattle.plain_lists.specs.Keys.{of_key}
+use Rattle.plain_lists.specs.Prefixes.{IsPrefix}
+use Rattle.plain_lists.proofs.KeyLemmas.{of_key-append, of_key-cons, of_key-skip}
+use Rattle.plain_lists.proofs.RangeLemmas.{range-split}
 
 abbrev pub number_of_waiting_address : Waiting Addr → ℕ
 number_of_waiting_address w = w.request.tag.txn

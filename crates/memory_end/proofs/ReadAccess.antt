@@ -9,11 +9,8 @@ use Rattle.axi_beats.specs.declared.beat.RBeat.{RBeat}
 use Rattle.axi_beats.specs.declared.beat.WBeat.{WBeat}
 use Rattle.axi_beats.specs.declared.response.Resp.TheVariants.{Okay, DecErr}
 use Rattle.axi_trail.specs.LinkContracts.{without_id}
-use Rattle.axi_beats.specs.Lanes.{Span}
 use Rattle.axi_trail.specs.Schedule.{ComesBefore, Schedule, Share, bytes_on}
 use Rattle.axi_trail.specs.Words.{number_of_read_data}
-use Rattle.axi_trail.proofs.FilterFacts.{of_key-push, of_key-push_other}
-use Rattle.flight.specs.Entries.{of_key}
 use Rattle.memory_end.specs.Accesses.{BeatOf, accesses_of, allowed_before, allowed_bytes, beats_of_parts, due_reads, filled_bytes, left_at, read_addresses, span_of}
 use Rattle.memory_end.specs.Beats.{Byte, lane_address, read_bytes, valid_lanes}
 use Rattle.memory_end.specs.Events.{Access, accesses}
@@ -27,7 +24,10 @@ use Rattle.memory_end.proofs.AccessFacts.{IsReadOf, accesses_of-append, accesses
 use Rattle.memory_end.proofs.Accessed.{Accessed, addresses-of_accesses, nil-of_map, values-of_accesses}
 use Rattle.memory_end.proofs.FillFacts.{bytes_on-more, count-reads, count_allowed, filled-append, filled-beat}
 use Rattle.memory_end.proofs.LaneFacts.{allowed-without_id, reads-without_id, span-without_id}
-use Rattle.memory_end.proofs.TrailLists.{flat_map_next, split_append}
+use Rattle.plain_lists.proofs.KeyLemmas.{of_key-push, of_key-push_other}
+use Rattle.plain_lists.specs.Keys.{of_key}
+use Rattle.plain_lists.proofs.PartLemmas.{flat_map_next, split_append}
+use Rattle.axi_beats.specs.Lanes.{Span}
 
 -- a byte that is read is in the memory, and has the value that the store has
 record IsStored (config : MemoryConfig) (store : Store) (byte : Byte) : Type 0 where

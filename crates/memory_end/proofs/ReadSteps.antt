@@ -5,14 +5,9 @@ use Rattle.axi_beats.specs.declared.beat.Addr.{Addr}
 use Rattle.axi_beats.specs.declared.beat.RBeat.{RBeat}
 use Rattle.axi_beats.specs.declared.beat.WBeat.{WBeat}
 use Rattle.axi_link.specs.LinkView.{LinkView}
-use Rattle.axi_link.specs.LinkWords.{has_room, head_of}
-use Rattle.node_core.specs.Rows.{beat_where}
 use Rattle.axi_trail.specs.LinkContracts.{WholeBeforeTheNext, without_id}
 use Rattle.axi_trail.specs.Schedule.{Schedule}
-use Rattle.axi_trail.specs.Streams.{IsPrefix}
 use Rattle.axi_trail.specs.Words.{burst_asked, number_of_address, number_of_asked, number_of_read_data}
-use Rattle.axi_trail.proofs.FilterFacts.{of_key-map}
-use Rattle.flight.specs.Entries.{of_key}
 use Rattle.memory_end.specs.Accesses.{BeatOf, beats_of_parts}
 use Rattle.memory_end.specs.Events.{Access, beat_reads}
 use Rattle.memory_end.specs.MemoryState.{IsMemoryConfig, MemoryState}
@@ -25,6 +20,11 @@ use Rattle.memory_end.proofs.ChainFacts.{none_later}
 use Rattle.memory_end.proofs.ReadAccess.{IsNextRead, accessed-read}
 use Rattle.memory_end.proofs.ReadTracks.{count-read_marks, head-pending, held-asked, held-put, held_reads, length-read_marks, next_read, read_marks, tracks-asked, tracks-put}
 use Rattle.memory_end.proofs.WriteTracks.{one_of}
+use Rattle.plain_lists.specs.Prefixes.{IsPrefix}
+use Rattle.plain_lists.proofs.KeyLemmas.{of_key-map}
+use Rattle.plain_lists.specs.Keys.{of_key}
+use Rattle.axi_link.specs.LinkWords.{has_room, head_of}
+use Rattle.node_core.specs.Rows.{beat_where}
 
 -- what holds of the open reads
 pub record ReadsStand (schedule : Schedule) (entries : List ReadEntry) (ar : List Addr) (r : List RBeat) : Type 0 where

@@ -1,7 +1,7 @@
 -- A memory's reads follow their trail, move by move.
-use Rattle.std.proofs.Common.{◌≡◌, ℕ, ◌+◌, ◌≤◌, ◌==◌, suc, Bool, true, false, cond, List, [], ◌∷◌, ◌++◌, Some, length, map, drop, refl, sym, ◌∙◌, ap, subst, arith, inl, inr, append_assoc, length-append}
+use Rattle.std.proofs.Common.{◌≡◌, ℕ, ◌+◌, ◌≤◌, ◌==◌, suc, Bool, true, false, cond, List, [], ◌∷◌, ◌++◌, Some, length, map, drop, refl, sym, ◌∙◌, ap, subst, arith, inl, inr, length-append}
 use Rattle.std.proofs.lemmas.Bool.{cases_eq}
-use Rattle.std.proofs.lemmas.List.{length-map, map-append, drop_at, drop-map}
+use Rattle.std.proofs.lemmas.List.{length-map, map-append, drop-map}
 use Rattle.std.proofs.lemmas.List.Elements.{All-push}
 use Rattle.std.proofs.lemmas.List.FromFn.{length-map-range_with_len}
 use Rattle.axi_beats.specs.declared.beat.Addr.{Addr}
@@ -9,17 +9,13 @@ use Rattle.axi_beats.specs.declared.beat.RBeat.{RBeat}
 use Rattle.axi_beats.specs.declared.response.Resp.{Resp}
 use Rattle.axi_trail.specs.LinkContracts.{without_id}
 use Rattle.axi_trail.specs.Schedule.{Share}
-use Rattle.axi_trail.specs.Streams.{IsPrefix}
 use Rattle.axi_trail.specs.Waiting.{Waiting, advanced, answered_once, beats_by, held, pending, waiting_shown}
 use Rattle.axi_trail.specs.Words.{Mark, Reply, InOrderOfId, burst_asked, held_asked, id_of_asked, id_of_reply, id_of_waiting, len_of_asked, mark_of_reply, marks, marks_of, next_mark, next_reply, number_of_address, number_of_mark, number_of_read_data, pending_asked, read_reply}
-use Rattle.axi_trail.proofs.FilterFacts.{length-marks, of_key-cons, of_key-map, of_key-push, of_key-push_other}
+use Rattle.axi_trail.proofs.FilterFacts.{length-marks}
 use Rattle.axi_trail.proofs.HeldFacts.{held-answer, held-request, once-own}
-use Rattle.axi_trail.proofs.PrefixFacts.{prefix_flat_map, prefix_length, prefix_map}
 use Rattle.axi_trail.proofs.SlackFacts.{in_order_goes_up}
 use Rattle.axi_trail.proofs.StepFacts.{answer_keeps_order, answers_within, held-shown, next_goes_on, pending-shown}
-use Rattle.axi_trail.proofs.StreamFacts.{prefix_append, prefix_itself, prefix_trans}
 use Rattle.axi_trail.proofs.WaitingFacts.{pending-beat, pending-request}
-use Rattle.flight.specs.Entries.{count_of, of_key}
 use Rattle.memory_end.specs.Accesses.{BeatOf, beats_of_parts}
 use Rattle.memory_end.specs.Beats.{answered_byte, answered_lanes, is_valid, lane_address, valid_status}
 use Rattle.memory_end.specs.MemoryTable.{after_r, next_beat}
@@ -29,12 +25,10 @@ use Rattle.memory_end.specs.declared.config.MemoryConfig.{MemoryConfig}
 use Rattle.memory_end.specs.declared.entry.ReadEntry.{ReadEntry}
 use Rattle.memory_end.proofs.PartPlaces.{count_marks, next_part}
 use Rattle.memory_end.proofs.TrackFacts.{beats_of_all}
-
--- one element more of a beginning
-pub prefix_next : {X : Type 0} (xs ys : List X) (y : X) (rest : List X) → IsPrefix xs ys → drop (length xs) ys ≡ y ∷ rest → IsPrefix (xs ++ y ∷ []) ys
-prefix_next xs ys y rest p at =
-    let left : p.rest ≡ y ∷ rest = sym (drop_at xs p.rest (length xs) refl) ∙ sym (ap (drop (length xs)) p.whole) ∙ at in
-    record { rest = rest; whole = p.whole ∙ ap (λ t. xs ++ t) left ∙ sym (append_assoc xs (y ∷ []) rest) }
+use Rattle.plain_lists.specs.Prefixes.{IsPrefix}
+use Rattle.plain_lists.proofs.KeyLemmas.{of_key-cons, of_key-map, of_key-push, of_key-push_other}
+use Rattle.plain_lists.proofs.PrefixLemmas.{prefix_flat_map, prefix_length, prefix_map, prefix_append, prefix_itself, prefix_trans, prefix_next}
+use Rattle.plain_lists.specs.Keys.{count_of, of_key}
 
 -- the beats of answers, by what they show
 abbrev pub read_marks : List RBeat → List Mark

@@ -9,16 +9,12 @@ use Rattle.axi_beats.specs.declared.beat.BBeat.{BBeat}
 use Rattle.axi_beats.specs.declared.beat.WBeat.{WBeat}
 use Rattle.axi_trail.specs.LinkContracts.{Asks, without_id}
 use Rattle.axi_trail.specs.Schedule.{Progress, Schedule}
-use Rattle.axi_trail.specs.Streams.{IsPrefix}
 use Rattle.axi_trail.specs.Trail.{Beats}
 use Rattle.axi_trail.specs.Words.{Asked, Mark, Reply, InOrderOfId, burst_asked, burst_marks, completed, data_marks, id_of_asked, id_of_reply, mark_of_data, mark_of_reply, marks, marks_of, number_of_address, number_of_data, number_of_mark, number_of_read_data, number_of_reply, number_of_response, write_asked, write_reply}
-use Rattle.axi_trail.proofs.FilterFacts.{length-marks, of_key-map}
-use Rattle.axi_trail.proofs.OrderFacts.{own_beats, prefix_total}
-use Rattle.axi_trail.proofs.PrefixFacts.{prefix_filter, prefix_flat_map, prefix_length, prefix_map, prefix_of_key, prefix_of_same, prefix_same, prefix_take}
+use Rattle.axi_trail.proofs.FilterFacts.{length-marks}
+use Rattle.axi_trail.proofs.OrderFacts.{own_beats}
 use Rattle.axi_trail.proofs.SlackFacts.{in_order_goes_up}
-use Rattle.axi_trail.proofs.StreamFacts.{prefix_first, prefix_itself, prefix_trans, prefix_whole}
 use Rattle.burst_address.specs.Formulas.{beats_of}
-use Rattle.flight.specs.Entries.{of_key}
 use Rattle.memory_end.specs.Accesses.{BeatOf, accesses_of, allowed_bytes, beats_of_parts, filled_bytes}
 use Rattle.memory_end.specs.Events.{Access}
 use Rattle.memory_end.specs.MemoryTable.{answer_to}
@@ -33,6 +29,10 @@ use Rattle.memory_end.proofs.ReadTracks.{beats-shown}
 use Rattle.memory_end.proofs.TrackFacts.{beats_of_all, requests-tracked}
 use Rattle.memory_end.proofs.WriteSteps.{count-data_marks, data-in_order}
 use Rattle.memory_end.proofs.WriteTracks.{answered-within}
+use Rattle.plain_lists.specs.Prefixes.{IsPrefix}
+use Rattle.plain_lists.proofs.KeyLemmas.{of_key-map}
+use Rattle.plain_lists.proofs.PrefixLemmas.{prefix_total, prefix_filter, prefix_flat_map, prefix_length, prefix_map, prefix_of_key, prefix_of_same, prefix_same, prefix_take, prefix_first, prefix_itself, prefix_trans, prefix_whole}
+use Rattle.plain_lists.specs.Keys.{of_key}
 
 -- the answer to a write, by what it shows
 abbrev reply_to : Addr → Reply

@@ -6,16 +6,11 @@ use Rattle.std.proofs.lemmas.List.{map-append}
 use Rattle.std.proofs.lemmas.List.Elements.{All-append, All-nil, Contains-append_right}
 use Rattle.axi_beats.specs.declared.beat.Addr.{Addr}
 use Rattle.axi_beats.specs.declared.beat.WBeat.{WBeat}
-use Rattle.axi_link.specs.LinkWords.{has_room, head_of}
-use Rattle.node_core.specs.Rows.{beat_where}
 use Rattle.axi_trail.specs.LinkContracts.{Asks}
 use Rattle.axi_trail.specs.Schedule.{Share}
-use Rattle.axi_trail.specs.Streams.{Agree}
 use Rattle.axi_trail.specs.Trail.{Beats}
 use Rattle.axi_trail.specs.Waiting.{Waiting, pending}
 use Rattle.axi_trail.specs.Words.{burst_asked, mark_of_data, marks, marks_of, number_of_address}
-use Rattle.axi_trail.proofs.PrefixFacts.{Agree_fronts, prefix_flat_map, prefix_map}
-use Rattle.axi_trail.proofs.StreamFacts.{prefix_append, prefix_itself}
 use Rattle.axi_trail.proofs.WaitingFacts.{pending-place}
 use Rattle.memory_end.specs.Beats.{Byte, read_bytes, written_bytes}
 use Rattle.memory_end.specs.Events.{Access, accesses, beat_reads, beat_writes}
@@ -30,6 +25,10 @@ use Rattle.memory_end.proofs.ReadTracks.{head-pending}
 use Rattle.memory_end.proofs.TrackFacts.{beats_of_all}
 use Rattle.memory_end.proofs.WriteSteps.{next-data}
 use Rattle.memory_end.proofs.WriteTracks.{lacking-pending, one_of}
+use Rattle.plain_lists.specs.Prefixes.{Agree}
+use Rattle.plain_lists.proofs.PrefixLemmas.{Agree_fronts, prefix_flat_map, prefix_map, prefix_append, prefix_itself}
+use Rattle.axi_link.specs.LinkWords.{has_room, head_of}
+use Rattle.node_core.specs.Rows.{beat_where}
 
 -- the number of a request that stands among others
 number-stands : (xs before : List Addr) (a : Addr) (after : List Addr) → xs ≡ before ++ a ∷ after → Contains (map number_of_address xs) a.tag.txn

@@ -3,18 +3,16 @@ use Rattle.std.proofs.Common.{◌≡◌, ℕ, ◌*◌, suc, zero, List, [], ◌�
 use Rattle.std.specs.Prelude.{is_some, slice_get, unwrap_or}
 use Rattle.std.specs.Option.{option_and_then}
 use Rattle.std.proofs.lemmas.Option.{unwrap_or-slice_get}
+use Rattle.std.proofs.lemmas.List.Elements.{All-nil}
 use Rattle.axi_beats.specs.declared.beat.Addr.{Addr}
 use Rattle.axi_beats.specs.declared.beat.BBeat.{BBeat}
+use Rattle.axi_beats.specs.declared.beat.RBeat.{RBeat}
 use Rattle.axi_beats.specs.declared.beat.WBeat.{WBeat}
 use Rattle.axi_link.specs.LinkView.{LinkView}
-use Rattle.axi_link.specs.LinkWords.{head_of}
-use Rattle.node_core.specs.Rows.{beat_where}
 use Rattle.axi_trail.specs.LinkContracts.{Asks}
 use Rattle.axi_trail.specs.Schedule.{Schedule}
 use Rattle.axi_trail.specs.Trail.{Beats}
 use Rattle.axi_trail.specs.Words.{burst_asked, marks_of}
-use Rattle.axi_trail.proofs.PrefixFacts.{Agree_fronts, prefix_flat_map, prefix_map}
-use Rattle.axi_trail.proofs.StreamFacts.{prefix_append, prefix_itself, prefix_nil}
 use Rattle.memory_end.specs.Events.{Access, beat_reads, beat_writes, memory_events}
 use Rattle.memory_end.specs.MemoryState.{MemoryState}
 use Rattle.memory_end.specs.MemoryTable.{after_b, after_r, after_w, memory_ar, memory_aw, memory_b, memory_link, memory_next, memory_r, memory_w, oldest_lacking}
@@ -29,8 +27,9 @@ use Rattle.memory_end.proofs.ReadSteps.{IsAfterR, ReadsAsked, ReadsStand, step-a
 use Rattle.memory_end.proofs.StayLemmas.{memory-stays, new-is_memory}
 use Rattle.memory_end.proofs.WriteSteps.{IsAfterW, WritesAsked, step-w}
 use Rattle.memory_end.proofs.WriteTracks.{one_of, tracks-aw, tracks-b, tracks-w, writes-are_held}
-use Rattle.std.proofs.lemmas.List.Elements.{All-nil}
-use Rattle.axi_beats.specs.declared.beat.RBeat.{RBeat}
+use Rattle.plain_lists.proofs.PrefixLemmas.{Agree_fronts, prefix_flat_map, prefix_map, prefix_append, prefix_itself, prefix_nil}
+use Rattle.axi_link.specs.LinkWords.{head_of}
+use Rattle.node_core.specs.Rows.{beat_where}
 
 -- what was accessed, of its parts
 gathered : (schedule : Schedule) (s : MemoryState) (trail : Beats) (all : List Access) → TracksWrites s.config s.write_entries trail.aw trail.w trail.b → ReadsStand schedule s.read_entries trail.ar trail.r →

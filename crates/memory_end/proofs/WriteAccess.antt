@@ -11,8 +11,6 @@ use Rattle.axi_beats.specs.declared.response.Resp.TheVariants.{Okay, DecErr}
 use Rattle.axi_trail.specs.LinkContracts.{without_id}
 use Rattle.axi_trail.specs.Schedule.{ComesBefore, Schedule}
 use Rattle.axi_trail.specs.Words.{number_of_data, number_of_read_data}
-use Rattle.axi_trail.proofs.FilterFacts.{of_key-push, of_key-push_other}
-use Rattle.flight.specs.Entries.{of_key}
 use Rattle.memory_end.specs.Accesses.{BeatOf, accesses_of, allowed_before, data_beats, due_writes, filled_bytes, left_at}
 use Rattle.memory_end.specs.Beats.{Byte, all_written, bytes_on, is_strobed, lane_address, strobed_lanes, word_address, written_bytes}
 use Rattle.memory_end.specs.Events.{Access, accesses}
@@ -23,10 +21,12 @@ use Rattle.memory_end.specs.declared.config.MemoryConfig.{MemoryConfig}
 use Rattle.memory_end.proofs.AccessFacts.{accesses_of-append, accesses_of-opposite, accesses_of-other, accesses_of-own, bytes-of_accesses, left_at-append, order-more, order-other, stands_among}
 use Rattle.memory_end.proofs.Accessed.{Accessed, nil-of_map}
 use Rattle.memory_end.proofs.LaneFacts.{inside-of_lane, line-of_lane, written-without_id}
-use Rattle.memory_end.proofs.ListLemmas.{filter-range-below}
 use Rattle.memory_end.proofs.ReadLemmas.{reads-others, reads-written}
 use Rattle.memory_end.proofs.StayLemmas.{Keeps, store-stays, written_at-keeps}
-use Rattle.memory_end.proofs.TrailLists.{flat_map_next, split_append}
+use Rattle.plain_lists.proofs.KeyLemmas.{of_key-push, of_key-push_other}
+use Rattle.plain_lists.specs.Keys.{of_key}
+use Rattle.plain_lists.proofs.RangeLemmas.{filter-range-below}
+use Rattle.plain_lists.proofs.PartLemmas.{flat_map_next, split_append}
 
 -- bytes on lines that are kept are left in the store
 left-written : (number address : ℕ) (lines : List ℕ) (bytes : List Byte) (store : Store) → IsStore store → store.lines ≡ lines → AllByRecursion (λ (b : Byte). Contains lines (line_of b.address)) bytes →

@@ -7,18 +7,12 @@ use Rattle.axi_beats.specs.declared.beat.Addr.{Addr}
 use Rattle.axi_beats.specs.declared.beat.RBeat.{RBeat}
 use Rattle.axi_beats.specs.declared.beat.WBeat.{WBeat}
 use Rattle.axi_beats.specs.declared.beat.BBeat.{BBeat}
-use Rattle.node_core.specs.Rows.{beat_where}
 use Rattle.axi_trail.specs.LinkContracts.{WholeBeforeTheNext, without_id}
 use Rattle.axi_trail.specs.Schedule.{Schedule}
-use Rattle.axi_trail.specs.Streams.{Agree, IsPrefix}
 use Rattle.axi_trail.specs.Waiting.{Waiting, pending, waiting_shown}
 use Rattle.axi_trail.specs.Words.{Mark, burst_asked, len_of_asked, mark_of_data, marks, next_mark, number_of_address, number_of_asked, number_of_data, number_of_mark, pending_asked, write_asked}
-use Rattle.axi_trail.proofs.FilterFacts.{length-marks, of_key-map, of_key-push}
-use Rattle.axi_trail.proofs.MarkFacts.{agree_prefix}
-use Rattle.axi_trail.proofs.PrefixFacts.{Agree_fronts, prefix_map}
+use Rattle.axi_trail.proofs.FilterFacts.{length-marks}
 use Rattle.axi_trail.proofs.StepFacts.{next_beat, pending-shown}
-use Rattle.axi_trail.proofs.StreamFacts.{prefix_append, prefix_itself}
-use Rattle.flight.specs.Entries.{of_key}
 use Rattle.memory_end.specs.Accesses.{BeatOf, beats_of_parts}
 use Rattle.memory_end.specs.Beats.{all_written, written_bytes}
 use Rattle.memory_end.specs.Events.{Access, accesses, beat_writes}
@@ -31,9 +25,14 @@ use Rattle.memory_end.proofs.ChainFacts.{none_later}
 use Rattle.memory_end.proofs.PartPlaces.{count_marks, next_part}
 use Rattle.memory_end.proofs.ReadTracks.{beats-shown}
 use Rattle.memory_end.proofs.TrackFacts.{beats_of_all}
-use Rattle.memory_end.proofs.TrailLists.{drop_prefix, drop_zip}
 use Rattle.memory_end.proofs.WriteAccess.{IsNextWrite, accessed-written, lines-written}
 use Rattle.memory_end.proofs.WriteTracks.{lacking-pending, one_of}
+use Rattle.plain_lists.specs.Prefixes.{Agree, IsPrefix}
+use Rattle.plain_lists.proofs.KeyLemmas.{of_key-map, of_key-push}
+use Rattle.plain_lists.proofs.PrefixLemmas.{agree_prefix, Agree_fronts, prefix_map, prefix_append, prefix_itself}
+use Rattle.plain_lists.specs.Keys.{of_key}
+use Rattle.plain_lists.proofs.PartLemmas.{drop_prefix, drop_zip}
+use Rattle.node_core.specs.Rows.{beat_where}
 
 -- what is asked of a link's writes, as far as a memory uses it, with the data that it takes
 pub record WritesAsked (schedule : Schedule) (aw : List Addr) (w : List WBeat) : Type 0 where

@@ -7,17 +7,17 @@ use Rattle.axi_beats.specs.declared.beat.Addr.{Addr}
 use Rattle.axi_beats.specs.declared.beat.WBeat.{WBeat}
 use Rattle.axi_beats.specs.declared.beat.BBeat.{BBeat}
 use Rattle.axi_link.specs.LinkView.{LinkView}
-use Rattle.axi_link.specs.LinkWords.{has_room}
-use Rattle.node_core.specs.Rows.{beat_where}
 use Rattle.axi_trail.specs.Waiting.{Waiting, fresh, held, pending}
 use Rattle.axi_trail.proofs.HeldFacts.{held-singles}
-use Rattle.flight.specs.Entries.{left_after, without_oldest}
 use Rattle.memory_end.specs.MemoryTable.{after_aw, after_b, after_w, answer_to, lacks_data, oldest_lacking, put_response, with_data}
 use Rattle.memory_end.specs.Tracks.{TracksWrites, data_waiting, len_of_address, tracked, with_data_so_far, write_waiting}
 use Rattle.memory_end.specs.declared.config.MemoryConfig.{MemoryConfig}
 use Rattle.memory_end.specs.declared.entry.WriteEntry.{WriteEntry}
 use Rattle.memory_end.proofs.TrackFacts.{address-tracked, beat-open, beats_of_all, length-tracked, none-lacking, oldest-open, oldest-pending, requests-tracked, whole-next, whole-stays}
-use Rattle.memory_end.proofs.TrailLists.{drop_next, drop_rest, take_within}
+use Rattle.plain_lists.specs.Keys.{left_after, without_oldest}
+use Rattle.plain_lists.proofs.PartLemmas.{drop_next, drop_rest, take_within}
+use Rattle.axi_link.specs.LinkWords.{has_room}
+use Rattle.node_core.specs.Rows.{beat_where}
 
 -- what moves, as a list
 abbrev pub one_of : {X : Type 0} → Option X → List X

@@ -6,12 +6,10 @@ use Rattle.axi_beats.specs.declared.beat.WBeat.{WBeat}
 use Rattle.axi_link.specs.LinkView.{LinkView}
 use Rattle.axi_trail.specs.LinkContracts.{Asks, Answers}
 use Rattle.axi_trail.specs.Schedule.{Schedule, Share, Progress, ComesBefore, bytes_on}
-use Rattle.axi_trail.specs.Streams.{IsPrefix}
 use Rattle.axi_trail.specs.Trail.{Beats, no_beats, joined, moved_below}
 use Rattle.axi_trail.specs.Waiting.{held}
 use Rattle.axi_trail.specs.Words.{number_of_address, number_of_data, number_of_read_data}
 use Rattle.burst_address.specs.Formulas.{beats_of}
-use Rattle.flight.specs.Entries.{of_key}
 use Rattle.memory_end.specs.Accesses.{BeatOf, accesses_of, allowed_before, beats_of_parts, burst_status, due_reads, due_writes, filled_bytes, left_at, span_of}
 use Rattle.memory_end.specs.Beats.{valid_status}
 use Rattle.memory_end.specs.Events.{Access, memory_events}
@@ -21,6 +19,8 @@ use Rattle.memory_end.specs.Status.{is_inside}
 use Rattle.memory_end.specs.Store.{byte_at}
 use Rattle.memory_end.specs.Tracks.{TracksReads, TracksWrites, read_waiting, write_waiting}
 use Rattle.memory_end.specs.declared.config.MemoryConfig.{MemoryConfig}
+use Rattle.plain_lists.specs.Prefixes.{IsPrefix}
+use Rattle.plain_lists.specs.Keys.{of_key}
 
 -- What is due of one transaction at a memory: data for each beat of its parts, and the responses and lanes that follow
 -- from its parts.

@@ -5,15 +5,15 @@ use Rattle.axi_beats.specs.declared.beat.WBeat.{WBeat}
 use Rattle.axi_beats.specs.declared.beat.BBeat.{BBeat}
 use Rattle.axi_beats.specs.declared.beat.RBeat.{RBeat}
 use Rattle.axi_trail.specs.Schedule.{Share}
-use Rattle.axi_trail.specs.Streams.{IsPrefix}
 use Rattle.axi_trail.specs.Waiting.{Waiting, beats_by, pending}
 use Rattle.axi_trail.specs.Words.{InOrderOfId, burst_asked, marks, mark_of_reply, read_reply, number_of_read_data}
-use Rattle.flight.specs.Entries.{of_key}
 use Rattle.memory_end.specs.Accesses.{burst_status}
 use Rattle.memory_end.specs.MemoryTable.{answer_to}
 use Rattle.memory_end.specs.declared.config.MemoryConfig.{MemoryConfig}
 use Rattle.memory_end.specs.declared.entry.ReadEntry.{ReadEntry}
 use Rattle.memory_end.specs.declared.entry.WriteEntry.{WriteEntry}
+use Rattle.plain_lists.specs.Prefixes.{IsPrefix}
+use Rattle.plain_lists.specs.Keys.{of_key}
 
 -- an open write waits for its response, an open read for its next beat, and a write that lacks data for its next one
 abbrev pub write_waiting : WriteEntry → Waiting Addr

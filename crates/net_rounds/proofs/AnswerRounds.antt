@@ -7,16 +7,11 @@ use Rattle.std.proofs.lemmas.List.{length-map}
 use Rattle.std.proofs.lemmas.List.Elements.{All-append, All-map, All-nil}
 use Rattle.std.proofs.lemmas.Slice.Zip.{length-zip}
 use Rattle.axi_history.specs.Records.{Event}
-use Rattle.axi_trail.proofs.PrefixFacts.{prefix_length, prefix_of_key}
-use Rattle.axi_trail.proofs.StreamFacts.{prefix_append, prefix_itself, prefix_trans}
 use Rattle.axi_trail.proofs.TrailFacts.{taken_was_put_before}
 use Rattle.axi_trail.specs.Schedule.{Share}
-use Rattle.axi_trail.specs.Streams.{IsPrefix, over}
 use Rattle.axi_trail.specs.Trail.{IsBehind, moved_below}
 use Rattle.axi_trail.specs.Words.{number_of_data, number_of_read_data, number_of_response}
-use Rattle.flight.specs.Entries.{of_key}
 use Rattle.manager_end.specs.Script.{ScriptItem}
-use Rattle.manager_end.proofs.NumberLemmas.{contains-at}
 use Rattle.memory_end.specs.Accesses.{accesses_of, beats_of_parts, data_beats, due_reads, due_writes}
 use Rattle.memory_end.specs.Events.{Access}
 use Rattle.memory_end.specs.declared.config.MemoryConfig.{MemoryConfig}
@@ -30,19 +25,10 @@ use Rattle.net_rounds.proofs.RunRounds.{at-run}
 use Rattle.net_rounds.proofs.ScriptPlaces.{one-item}
 use Rattle.net_rounds.specs.BuiltIn.{ram}
 use Rattle.net_rounds.specs.History.{event_of}
-
--- what all rounds add is the beginning of what more rounds add
-over-grows : {X : Type 0} (added : ℕ → List X) (m k : ℕ) → m ≤ k → IsPrefix (over added m) (over added k)
-over-grows added m zero le =
-    let none : m ≡ 0 = omega arith in
-    subst (λ (n : ℕ). IsPrefix (over added n) []) (sym none) (prefix_itself [])
-over-grows added m (suc k) le =
-    elim (cases_lt m (suc k)) [
-      | inl before ↦ prefix_trans (over-grows added m k (omega arith)) (prefix_append (over added k) (added k))
-      | inr last ↦
-          let same : m ≡ suc k = omega arith in
-          subst (λ (n : ℕ). IsPrefix (over added n) (over added (suc k))) (sym same) (prefix_itself (over added (suc k)))
-    ]
+use Rattle.plain_lists.proofs.PrefixLemmas.{prefix_length, prefix_of_key}
+use Rattle.plain_lists.specs.Keys.{of_key}
+use Rattle.plain_lists.proofs.PlaceLemmas.{contains-at}
+use Rattle.plain_lists.proofs.RoundLemmas.{over-grows}
 
 module _ (script : List ScriptItem) (run : RunFacts script) where
   -- ---- how many accesses there are of a transaction

@@ -9,15 +9,10 @@ use Rattle.std.proofs.lemmas.Option.{get_or_from_slice_get, slice_get-map, slice
 use Rattle.axi_beats.specs.declared.beat.RBeat.{RBeat}
 use Rattle.axi_history.specs.Answered.{answered_bytes, values_of}
 use Rattle.axi_history.specs.Records.{Answer, Transaction}
-use Rattle.axi_trail.proofs.PrefixFacts.{prefix_length, prefix_of_key}
 use Rattle.axi_trail.specs.Schedule.{Share, bytes_on}
-use Rattle.axi_trail.specs.Streams.{IsPrefix}
 use Rattle.axi_trail.specs.Words.{number_of_read_data, number_of_response}
-use Rattle.axi_trail.proofs.StreamFacts.{prefix_whole}
-use Rattle.flight.specs.Entries.{of_key}
 use Rattle.manager_end.specs.ManagerTrail.{IsReadNote, IsWriteNote, shares_of}
 use Rattle.manager_end.specs.Script.{ScriptItem}
-use Rattle.manager_end.proofs.NumberLemmas.{all-at, contains-at}
 use Rattle.memory_end.specs.Accesses.{accesses_of, allowed_before, beats_of_parts, filled_bytes}
 use Rattle.memory_end.specs.Events.{Access}
 use Rattle.memory_end.specs.declared.config.MemoryConfig.{MemoryConfig}
@@ -32,6 +27,10 @@ use Rattle.net_rounds.proofs.RunRounds.{at-run}
 use Rattle.net_rounds.proofs.ScriptPlaces.{one-item}
 use Rattle.net_rounds.specs.BuiltIn.{ram}
 use Rattle.net_rounds.specs.Due.{bytes_of, response_of, transaction_of, transactions_of}
+use Rattle.plain_lists.proofs.PrefixLemmas.{prefix_length, prefix_of_key, prefix_whole}
+use Rattle.plain_lists.specs.Prefixes.{IsPrefix}
+use Rattle.plain_lists.specs.Keys.{of_key}
+use Rattle.plain_lists.proofs.PlaceLemmas.{all-at, contains-at}
 
 module _ {X : Type 0} where
   -- of elements in a strict order two different places have different ones

@@ -1,16 +1,16 @@
 -- The order of issues, accesses and answers in the run.
-use Rattle.std.proofs.Common.{◌≡◌, ◌<◌, ◌+◌, ◌∷◌, [], ◌++◌, ℕ, zero, suc, List, Bool, true, false, Some, length, refl, sym, ap, ◌∙◌, subst, arith, length-append}
+use Rattle.std.proofs.Common.{◌≡◌, ◌<◌, ◌∷◌, [], ◌++◌, ℕ, zero, suc, List, Bool, true, false, Some, refl, sym, ap, ◌∙◌, subst, arith}
 use Rattle.std.specs.Prelude.{◌≢◌, All, Any, get_or, map, slice_get, take}
 use Rattle.std.proofs.Common.{inl, inr}
 use Rattle.std.proofs.lemmas.Bool.{cases_Bool}
-use Rattle.std.proofs.lemmas.List.{get_or-append-add, map-append, take-map}
+use Rattle.std.proofs.lemmas.List.{map-append, take-map}
 use Rattle.std.proofs.lemmas.List.Elements.{All-cons, All-map, All-nil}
 use Rattle.axi_history.specs.Answered.{AreInOrder, of_manager}
 use Rattle.axi_history.specs.Records.{Answer, Event, Issue, Transaction}
 use Rattle.axi_trail.specs.Schedule.{ComesBefore, Share}
 use Rattle.manager_end.specs.ManagerOrder.{AreOfDirection, AreOfId}
 use Rattle.manager_end.specs.Script.{ScriptItem}
-use Rattle.manager_end.proofs.NumberLemmas.{contains-at, number-before}
+use Rattle.manager_end.proofs.NumberLemmas.{number-before}
 use Rattle.memory_end.specs.Accesses.{accesses_of}
 use Rattle.memory_end.specs.Events.{Access}
 use Rattle.net_rounds.proofs.AccessLists.{none-is}
@@ -25,24 +25,8 @@ use Rattle.net_rounds.proofs.RunRounds.{IsEventOf, answered-in, at-run, events-o
 use Rattle.net_rounds.proofs.ScriptPlaces.{one-item}
 use Rattle.net_rounds.specs.BuiltIn.{ram}
 use Rattle.net_rounds.specs.Due.{transaction_of, transactions_of}
-
-module _ {X : Type 0} where
-  -- what holds of all holds of those behind
-  pub All-behind : (P : X → Type 0) (front : List X) (x : X) (back : List X) → All P (front ++ x ∷ back) → All P back
-  All-behind P front x back all k d lt =
-      let long = length-append front (x ∷ back) in
-      subst P (get_or-append-add front (x ∷ back) (suc k) d) (all (length front + suc k) d (omega arith))
-
-  pub All-middle : (P : X → Type 0) (front : List X) (x : X) (back : List X) → All P (front ++ x ∷ back) → P x
-  All-middle P front x back all =
-      let long = length-append front (x ∷ back) in
-      subst P (get_or-append-add front (x ∷ back) 0 x) (all (length front + 0) x (omega arith))
-
-  -- what holds of the first places holds of the first elements
-  pub All-first : (P : X → Type 0) (n : ℕ) (xs : List X) → ((place : ℕ) (x : X) → place < n → slice_get xs place ≡ Some x → P x) → All P (take n xs)
-  All-first P zero xs each = All-nil P
-  All-first P (suc n) [] each = All-nil P
-  All-first P (suc n) (x ∷ xs) each = All-cons P x (take n xs) (each 0 x (omega arith) refl) (All-first P n xs (λ place y lt at. each (suc place) y (omega arith) at))
+use Rattle.plain_lists.proofs.PlaceLemmas.{contains-at}
+use Rattle.plain_lists.proofs.PartLemmas.{All-behind, All-first, All-middle}
 
 All-mapped : {X Y : Type 0} (P : Y → Type 0) (f : X → Y) (xs : List X) → All P (map f xs) → All (λ x. P (f x)) xs
 All-mapped P f [] all = All-nil (λ x. P (f x))

@@ -8,7 +8,6 @@ use Rattle.axi_trail.specs.LinkContracts.{without_id}
 use Rattle.axi_trail.specs.Schedule.{Progress, Schedule, Share}
 use Rattle.axi_trail.specs.Trail.{Beats, trail_above, trail_below}
 use Rattle.axi_trail.specs.Words.{number_of_data}
-use Rattle.flight.specs.Entries.{of_key}
 use Rattle.manager_end.specs.Answer.{AnswerView}
 use Rattle.manager_end.specs.Beats.{data_beats, request_of}
 use Rattle.manager_end.specs.ManagerTable.{manager_out}
@@ -20,6 +19,7 @@ use Rattle.memory_end.specs.MemoryTable.{memory_out}
 use Rattle.net_rounds.proofs.NetworkLemmas.{built_in_pair}
 use Rattle.net_rounds.proofs.Pair.{Pair, pair_after}
 use Rattle.net_rounds.specs.BuiltIn.{ram}
+use Rattle.plain_lists.specs.Keys.{of_key}
 
 -- a transaction that doesn't come by
 abbrev pub no_share : Share

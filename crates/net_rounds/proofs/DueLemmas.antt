@@ -13,18 +13,15 @@ use Rattle.axi_beats.specs.declared.response.Resp.TheVariants.{DecErr, Okay}
 use Rattle.axi_history.specs.Answered.{answered_bytes}
 use Rattle.axi_history.specs.Delivered.{IsBeginningOf, wanted}
 use Rattle.axi_history.specs.Records.{Byte, due}
-use Rattle.axi_trail.proofs.FilterFacts.{filter_map}
 use Rattle.axi_trail.specs.Schedule.{Share}
 use Rattle.burst_address.specs.Bytes.{beat_bytes, burst_bytes, bytes_before}
 use Rattle.burst_address.specs.Formulas.{beats_of}
 use Rattle.burst_address.specs.Legal.{IsLegal}
-use Rattle.manager_end.proofs.ListLemmas.{filter-same}
 use Rattle.manager_end.specs.Beats.{data_beats as data_of_item}
 use Rattle.manager_end.specs.ManagerTrail.{shares_of}
 use Rattle.manager_end.specs.Script.{ScriptItem}
 use Rattle.memory_end.proofs.BurstFacts.{lanes-are_bytes, status-of_burst_bytes}
 use Rattle.memory_end.proofs.DueFacts.{due-reads, due-writes}
-use Rattle.memory_end.proofs.ListLemmas.{range-more}
 use Rattle.memory_end.specs.Accesses.{BeatOf, allowed_before, allowed_bytes, beats_of_parts, data_beats, due_reads, due_writes, filled_bytes, read_addresses}
 use Rattle.memory_end.specs.Beats.{Byte as MemoryByte, lane_address, valid_lanes, valid_status, written_bytes}
 use Rattle.memory_end.specs.BurstBytes.{all_written_bytes, inside_of}
@@ -35,6 +32,9 @@ use Rattle.net_rounds.proofs.NodeLaws.{NodeLaws}
 use Rattle.net_rounds.proofs.ScheduleLemmas.{IsTrafficItem, beat-count, beat_of, data-count, part-beats, part_of, share-own, traffic-item}
 use Rattle.net_rounds.specs.BuiltIn.{ram}
 use Rattle.net_rounds.specs.Due.{IsNumberedTraffic, bytes_of, response_of, strobed_bytes, transaction_of}
+use Rattle.plain_lists.proofs.KeyLemmas.{filter_map}
+use Rattle.plain_lists.proofs.PlaceLemmas.{filter-same}
+use Rattle.plain_lists.proofs.RangeLemmas.{range-more}
 
 module _ {X Y Z : Type 0} where
   -- what the first elements give is the beginning of what all give

@@ -8,12 +8,12 @@ use Rattle.std.proofs.lemmas.Simd.{map-map}
 use Rattle.axi_history.specs.Answered.{values_of}
 use Rattle.axi_history.specs.Delivered.{value_after, is_write_at, shown}
 use Rattle.axi_history.specs.Records.{Event, events_of}
-use Rattle.axi_trail.proofs.FilterFacts.{filter_map}
 use Rattle.memory_end.specs.Accesses.{accesses_of, left_at}
 use Rattle.memory_end.specs.Events.{Access}
 use Rattle.net_rounds.proofs.DueLemmas.{shown_read, shown_write}
 use Rattle.net_rounds.proofs.ScheduleLemmas.{beq-true}
 use Rattle.net_rounds.proofs.RunHistory.{access_of_event}
+use Rattle.plain_lists.proofs.KeyLemmas.{filter_map}
 
 -- an access, as the byte that it does
 abbrev pub shown_access : Access → ℕ × Option ℕ

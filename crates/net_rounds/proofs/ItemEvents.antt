@@ -8,13 +8,10 @@ use Rattle.axi_beats.specs.declared.beat.RBeat.{RBeat}
 use Rattle.axi_history.specs.Answered.{answered_bytes, values_of}
 use Rattle.axi_history.specs.Delivered.{IsAnswered, IsBeginningOf, shown, wanted}
 use Rattle.axi_history.specs.Records.{Answer, due, events_of}
-use Rattle.axi_trail.proofs.FilterFacts.{of_key-append}
 use Rattle.axi_trail.specs.Schedule.{Share}
 use Rattle.axi_trail.specs.Words.{number_of_data, number_of_read_data, number_of_response}
-use Rattle.flight.specs.Entries.{of_key}
 use Rattle.manager_end.specs.ManagerOrder.{IsAt}
 use Rattle.manager_end.specs.Script.{ScriptItem}
-use Rattle.manager_end.proofs.NumberLemmas.{contains-at}
 use Rattle.memory_end.specs.Accesses.{accesses_of, allowed_before, beats_of_parts, due_reads, due_writes, filled_bytes}
 use Rattle.memory_end.specs.Events.{Access}
 use Rattle.memory_end.specs.MemoryTrail.{HasAccessed}
@@ -29,6 +26,9 @@ use Rattle.net_rounds.proofs.RunFacts.{RunFacts, note}
 use Rattle.net_rounds.proofs.RunHistory.{access_of_event, accesses-are, run_answers, run_events}
 use Rattle.net_rounds.specs.BuiltIn.{ram}
 use Rattle.net_rounds.specs.Due.{bytes_of, transaction_of}
+use Rattle.plain_lists.proofs.KeyLemmas.{of_key-append}
+use Rattle.plain_lists.specs.Keys.{of_key}
+use Rattle.plain_lists.proofs.PlaceLemmas.{contains-at}
 
 -- of no beats nothing is due
 nothing-written : (count : ℕ) → due_writes ram no_share count ≡ []

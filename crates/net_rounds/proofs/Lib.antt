@@ -4,7 +4,6 @@ pub mod AnsweredContent
 pub mod AnsweredOrder
 pub mod BoundLemmas
 pub mod BuiltInSchedule
-pub mod Choosing
 pub mod DataLemmas
 pub mod DeliveredLemmas
 pub mod DueLemmas
@@ -18,7 +17,6 @@ pub mod NodeLaws
 pub mod NodeLawsHold
 pub mod NotedLists
 pub mod NotesLemmas
-pub mod Numbers
 pub mod Pair
 pub mod PairLemmas
 pub mod ScheduleLemmas

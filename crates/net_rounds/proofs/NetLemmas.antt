@@ -1,11 +1,8 @@
 -- In every round of the built-in network both nodes may decide, and the link can make their moves.
-use Rattle.std.proofs.Common.{◌≡◌, ◌<◌, ◌+◌, ◌∷◌, [], ℕ, suc, List, length, take, drop, ◌++◌, Bool, true, false, refl, sym, ap, ap₂, ◌∙◌, subst, arith, lit<, lit≤, map, ◌^◌, ◌-◌}
+use Rattle.std.proofs.Common.{◌≡◌, ◌<◌, ◌+◌, ◌∷◌, [], ℕ, suc, List, length, Bool, true, false, refl, sym, ap, ap₂, ◌∙◌, subst, arith, lit<, lit≤, map, ◌^◌, ◌-◌}
 use Rattle.std.specs.Prelude.{All}
-use Rattle.std.proofs.lemmas.List.{take_at}
 use Rattle.std.proofs.lemmas.List.Elements.{All-from_recursion, All-nil}
 use Rattle.axi_beats.specs.declared.beat.WBeat.{WBeat}
-use Rattle.node_core.proofs.MovesLemmas.{fitting_moves}
-use Rattle.node_core.specs.Acted.{Acted, opened}
 use Rattle.axi_link.specs.LinkView.{LinkView, empty_link}
 use Rattle.manager_end.proofs.ManagerLaws.{manager-begins, manager-fits}
 use Rattle.manager_end.specs.ManagerState.{IsManager, ManagerState, new_manager}
@@ -29,7 +26,9 @@ use Rattle.net_rounds.specs.NetView.{IsNet, NetView, standing}
 use Rattle.net_rounds.specs.Network.{CanLink, Network, after_commit, after_decide, after_rounds, link_moved}
 use Rattle.net_rounds.specs.declared.ends.Ends.{Ends}
 use Rattle.net_rounds.specs.Notes.{AreNotes}
-use Rattle.net_rounds.specs.Numbered.{AllNumbered, numbered}
+use Rattle.plain_lists.specs.Numbered.{AllNumbered, numbered}
+use Rattle.node_core.proofs.MovesLemmas.{fitting_moves}
+use Rattle.node_core.specs.Acted.{Acted, opened}
 
 ram-config : IsMemoryConfig ram
 ram-config = record { bus = refl; base = refl; size = refl; end = lit≤ tt }
@@ -197,10 +196,6 @@ pub network-committed :
     record { nodes = net.nodes; links = links; ends = net.ends } ≡ after_commit net
 unfolding after_commit
 network-committed net links moved = ap (λ (ls : List LinkView). record { nodes = net.nodes; links = ls; ends = net.ends }) moved
-
--- a list that was lent whole and is given back
-pub taken-back : {X : Type 0} (now before : List X) (count : ℕ) → length now ≡ count → take count (now ++ drop (length now) before) ≡ now
-taken-back now before count long = take_at now (drop (length now) before) count long
 
 -- what phase one leaves, in terms of what was lent to it
 pub decided-by :

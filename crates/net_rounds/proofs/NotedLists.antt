@@ -9,9 +9,9 @@ use Rattle.axi_history.specs.Records.{Answer, Issue}
 use Rattle.manager_end.specs.Answer.{AnswerView, unanswered}
 use Rattle.manager_end.specs.ManagerState.{is_answered}
 use Rattle.manager_end.specs.Script.{ScriptItem}
-use Rattle.manager_end.proofs.NumberLemmas.{at-all}
 use Rattle.net_rounds.proofs.ScriptPlaces.{Any-first, Any-later}
 use Rattle.net_rounds.specs.History.{answer_noted, issue_noted}
+use Rattle.plain_lists.proofs.PlaceLemmas.{at-all}
 
 -- what is made of each transaction and its note, where something is
 module _ {Y : Type 0} (made : ScriptItem × AnswerView → Option Y) where

@@ -28,9 +28,9 @@ use Rattle.manager_end.specs.Script.{ScriptItem}
 use Rattle.manager_end.proofs.BurstLemmas.{beat-within, bytes-most, lane-count, lane-order}
 use Rattle.manager_end.proofs.NoteLemmas.{b-taken, change-of, r-taken, taken-waits}
 use Rattle.manager_end.proofs.NoteLemmas.Change.{Issued, Kept, Read, Wrote}
-use Rattle.manager_end.proofs.NumberLemmas.{at-all}
 use Rattle.manager_end.proofs.ScriptLemmas.{script-item}
 use Rattle.net_rounds.specs.Notes.{AreNotes}
+use Rattle.plain_lists.proofs.PlaceLemmas.{at-all}
 
 -- ---- counting: where as many pass as there are, all pass
 

@@ -6,16 +6,12 @@ use Rattle.axi_beats.specs.Bus.{IsBusWidth}
 use Rattle.axi_beats.specs.declared.beat.Addr.{Addr}
 use Rattle.axi_beats.specs.declared.beat.WBeat.{WBeat}
 use Rattle.axi_link.specs.LinkView.{LinkView}
-use Rattle.axi_link.specs.LinkWords.{head_of, link_of}
-use Rattle.node_core.specs.Rows.{put_of}
 use Rattle.axi_link.proofs.KeepLemmas.{All-moved}
-use Rattle.node_core.proofs.RowLemmas.{beat_where-has}
 use Rattle.burst_address.proofs.Beats.{beat-count}
 use Rattle.burst_address.specs.Bytes.{burst_bytes}
 use Rattle.burst_address.specs.Legal.{IsLegal}
 use Rattle.manager_end.proofs.DataLaws.{data-strobes_within}
 use Rattle.manager_end.proofs.ManagerLaws.{manager-stays}
-use Rattle.manager_end.proofs.NumberLemmas.{at-all, contains-at}
 use Rattle.manager_end.proofs.ScriptLemmas.{script-item}
 use Rattle.manager_end.specs.Beats.{request_of, data_beat, high_lane}
 use Rattle.manager_end.specs.BurstLaws.{SendsItsBytes}
@@ -26,11 +22,14 @@ use Rattle.memory_end.proofs.StayLemmas.{memory-stays}
 use Rattle.memory_end.specs.MemoryState.{AreLinesAmong, IsMemory, IsRequest}
 use Rattle.memory_end.specs.MemoryTable.{CanMemory, memory_out}
 use Rattle.memory_end.specs.declared.config.MemoryConfig.{MemoryConfig}
-use Rattle.net_rounds.proofs.Choosing.{All-slice_get, IfSome-both, IfSome-map}
 use Rattle.net_rounds.proofs.NotesLemmas.{FewNotes, few-keeps}
 use Rattle.net_rounds.proofs.Pair.{Pair, decided, moved, pair_after}
 use Rattle.net_rounds.proofs.ScriptPlaces.{placed-of}
 use Rattle.net_rounds.proofs.StoreStays.{lines-stay}
+use Rattle.plain_lists.proofs.PlaceLemmas.{at-all, contains-at, All-slice_get, IfSome-both, IfSome-map}
+use Rattle.axi_link.specs.LinkWords.{head_of, link_of}
+use Rattle.node_core.specs.Rows.{put_of}
+use Rattle.node_core.proofs.RowLemmas.{beat_where-has}
 
 -- what is put on a link
 put-has : {X : Type 0} (P : X → Type 0) (number : ℕ) (o : Option X) → IfSome o P → IfSome (put_of number o) (λ (p : ℕ × X). P p.1)

@@ -4,9 +4,7 @@ use Rattle.std.specs.Prelude.{◌==◌, IsTrue, Option, Some, None, slice_get, s
 use Rattle.std.specs.List.{list_any}
 use Rattle.std.proofs.lemmas.Bool.{and_from, eq-eqb, lt-ltb, or_left, or_right}
 use Rattle.axi_link.specs.Moves.{link_after}
-use Rattle.axi_link.specs.LinkWords.{link_of}
 use Rattle.axi_trail.proofs.SlackFacts.{answered_through_link, asked_through_link}
-use Rattle.axi_trail.proofs.StreamFacts.{prefix_itself}
 use Rattle.axi_trail.proofs.TrailFacts.{links_are_queues}
 use Rattle.axi_trail.specs.LinkContracts.{Answers, Asks}
 use Rattle.axi_trail.specs.Schedule.{Grows, Progress}
@@ -31,6 +29,8 @@ use Rattle.net_rounds.proofs.RunKeeps.{RunKeeps}
 use Rattle.net_rounds.proofs.TouchedLemmas.{touched-ascending}
 use Rattle.net_rounds.specs.BuiltIn.{ram, touched_lines}
 use Rattle.net_rounds.specs.Due.{IsNumberedTraffic}
+use Rattle.plain_lists.proofs.PrefixLemmas.{prefix_itself}
+use Rattle.axi_link.specs.LinkWords.{link_of}
 
 number_or : Option ScriptItem → ℕ
 number_or None = 0

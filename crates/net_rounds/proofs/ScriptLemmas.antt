@@ -13,10 +13,10 @@ use Rattle.burst_address.specs.Formulas.{beat_at, beats_of}
 use Rattle.manager_end.proofs.ScriptLemmas.{script-item}
 use Rattle.manager_end.specs.Script.{IsScript, ScriptItem}
 use Rattle.manager_end.specs.declared.script.Txn.{Txn}
-use Rattle.memory_end.proofs.ListLemmas.{range-more}
 use Rattle.memory_end.specs.MemoryState.{IsRequest}
 use Rattle.memory_end.specs.Store.{line_of}
 use Rattle.net_rounds.specs.BuiltIn.{is_touched_by, lines_below, reaches_line, touches_line}
+use Rattle.plain_lists.proofs.RangeLemmas.{range-more}
 
 -- ---- one more beat of a burst
 

@@ -13,10 +13,10 @@ use Rattle.manager_end.specs.ManagerState.{ManagerState, IsManager, writes_of}
 use Rattle.manager_end.specs.Script.{ScriptItem}
 use Rattle.memory_end.specs.MemoryState.{AreLinesAmong}
 use Rattle.memory_end.specs.Store.{line_of}
-use Rattle.memory_end.proofs.ListLemmas.{range-ascends, range-contains}
-use Rattle.net_rounds.proofs.Choosing.{Contains-filter}
 use Rattle.net_rounds.proofs.PairLemmas.{KeepsLines, chosen-of}
 use Rattle.net_rounds.specs.BuiltIn.{is_touched_by, lines_below, ram, reaches_line, touched_lines}
+use Rattle.plain_lists.proofs.RangeLemmas.{range-ascends, range-contains}
+use Rattle.plain_lists.proofs.PlaceLemmas.{Contains-filter}
 
 -- a burst reaches the line of each of its beats
 reaches-own : (request : Addr) (beat : ℕ) → beat ≤ request.len → reaches_line (line_of (beat_at request beat)) request (beats_of request) ≡ true

@@ -6,7 +6,6 @@ pub mod NetInside
 pub mod NetView
 pub mod Network
 pub mod Notes
-pub mod Numbered
 pub mod Ports
 pub mod Right
 pub mod Run

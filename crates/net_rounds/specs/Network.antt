@@ -3,14 +3,14 @@
 use Rattle.std.specs.Prelude.{◌<◌, ℕ, zero, suc, Bool, List, map, length, slice_get, slice_index_or}
 use Rattle.std.specs.List.{list_all}
 use Rattle.std.specs.Option.{option_map_or}
-use Rattle.node_core.specs.Acted.{no_moves}
 use Rattle.axi_link.specs.LinkView.{LinkView}
 use Rattle.axi_link.specs.Moves.{CanMove, link_after}
 use Rattle.axi_link.specs.declared.out.Out.{Out}
 use Rattle.net_nodes.specs.NodeTable.{node_done, node_out, node_table}
 use Rattle.net_nodes.specs.declared.node.Node.{Node}
-use Rattle.net_rounds.specs.Numbered.{numbered}
 use Rattle.net_rounds.specs.declared.ends.Ends.{Ends}
+use Rattle.plain_lists.specs.Numbered.{numbered}
+use Rattle.node_core.specs.Acted.{no_moves}
 
 -- its nodes, its links, and the two nodes of each link
 pub record Network : Type 0 where

@@ -2,8 +2,8 @@
 
 ghost use Rattle.std.specs.Prelude.{◌≡◌, ◌+◌, ◌<◌, ◌^◌, All, length, map};
 ghost use Rattle.net_nodes.specs.NodeTable.{CanNode, node_table};
-ghost use Rattle.net_rounds.specs.Numbered.{AllNumbered, numbered};
 ghost use Rattle.net_rounds.specs.Network.{CanLink, link_moved};
+ghost use Rattle.plain_lists.specs.Numbered.{AllNumbered, numbered};
 
 use crate::ends::Ends;
 use axi_link::Link;

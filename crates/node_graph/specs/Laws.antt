@@ -26,7 +26,12 @@ pub record OrderIsWhole (graph : Graph) : Type 0 where
 abbrev pub OrdersAreWhole : Type 0
 OrdersAreWhole = (graph : Graph) → IsAcyclic graph → OrderIsWhole graph
 
--- and each node stands in it after those above it
+-- of two nodes the deeper one stands later in it, so that a node stands after those above it
+abbrev pub DeeperStandsLater : Type 0
+DeeperStandsLater =
+    (graph : Graph) → IsAcyclic graph → (one other : ℕ) → one < length graph → depth_of graph one < depth_of graph other →
+    place_in (order_of graph) one < place_in (order_of graph) other
+
 abbrev pub OrdersLeadDown : Type 0
 OrdersLeadDown =
     (graph : Graph) → IsAcyclic graph → (upper lower : ℕ) → lower < length graph → is_in (nodes_below graph upper) lower ≡ true →

@@ -4,13 +4,13 @@ use Rattle.std.specs.Prelude.{flat_map}
 use Rattle.axi_beats.specs.declared.beat.Addr.{Addr}
 use Rattle.axi_beats.specs.Lanes.{Span}
 use Rattle.axi_beats.specs.declared.beat.WBeat.{WBeat}
-use Rattle.flight.specs.Entries.{of_key}
 use Rattle.axi_trail.specs.LinkContracts.{Requests}
 use Rattle.axi_trail.specs.Schedule.{Share, SameChain, bytes_on}
-use Rattle.axi_trail.specs.Streams.{IsPrefix}
 use Rattle.axi_trail.specs.Words.{Asked, Reply, number_of_read_data}
-use Rattle.axi_trail.proofs.PrefixFacts.{prefix_of_same}
 use Rattle.node_shape.specs.Carries.{AnsweredIsCarried, AskedIsCarried, IsSameShare}
+use Rattle.plain_lists.specs.Keys.{of_key}
+use Rattle.plain_lists.specs.Prefixes.{IsPrefix}
+use Rattle.plain_lists.proofs.PrefixLemmas.{prefix_of_same}
 
 requests_carried : (above below : ℕ → Share) (wide narrow : ℕ) (issued : ℕ → Bool) (shown : Addr → Asked) (addresses : List Addr) (replies : List Reply) →
     narrow ≡ wide → ((t : ℕ) → IsSameShare (above t) (below t)) → ((t u : ℕ) → SameChain below t u → SameChain above t u) →

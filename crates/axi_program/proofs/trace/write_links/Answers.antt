@@ -1,12 +1,12 @@
 use Rattle.std.proofs.Common.{◌≡◌, ◌≤◌, ◌+◌, ◌++◌, ℕ, List, length, refl, sym, ap, subst, ◌∙◌, arith}
 use Rattle.std.specs.Io.KnownBytes.{Appends}
 use Rattle.std.proofs.KnownBytes.{Appends-trans}
-use Rattle.axi_trail.specs.Streams.{over}
 use Rattle.net_rounds.specs.Network.{Network}
 use Rattle.net_rounds.specs.Ports.{port_at}
 use Rattle.axi_program.proofs.RunLaws.{on-err, prefix-later}
 use Rattle.axi_program.proofs.TraceLaws.{over-front, over-more}
 use Rattle.axi_program.specs.Trace.{port_line, round_lines}
+use Rattle.plain_lists.specs.Rounds.{over}
 use Rattle.axi_program.specs.DeviceBytes.{AppendsPrefix}
 use Rattle.axi_program.proofs.trace.write_links.Goals as goal
 

@@ -1,8 +1,8 @@
 use Rattle.std.proofs.Common.{◌≤◌, ◌+◌}
 use Rattle.std.specs.Io.KnownBytes.{Appends}
-use Rattle.axi_trail.specs.Streams.{over}
 use Rattle.net_rounds.specs.Ports.{port_at}
 use Rattle.axi_program.specs.Trace.{port_line}
+use Rattle.plain_lists.specs.Rounds.{over}
 use Rattle.axi_program.proofs.trace.write_links.Given as goal
 
 -- the lines of the links before this one are written

@@ -1,4 +1,5 @@
 use Rattle.elaborate.proofs.PlanFacts.{lowers-are_nodes, one-is_above, plan-is_acyclic}
+use Rattle.elaborate.proofs.Uppers.{none-is_above, some-is_above}
 use Rattle.elaborate.proofs.plan_laws.laws.Goals as goal
 
 pub returns-clause-acyclic : goal.returns-clause-acyclic
@@ -9,3 +10,9 @@ returns-clause-nodes c = lowers-are_nodes
 
 pub returns-clause-one : goal.returns-clause-one
 returns-clause-one c = one-is_above
+
+pub returns-clause-some : goal.returns-clause-some
+returns-clause-some c = some-is_above
+
+pub returns-clause-none : goal.returns-clause-none
+returns-clause-none c = none-is_above

@@ -10,9 +10,9 @@ use Rattle.manager_end.specs.Script.{ScriptItem}
 use Rattle.manager_end.specs.declared.script.WriteByte.{WriteByte}
 use Rattle.manager_end.specs.declared.sending.Sending.{Sending}
 use Rattle.manager_end.proofs.BurstLemmas.{beat-within, bytes-most, lane-count, lane-order}
-use Rattle.manager_end.proofs.NumberLemmas.{at-all}
 use Rattle.manager_end.proofs.SendingLemmas.{NextData, beat-is, next-data, txn-is}
 use Rattle.manager_end.proofs.beats.next_beat.Goals as goal
+use Rattle.plain_lists.proofs.PlaceLemmas.{at-all}
 
 -- the request is legal on the bus
 legal-next : (sending : Sending) (script : List ScriptItem) (place bus : ℕ) (request : Addr) (bytes : List WriteByte) → NextData sending script place request bytes → All (λ (item : ScriptItem). IsLegal item.txn.request bus) script → IsLegal request bus

@@ -2,12 +2,12 @@ use Rattle.std.proofs.Common.{◌≡◌, ◌≢◌, ◌∙◌, ℕ, true, Option
 use Rattle.std.specs.Option.{option_map}
 use Rattle.std.proofs.lemmas.Option.{slice_get-map, slice_get_within}
 use Rattle.axi_beats.specs.declared.beat.RBeat.{RBeat}
-use Rattle.axi_link.specs.LinkWords.{has_room, head_of}
-use Rattle.node_core.specs.Rows.{beat_where, put_of}
 use Rattle.memory_end.specs.declared.entry.ReadEntry.{ReadEntry}
 use Rattle.memory_end.specs.MemoryState.{IsReadEntry}
 use Rattle.memory_end.specs.MemoryTable.{next_beat}
-use Rattle.memory_end.proofs.ListLemmas.{at-has}
+use Rattle.plain_lists.proofs.PlaceLemmas.{at-has}
+use Rattle.axi_link.specs.LinkWords.{has_room, head_of}
+use Rattle.node_core.specs.Rows.{beat_where, put_of}
 use Rattle.memory_end.proofs.reads.put_r.Goals as goal
 
 pub with_beat-requires : goal.with_beat-requires

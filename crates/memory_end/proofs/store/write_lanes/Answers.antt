@@ -1,9 +1,9 @@
 use Rattle.std.proofs.Common.{◌+◌, ◌∙◌, sym, ap, ℕ, List}
 use Rattle.std.specs.Prelude.{slice_index, slice_set}
 use Rattle.memory_end.specs.Beats.{is_strobed}
-use Rattle.memory_end.proofs.ListLemmas.{fold-range-more_passing, fold-range-more_failing}
 use Rattle.memory_end.proofs.store.write_lanes.Goals.{then-is_strobed, else-is_strobed}
 use Rattle.memory_end.proofs.store.write_lanes.Goals as goal
+use Rattle.plain_lists.proofs.RangeLemmas.{fold-range-more_passing, fold-range-more_failing}
 
 pub loop-lane-preserved : goal.loop-lane-preserved
 loop-lane-preserved c =

@@ -4,14 +4,14 @@ use Rattle.std.specs.Option.{option_copied, option_map}
 use Rattle.std.proofs.lemmas.Option.{slice_get-map, slice_get_within}
 use Rattle.std.proofs.lemmas.Bool.{ltb-true}
 use Rattle.axi_beats.specs.declared.beat.WBeat.{WBeat}
-use Rattle.axi_link.specs.LinkWords.{head_of}
-use Rattle.node_core.specs.Rows.{take_of}
 use Rattle.burst_address.specs.Formulas.{beats_of}
 use Rattle.memory_end.specs.declared.entry.WriteEntry.{WriteEntry}
 use Rattle.memory_end.specs.MemoryState.{IsWriteEntry}
 use Rattle.memory_end.specs.MemoryTable.{after_w, store_after, store_with}
 use Rattle.memory_end.proofs.EntryLemmas.{IsOldestLacking, oldest_lacking-at, taken_data-none, taken_data-some}
-use Rattle.memory_end.proofs.ListLemmas.{at-has}
+use Rattle.plain_lists.proofs.PlaceLemmas.{at-has}
+use Rattle.axi_link.specs.LinkWords.{head_of}
+use Rattle.node_core.specs.Rows.{take_of}
 use Rattle.memory_end.proofs.writes.take_w.Goals as goal
 
 pub returns-in_default-clause-take : goal.returns-in_default-clause-take

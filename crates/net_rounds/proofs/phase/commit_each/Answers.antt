@@ -1,8 +1,8 @@
 use Rattle.std.proofs.Common.{◌≡◌, ◌<◌, ◌+◌, ℕ, length, get_or, set, refl, sym, ap, subst, ◌∙◌, arith}
 use Rattle.axi_link.specs.LinkView.{LinkView}
-use Rattle.net_rounds.proofs.Numbers.{all_numbered-at, next_as_it_was, numbered_over_more}
 use Rattle.net_rounds.specs.Network.{CanLink, link_moved}
 use Rattle.net_rounds.proofs.phase.commit_each.Goals as goal
+use Rattle.plain_lists.proofs.NumberedLemmas.{all_numbered-at, next_as_it_was, numbered_over_more}
 
 pub commit_one-requires : goal.commit_one-requires
 commit_one-requires c =

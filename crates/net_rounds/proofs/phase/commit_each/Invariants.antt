@@ -1,7 +1,7 @@
 use Rattle.std.proofs.Common.{◌≡◌, ◌+◌, ◌++◌, take, drop}
 use Rattle.net_rounds.specs.Network.{link_moved}
-use Rattle.net_rounds.specs.Numbered.{numbered}
 use Rattle.net_rounds.proofs.phase.commit_each.Given as goal
+use Rattle.plain_lists.specs.Numbered.{numbered}
 
 -- the links before this one have moved, the others haven't; and the numbers go on
 abbrev pub invariant-loop-link : goal.invariant-loop-link

@@ -7,9 +7,9 @@ use Rattle.flight.specs.Entries.{place_of}
 use Rattle.memory_end.specs.Store.{Store, line_of}
 use Rattle.memory_end.specs.StoreInside.{store_view}
 use Rattle.memory_end.specs.Beats.{is_strobed, strobed_lanes, bytes_on, all_written}
-use Rattle.memory_end.proofs.ListLemmas.{filter-range-below}
 use Rattle.memory_end.proofs.StoreLemmas.{all_written-kept, all_written-lost}
 use Rattle.memory_end.proofs.store.ByteStore.write_word.Goals as goal
+use Rattle.plain_lists.proofs.RangeLemmas.{filter-range-below}
 
 pub returns-in-Some : goal.returns-in-Some
 returns-in-Some c =

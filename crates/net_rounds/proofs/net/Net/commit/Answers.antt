@@ -1,9 +1,10 @@
 use Rattle.std.proofs.Common.{◌≡◌, ◌+◌, ◌++◌, length, take, drop, false, sym, ap, subst, ◌∙◌, arith}
-use Rattle.net_rounds.proofs.NetLemmas.{net-can-commit, net-commits, moved-by, net-one_link, network-committed, taken-back}
+use Rattle.net_rounds.proofs.NetLemmas.{net-can-commit, net-commits, moved-by, net-one_link, network-committed}
 use Rattle.net_rounds.specs.NetInside.{net_view}
 use Rattle.net_rounds.specs.NetView.{IsNet, NetView}
 use Rattle.net_rounds.specs.Network.{Network, after_commit}
 use Rattle.net_rounds.proofs.net.Net.commit.Goals as goal
+use Rattle.plain_lists.proofs.PartLemmas.{taken-back}
 
 pub commit_each-requires-clause-numbers : goal.commit_each-requires-clause-numbers
 commit_each-requires-clause-numbers c =

@@ -1,9 +1,10 @@
 use Rattle.std.proofs.Common.{◌≡◌, ◌<◌, ◌+◌, ◌-◌, ◌^◌, ◌++◌, length, take, drop, true, sym, ap, subst, ◌∙◌, arith}
-use Rattle.net_rounds.proofs.NetLemmas.{net-can-decide, net-decides, decided-by, network-decided, taken-back}
+use Rattle.net_rounds.proofs.NetLemmas.{net-can-decide, net-decides, decided-by, network-decided}
 use Rattle.net_rounds.specs.NetInside.{net_view}
 use Rattle.net_rounds.specs.NetView.{IsNet, NetView}
 use Rattle.net_rounds.specs.Network.{Network, after_decide}
 use Rattle.net_rounds.proofs.net.Net.decide.Goals as goal
+use Rattle.plain_lists.proofs.PartLemmas.{taken-back}
 
 pub decide_each-requires : goal.decide_each-requires
 decide_each-requires c = rw (c.deref_mut.ensures.value, c.deref.ensures.value) (net-can-decide _ c.self.invariant (ap (λ (v : NetView). v.decided) c.self.view_is ∙ c.requires.open))

@@ -2,21 +2,21 @@ use Rattle.std.proofs.Common.{◌≡◌, ◌<◌, ◌+◌, ℕ, List, Option, tr
 use Rattle.std.specs.Option.{option_map_or}
 use Rattle.std.proofs.lemmas.List.{get_or_default}
 use Rattle.std.proofs.lemmas.Option.{slice_get-get_or}
-use Rattle.node_core.specs.Acted.{no_moves}
 use Rattle.axi_link.specs.LinkView.{LinkView, empty_link}
-use Rattle.axi_link.specs.LinkWords.{link_of}
 use Rattle.axi_link.specs.declared.out.Out.{Out}
 use Rattle.link_ports.specs.PortView.{port_of}
 use Rattle.net_nodes.specs.NodeTable.{node_out}
 use Rattle.net_nodes.specs.declared.node.Node.{Node}
 use Rattle.net_rounds.proofs.NetLemmas.{net-can-commit}
-use Rattle.net_rounds.proofs.Numbers.{all_numbered-at}
 use Rattle.net_rounds.specs.NetInside.{net_view}
 use Rattle.net_rounds.specs.NetView.{IsNet, NetView}
 use Rattle.net_rounds.specs.Network.{CanLink, ends_of, out_of}
 use Rattle.net_rounds.specs.Ports.{link_kind, port_at}
 use Rattle.net_rounds.specs.declared.ends.Ends.{Ends}
 use Rattle.net_rounds.specs.declared.net.Net.TheInside.{Inside}
+use Rattle.plain_lists.proofs.NumberedLemmas.{all_numbered-at}
+use Rattle.node_core.specs.Acted.{no_moves}
+use Rattle.axi_link.specs.LinkWords.{link_of}
 use Rattle.net_rounds.proofs.net.Net.port.Goals as goal
 
 -- a link of a network whose nodes have decided has its two nodes

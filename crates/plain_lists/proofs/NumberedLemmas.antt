@@ -1,6 +1,6 @@
 -- Numbered lists, one element after the other.
 use Rattle.std.proofs.Common.{◌≡◌, ◌<◌, ◌+◌, ℕ, zero, suc, List, [], ◌∷◌, ◌++◌, length, take, drop, get_or, set, refl, ap, ◌∙◌, subst, arith}
-use Rattle.net_rounds.specs.Numbered.{numbered, AllNumbered}
+use Rattle.plain_lists.specs.Numbered.{numbered, AllNumbered}
 
 module _ {X : Type 0} where
   -- one more element of a list that is changed from the front

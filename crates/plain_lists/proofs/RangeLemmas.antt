@@ -1,6 +1,6 @@
--- Facts on ranges, on folds over a part of them, and on padded lists.
-use Rattle.std.proofs.Common.{◌≡◌, ◌≢◌, ℕ, ◌+◌, ◌<◌, ◌≤◌, suc, zero, Bool, true, false, cond, List, [], ◌∷◌, ◌++◌, map, replicate, refl, sym, ◌∙◌, ap, arith, add-one, inl, inr, Some, subst, append-nil}
-use Rattle.std.specs.Prelude.{All, AllPairs, Contains, filter, fold, slice_get, slice_set}
+-- Ranges of numbers, what passes a test of them, and folds over that.
+use Rattle.std.proofs.Common.{◌≡◌, ◌≢◌, ℕ, ◌+◌, ◌<◌, ◌≤◌, suc, zero, Bool, true, false, cond, List, [], ◌∷◌, ◌++◌, map, replicate, refl, sym, ◌∙◌, ap, arith, add-one, inl, inr, subst, append-nil}
+use Rattle.std.specs.Prelude.{AllPairs, Contains, filter, fold, slice_set}
 use Rattle.std.specs.List.{range_with_len, AllByRecursion}
 use Rattle.std.proofs.lemmas.Bool.{cases_eq}
 use Rattle.std.proofs.lemmas.List.Elements.{filter-append}
@@ -112,9 +112,3 @@ map-range-set f g a (suc n) (suc i) b lt at agree =
     let shift : a + suc i ≡ a + 1 + i = omega arith in
     ap (λ y. y ∷ slice_set (map f (range_with_len (a + 1) n)) i b) (agree a (omega arith) (omega arith) (λ e. absurd (omega arith)))
     ∙ ap (λ t. g a ∷ t) (map-range-set f g (a + 1) n i b (omega arith) (ap g (sym shift) ∙ at) (λ k le less other. agree k (omega arith) (omega arith) (λ e. other (e ∙ shift))))
-
--- what holds of all holds at a place
-pub at-has : {X : Type 0} (P : X → Type 0) (xs : List X) (i : ℕ) (x : X) → slice_get xs i ≡ Some x → All P xs → P x
-at-has P [] i x e all = absurd (cc)
-at-has P (y ∷ ys) zero x e all = subst P (let same : y ≡ x = cc in same) (all 0 y (omega arith))
-at-has P (y ∷ ys) (suc i) x e all = at-has P ys i x e (λ k d lt. all (suc k) d (omega arith))
