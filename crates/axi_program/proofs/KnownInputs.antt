@@ -6,9 +6,9 @@ use Rattle.refusals.specs.declared.cause.Cause.TheVariants.{BadId, BadLine, NoSe
 use Rattle.plain_text.specs.Numbers.{number_in, read_byte_pair, read_decimal, read_hexadecimal}
 use Rattle.plain_text.specs.Words.{words}
 use Rattle.traffic.specs.Data.{is_pair, pair_byte}
-use Rattle.traffic.specs.Line.{beats_named, burst_named, form_of, read_of, said_by, size_named, start_of, wait_of, write_of}
-use Rattle.traffic.specs.Orders.{order_of}
-use Rattle.traffic.specs.Ports.{port_of}
+use Rattle.traffic.specs.Line.{beats_named, burst_named, form_said, read_said, said_by, size_named, start_of, wait_said, write_said}
+use Rattle.traffic.specs.Orders.{order_said}
+use Rattle.traffic.specs.Ports.{named_manager}
 use Rattle.axi_beats.specs.declared.beat.Burst.TheVariants.{Incr, Wrap}
 use Rattle.axi_program.specs.Document.{refusal_by_lines, script_of_input}
 
@@ -35,7 +35,7 @@ refusals :
     ∷ Some (refused_at BadId 2)
     ∷ Some (refused_burst 1 4)
     ∷ []
-unfolding words said_by form_of order_of read_of wait_of start_of size_named burst_named beats_named read_decimal read_hexadecimal number_in port_of
+unfolding words said_by form_said order_said read_said wait_said start_of size_named burst_named beats_named read_decimal read_hexadecimal number_in named_manager
 refusals = refl
 
 scripts :
@@ -58,5 +58,5 @@ scripts :
     }
     ∷ [])
     ∷ []
-unfolding words said_by form_of order_of read_of write_of wait_of start_of size_named burst_named beats_named is_pair pair_byte read_byte_pair read_decimal read_hexadecimal number_in port_of
+unfolding words said_by form_said order_said read_said write_said wait_said start_of size_named burst_named beats_named is_pair pair_byte read_byte_pair read_decimal read_hexadecimal number_in named_manager
 scripts = refl

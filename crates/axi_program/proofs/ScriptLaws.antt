@@ -11,7 +11,7 @@ use Rattle.manager_end.specs.Script.{CanPush, IsScript, ScriptItem, awaited}
 use Rattle.manager_end.specs.declared.script.Txn.{Txn}
 use Rattle.manager_end.specs.declared.script.WriteByte.{WriteByte}
 use Rattle.net_rounds.specs.Due.{IsNumberedTraffic}
-use Rattle.traffic.specs.Accepted.{AreInOrder, Follows, IsTraffic, Suits, last_after, of_manager}
+use Rattle.traffic.specs.Accepted.{AreInOrder, Follows, IsTraffic, Suits, last_after, items_of_manager}
 use Rattle.traffic.specs.Traffic.{TrafficItem}
 use Rattle.traffic.specs.declared.port.ManagerPort.{ManagerPort}
 use Rattle.axi_program.specs.Traffic.{IsBuiltIn, script_item, script_of}
@@ -26,7 +26,7 @@ one-place port found zero is = (refl, ap (λ (o : Option ManagerPort). unwrap_or
 one-place port found (suc place) is = absurd (cc)
 
 -- its transactions are all
-all-ours : (port : ManagerPort) (items : List TrafficItem) → All (Suits (port ∷ [])) items → of_manager 0 items ≡ items
+all-ours : (port : ManagerPort) (items : List TrafficItem) → All (Suits (port ∷ [])) items → items_of_manager 0 items ≡ items
 all-ours port items suit =
     filter-all (λ (item : TrafficItem). item.manager == 0) items (λ k item is. let suits = at-all (Suits (port ∷ [])) items k item suit is in eq-eqb item.manager 0 (one-place port suits.port item.manager suits.is_manager).0)
 
@@ -70,10 +70,10 @@ module _ (port : ManagerPort) (is : IsBuiltIn port) (items : List TrafficItem) (
   follows k item at = follows-at [] items k item known.in_order at
 
   -- those of the manager before a place are all before it
-  ours-before : (k : ℕ) (item : TrafficItem) → slice_get items k ≡ Some item → of_manager item.manager (take k items) ≡ take k items
+  ours-before : (k : ℕ) (item : TrafficItem) → slice_get items k ≡ Some item → items_of_manager item.manager (take k items) ≡ take k items
   ours-before k item at =
       let suits = suits-at k item at in
-      ap (λ (place : ℕ). of_manager place (take k items)) (one-place port suits.port item.manager suits.is_manager).0 ∙ all-ours port (take k items) (All-take (Suits (port ∷ [])) k items known.suit)
+      ap (λ (place : ℕ). items_of_manager place (take k items)) (one-place port suits.port item.manager suits.is_manager).0 ∙ all-ours port (take k items) (All-take (Suits (port ∷ [])) k items known.suit)
 
   -- a transaction can be pushed behind those before it
   can-push : (k : ℕ) (item : TrafficItem) → slice_get items k ≡ Some item → CanPush (script_of (take k items)) item.txn item.bytes

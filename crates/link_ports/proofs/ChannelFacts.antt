@@ -14,6 +14,7 @@ use Rattle.axi_history.specs.PortRules.{last_is_on_the_last_beat, strobes_are_on
 use Rattle.axi_history.proofs.SameLemmas.{address_itself, data_itself, response_itself, read_itself}
 use Rattle.axi_link.specs.LinkView.{LinkView}
 use Rattle.axi_link.specs.Moves.{takes_from}
+use Rattle.axi_link.specs.LinkWords.{link_of}
 use Rattle.axi_link.specs.declared.out.Out.{Out}
 use Rattle.axi_trail.specs.LinkContracts.{Asks, Requests}
 use Rattle.axi_trail.specs.Schedule.{Share, Schedule, Progress, Grows}
@@ -24,14 +25,13 @@ use Rattle.axi_trail.proofs.TrailFacts.{links_are_queues}
 use Rattle.burst_address.specs.Legal.{IsLegal}
 use Rattle.link_ports.specs.LegalSchedule.{IsLegalSchedule}
 use Rattle.link_ports.specs.PortLaws.{IsOffered, IsOfferedAgain, HasTransferred, HasOffered, WriteDataIsLegal, WriteAddressesAreLegal, WriteResponsesAreLegal, ReadAddressesAreLegal, ReadDataIsLegal}
-use Rattle.link_ports.specs.PortView.{seen_address, seen_itself, seen_response, seen_read_beat, shown, port_round, port_history}
+use Rattle.link_ports.specs.PortView.{seen_address, seen_itself, seen_response, seen_read_beat, channel_seen, port_round, port_history}
 use Rattle.link_ports.proofs.AddressFacts.{legal_kept, last_is_legal, never_exokay}
 use Rattle.link_ports.proofs.AnswerFacts.{itself, response_follows, read_follows, read_ends}
 use Rattle.link_ports.proofs.DataFacts.{lasts_kept, strobes_kept, left_at_first}
 use Rattle.link_ports.proofs.HandshakeFacts.{handshake_kept}
 use Rattle.link_ports.proofs.ViewFacts.{waiting_are_offered_again, transferred_are_trails, offered_are_trails}
 use Rattle.plain_lists.proofs.PrefixLemmas.{prefix_itself}
-use Rattle.axi_link.specs.LinkWords.{link_of}
 
 pub grows_itself : (now : Progress) → Grows now now
 grows_itself now = record { issued = λ t done. done; written = λ t done. done; filled = λ t. prefix_itself (now.filled t) }
@@ -39,17 +39,17 @@ grows_itself now = record { issued = λ t done. done; written = λ t done. done;
 -- the head of a queue of addresses is a legal burst
 head_kept : (shares : ℕ → Share) (id_width bus : ℕ) (issued : ℕ → Bool) (asked_as : Addr → Asked) (passed queue : List Addr) (replies : List Reply) (takes : Bool) →
     Requests shares id_width issued asked_as (passed ++ take 1 queue) replies → ((t : ℕ) → All (λ part. IsLegal part bus) (shares t).parts) →
-    least_broken (rules_of_offer (offer_of (shown seen_address takes queue)) (address_rules bus)) ≡ None
+    least_broken (rules_of_offer (offer_of (channel_seen seen_address takes queue)) (address_rules bus)) ≡ None
 head_kept shares id_width bus issued asked_as passed [] replies takes asks legal = refl
 head_kept shares id_width bus issued asked_as passed (a ∷ queue) replies takes asks legal =
     legal_kept bus a (last_is_legal shares id_width bus issued asked_as passed a replies asks legal)
 
 -- a channel of addresses
 addresses_kept : (shares : ℕ → Share) (id_width bus : ℕ) (issued : ℕ → Bool) (asked_as : Addr → Asked) (passed queue : List Addr) (replies : List Reply) (takes : Bool) (waits : Option RawAddr) →
-    IsOffered waits (offer_of (shown seen_address takes queue)) → Requests shares id_width issued asked_as (passed ++ take 1 queue) replies → ((t : ℕ) → All (λ part. IsLegal part bus) (shares t).parts) →
-    least_broken (handshake_rules same_address waits (offer_of (shown seen_address takes queue)) ++ rules_of_offer (offer_of (shown seen_address takes queue)) (address_rules bus)) ≡ None
+    IsOffered waits (offer_of (channel_seen seen_address takes queue)) → Requests shares id_width issued asked_as (passed ++ take 1 queue) replies → ((t : ℕ) → All (λ part. IsLegal part bus) (shares t).parts) →
+    least_broken (handshake_rules same_address waits (offer_of (channel_seen seen_address takes queue)) ++ rules_of_offer (offer_of (channel_seen seen_address takes queue)) (address_rules bus)) ≡ None
 addresses_kept shares id_width bus issued asked_as passed queue replies takes waits again asks legal =
-    handshake_kept same_address address_itself waits (offer_of (shown seen_address takes queue)) (rules_of_offer (offer_of (shown seen_address takes queue)) (address_rules bus)) again
+    handshake_kept same_address address_itself waits (offer_of (channel_seen seen_address takes queue)) (rules_of_offer (offer_of (channel_seen seen_address takes queue)) (address_rules bus)) again
     ∙ head_kept shares id_width bus issued asked_as passed queue replies takes asks legal
 
 module _ (number : ℕ) (kind : PortKind) (links : ℕ → List LinkView) (uppers lowers : ℕ → Out) (run : IsLinkRun number links uppers lowers) (n : ℕ) where
@@ -84,7 +84,7 @@ true_if_same false true e = absurd (cc)
 response_kept : (earlier : List PortRound) (addresses : List Addr) (beats : List WBeat) (taken queue : List BBeat) (takes : Bool) →
     transferred on_aw earlier ≡ map seen_address addresses → transferred on_w earlier ≡ map seen_itself beats → transferred on_b earlier ≡ map seen_response taken →
     InOrderOfId (map write_asked (completed addresses (map mark_of_data beats))) (map write_reply (taken ++ queue)) →
-    least_broken (rules_of_offer (offer_of (shown seen_response takes queue)) (response_rules earlier)) ≡ None
+    least_broken (rules_of_offer (offer_of (channel_seen seen_response takes queue)) (response_rules earlier)) ≡ None
 response_kept earlier addresses beats taken [] takes on_aw' on_w' on_b' order = refl
 response_kept earlier addresses beats taken (b ∷ queue) takes on_aw' on_w' on_b' order =
     let follows : response_follows_write earlier (seen_response b) ≡ true =
@@ -95,7 +95,7 @@ response_kept earlier addresses beats taken (b ∷ queue) takes on_aw' on_w' on_
 read_kept : (earlier : List PortRound) (addresses : List Addr) (taken queue : List RBeat) (takes : Bool) →
     transferred on_ar earlier ≡ map seen_address addresses → transferred on_r earlier ≡ map seen_read_beat taken →
     InOrderOfId (map burst_asked addresses) (map read_reply (taken ++ queue)) →
-    least_broken (rules_of_offer (offer_of (shown seen_read_beat takes queue)) (read_beat_rules earlier)) ≡ None
+    least_broken (rules_of_offer (offer_of (channel_seen seen_read_beat takes queue)) (read_beat_rules earlier)) ≡ None
 read_kept earlier addresses taken [] takes on_ar' on_r' order = refl
 read_kept earlier addresses taken (r ∷ queue) takes on_ar' on_r' order =
     let follows : read_beat_follows_address earlier (seen_read_beat r) ≡ true =

@@ -13,7 +13,7 @@ use Rattle.axi_trail.specs.Trail.{Beats, no_beats, moved_below, trail_above, tra
 use Rattle.axi_trail.specs.Words.{Asked, Reply, burst_asked}
 use Rattle.axi_trail.proofs.SlackFacts.{asking_goes_down, answering_goes_up}
 use Rattle.burst_address.specs.Legal.{IsLegal}
-use Rattle.link_ports.specs.Example.{ExamplePort, HastyPort, ExampleKeepsContracts, manager_moves, memory_moves, links_between}
+use Rattle.link_ports.specs.Example.{ExamplePort, HastyPort, manager_moves, memory_moves, links_between, PortExampleKeepsContracts}
 use Rattle.link_ports.specs.LegalSchedule.{IsDataOf, IsLegalSchedule}
 use Rattle.link_ports.proofs.ChannelFacts.{grows_itself}
 use Rattle.plain_lists.specs.Prefixes.{IsPrefix}
@@ -204,5 +204,5 @@ example_answers (suc (suc zero)) = answers_before 2 refl
 example_answers (suc (suc (suc zero))) = answers_before 3 refl
 example_answers (suc (suc (suc (suc n)))) = answers_after n
 
-pub example_keeps_contracts : ExampleKeepsContracts
+pub example_keeps_contracts : PortExampleKeepsContracts
 example_keeps_contracts = (example_is_legal, example_asks, example_answers)

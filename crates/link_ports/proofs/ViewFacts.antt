@@ -10,33 +10,33 @@ use Rattle.axi_history.specs.declared.port.Seen.{Seen}
 use Rattle.axi_history.specs.PortHistory.{offer_of, transfer_of, wait_of, transferred, waiting, offered, on_aw, on_w, on_b, on_ar, on_r}
 use Rattle.axi_link.specs.LinkView.{LinkView}
 use Rattle.axi_link.specs.Moves.{takes_from, appended, without_head}
+use Rattle.axi_link.specs.LinkWords.{link_of}
 use Rattle.axi_link.specs.declared.out.Out.{Out}
 use Rattle.link_ports.specs.PortLaws.{IsOffered, TransferredAreTrails, OfferedAreTrails, WaitingAreOfferedAgain}
-use Rattle.link_ports.specs.PortView.{seen_address, seen_itself, seen_response, seen_read_beat, shown, port_round}
+use Rattle.link_ports.specs.PortView.{seen_address, seen_itself, seen_response, seen_read_beat, channel_seen, port_round}
 use Rattle.plain_lists.specs.Rounds.{over}
 use Rattle.axi_trail.specs.Trail.{beat_taken}
-use Rattle.axi_link.specs.LinkWords.{link_of}
 
 module _ {X Y : Type 0} (seen_as : X → Y) where
   -- one round
-  one_transferred : (takes : Bool) (queue : List X) → option_to_list (transfer_of (shown seen_as takes queue)) ≡ map seen_as (beat_taken takes queue)
+  one_transferred : (takes : Bool) (queue : List X) → option_to_list (transfer_of (channel_seen seen_as takes queue)) ≡ map seen_as (beat_taken takes queue)
   one_transferred true [] = refl
   one_transferred false [] = refl
   one_transferred true (x ∷ queue) = refl
   one_transferred false (x ∷ queue) = refl
 
-  one_offered : (takes : Bool) (queue : List X) → map seen_as (beat_taken takes queue) ++ option_to_list (wait_of (shown seen_as takes queue)) ≡ map seen_as (take 1 queue)
+  one_offered : (takes : Bool) (queue : List X) → map seen_as (beat_taken takes queue) ++ option_to_list (wait_of (channel_seen seen_as takes queue)) ≡ map seen_as (take 1 queue)
   one_offered true [] = refl
   one_offered false [] = refl
   one_offered true (x ∷ queue) = refl
   one_offered false (x ∷ queue) = refl
 
   -- what isn't taken stays the head
-  head_stays : (takes after : Bool) (queue puts next : List X) → next ≡ without_head takes queue ++ puts → IsOffered (wait_of (shown seen_as takes queue)) (offer_of (shown seen_as after next))
+  head_stays : (takes after : Bool) (queue puts next : List X) → next ≡ without_head takes queue ++ puts → IsOffered (wait_of (channel_seen seen_as takes queue)) (offer_of (channel_seen seen_as after next))
   head_stays true after [] puts next e = tt
   head_stays false after [] puts next e = tt
   head_stays true after (x ∷ queue) puts next e = tt
-  head_stays false after (x ∷ queue) puts next e = ap (λ q. offer_of (shown seen_as after q)) e
+  head_stays false after (x ∷ queue) puts next e = ap (λ q. offer_of (channel_seen seen_as after q)) e
 
 -- the rounds of a port, of which one channel is looked at
 module _ {Y : Type 0} (channel : PortRound → Option (Seen Y)) where
@@ -51,7 +51,7 @@ module _ {Y : Type 0} (channel : PortRound → Option (Seen Y)) where
   waiting_last (s ∷ []) r = refl
   waiting_last (s ∷ t ∷ history) r = waiting_last (t ∷ history) r
 
-  module _ {X : Type 0} (seen_as : X → Y) (rounds : ℕ → PortRound) (takes : ℕ → Bool) (queue : ℕ → List X) (same : (n : ℕ) → channel (rounds n) ≡ shown seen_as (takes n) (queue n)) where
+  module _ {X : Type 0} (seen_as : X → Y) (rounds : ℕ → PortRound) (takes : ℕ → Bool) (queue : ℕ → List X) (same : (n : ℕ) → channel (rounds n) ≡ channel_seen seen_as (takes n) (queue n)) where
     one : (n : ℕ) → filter_map (λ s. transfer_of (channel s)) (rounds n ∷ []) ≡ map seen_as (beat_taken (takes n) (queue n))
     one n = one_round (rounds n) ∙ ap (λ o. option_to_list (transfer_of o)) (same n) ∙ one_transferred seen_as (takes n) (queue n)
 
@@ -67,7 +67,7 @@ module _ {Y : Type 0} (channel : PortRound → Option (Seen Y)) where
     offered_is n =
         ap (λ t. t ++ option_to_list (waiting channel (over (λ m. rounds m ∷ []) n ++ rounds n ∷ []))) (transferred_is (suc n) ∙ map-append seen_as (over (λ m. beat_taken (takes m) (queue m)) n) (beat_taken (takes n) (queue n)))
         ∙ ap (λ o. (map seen_as (over (λ m. beat_taken (takes m) (queue m)) n) ++ map seen_as (beat_taken (takes n) (queue n))) ++ option_to_list o) (waiting_last (over (λ m. rounds m ∷ []) n) (rounds n) ∙ ap wait_of (same n))
-        ∙ append_assoc (map seen_as (over (λ m. beat_taken (takes m) (queue m)) n)) (map seen_as (beat_taken (takes n) (queue n))) (option_to_list (wait_of (shown seen_as (takes n) (queue n))))
+        ∙ append_assoc (map seen_as (over (λ m. beat_taken (takes m) (queue m)) n)) (map seen_as (beat_taken (takes n) (queue n))) (option_to_list (wait_of (channel_seen seen_as (takes n) (queue n))))
         ∙ ap (λ t. map seen_as (over (λ m. beat_taken (takes m) (queue m)) n) ++ t) (one_offered seen_as (takes n) (queue n))
         ∙ sym (map-append seen_as (over (λ m. beat_taken (takes m) (queue m)) n) (take 1 (queue n)))
 

@@ -48,8 +48,8 @@ module _ (memory : ℕ → Out) where
   links_between n = link_between n ∷ []
 
 -- a round in which nothing is offered
-abbrev pub quiet : ℕ → PortRound
-quiet round = record { round = round; link = 0; kind = bus_of_four; aw = None; w = None; b = None; ar = None; r = None }
+abbrev pub quiet_port : ℕ → PortRound
+quiet_port round = record { round = round; link = 0; kind = bus_of_four; aw = None; w = None; b = None; ar = None; r = None }
 
 -- Nothing is offered in the round of a put. The address waits for a round, the data and the response don't, and no
 -- rule is broken.
@@ -57,11 +57,11 @@ abbrev pub ExamplePort : Type 0
 ExamplePort =
     IsLinkRun 0 (links_between memory_moves) manager_moves memory_moves
     × (port_history 0 bus_of_four (links_between memory_moves) manager_moves memory_moves 5
-    ≡ quiet 1
-    ∷ record (quiet 2) { aw = Some (record { beat = seen_address write_address; taken = false }); w = Some (record { beat = write_data_beat; taken = true }) }
-    ∷ record (quiet 3) { aw = Some (record { beat = seen_address write_address; taken = true }) }
-    ∷ quiet 4
-    ∷ record (quiet 5) { b = Some (record { beat = seen_response write_response; taken = true }) }
+    ≡ quiet_port 1
+    ∷ record (quiet_port 2) { aw = Some (record { beat = seen_address write_address; taken = false }); w = Some (record { beat = write_data_beat; taken = true }) }
+    ∷ record (quiet_port 3) { aw = Some (record { beat = seen_address write_address; taken = true }) }
+    ∷ quiet_port 4
+    ∷ record (quiet_port 5) { b = Some (record { beat = seen_response write_response; taken = true }) }
     ∷ [])
     × (axi4_history_fault 4 (port_history 0 bus_of_four (links_between memory_moves) manager_moves memory_moves 5) ≡ None)
 
@@ -71,8 +71,8 @@ HastyPort = axi4_history_fault 4 (port_history 0 bus_of_four (links_between hast
 
 -- The run keeps all that is asked of a link for its port to be legal: what it has to carry is legal on its bus, and both
 -- nodes keep their contracts after any number of rounds.
-abbrev pub ExampleKeepsContracts : Type 0
-ExampleKeepsContracts =
+abbrev pub PortExampleKeepsContracts : Type 0
+PortExampleKeepsContracts =
     IsLegalSchedule 4 example_schedule
     × ((n : ℕ) → Asks example_schedule example_progress (trail_above manager_moves (links_between memory_moves) n 0))
     × ((n : ℕ) → Answers example_schedule example_progress (trail_below memory_moves (links_between memory_moves) n 0))

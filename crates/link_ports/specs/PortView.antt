@@ -11,10 +11,10 @@ use Rattle.axi_history.specs.declared.port.RawR.{RawR}
 use Rattle.axi_history.specs.declared.port.Seen.{Seen}
 use Rattle.axi_link.specs.LinkView.{LinkView}
 use Rattle.axi_link.specs.Moves.{takes_from}
-use Rattle.axi_link.specs.declared.out.Out.{Out}
-use Rattle.plain_lists.specs.Rounds.{over}
-use Rattle.axi_beats.specs.Codes.{burst_code, response_code}
 use Rattle.axi_link.specs.LinkWords.{link_of}
+use Rattle.axi_link.specs.declared.out.Out.{Out}
+use Rattle.axi_beats.specs.Codes.{burst_code, response_code}
+use Rattle.plain_lists.specs.Rounds.{over}
 
 -- the beats as they are seen on the channels: no access is exclusive, and a W beat is seen as it is
 abbrev pub seen_address : Addr → RawAddr
@@ -32,9 +32,9 @@ module _ {X : Type 0} where
 
 -- a channel in a round: it offers the head of its queue, which the node at the other end takes or doesn't
 module _ {X Y : Type 0} (seen_as : X → Y) where
-  abbrev pub shown : Bool → List X → Option (Seen Y)
-  shown takes [] = None
-  shown takes (x ∷ queue) = Some (record { beat = seen_as x; taken = takes })
+  abbrev pub channel_seen : Bool → List X → Option (Seen Y)
+  channel_seen takes [] = None
+  channel_seen takes (x ∷ queue) = Some (record { beat = seen_as x; taken = takes })
 
 -- The port that a link is in a round, where the link is as the round began: the node below takes addresses and write
 -- data, and the node above takes answers.
@@ -43,11 +43,11 @@ port_of round number kind link upper lower = record {
   round = round;
   link = number;
   kind = kind;
-  aw = shown seen_address (takes_from number lower.aw_take) link.aw;
-  w = shown seen_itself (takes_from number lower.w_take) link.w;
-  b = shown seen_response (takes_from number upper.b_take) link.b;
-  ar = shown seen_address (takes_from number lower.ar_take) link.ar;
-  r = shown seen_read_beat (takes_from number upper.r_take) link.r;
+  aw = channel_seen seen_address (takes_from number lower.aw_take) link.aw;
+  w = channel_seen seen_itself (takes_from number lower.w_take) link.w;
+  b = channel_seen seen_response (takes_from number upper.b_take) link.b;
+  ar = channel_seen seen_address (takes_from number lower.ar_take) link.ar;
+  r = channel_seen seen_read_beat (takes_from number upper.r_take) link.r;
 }
 
 -- The port of one link over the rounds, where the links were `links n` as round n began and the nodes at the link's

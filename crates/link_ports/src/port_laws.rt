@@ -1,6 +1,6 @@
 //! The port of a link breaks none of the rules of an AXI4 port.
 
-ghost use Rattle.link_ports.specs.Example.{ExamplePort, HastyPort, ExampleKeepsContracts};
+ghost use Rattle.link_ports.specs.Example.{ExamplePort, HastyPort, PortExampleKeepsContracts};
 ghost use Rattle.link_ports.specs.PortLaws.{RoundsAreLegal, LinksAreLegal};
 
 /// A round, and the whole history of a link whose two nodes keep their contracts.
@@ -14,5 +14,5 @@ pub fn laws_of_ports()
 pub fn example_of_ports()
     ensures port { ExamplePort }
     ensures hasty { HastyPort }
-    ensures contracts { ExampleKeepsContracts }
+    ensures contracts { PortExampleKeepsContracts }
 {}

@@ -9,7 +9,7 @@ use Rattle.axi_history.specs.declared.port.PortKind.{PortKind}
 use Rattle.axi_history.specs.declared.port.PortRound.{PortRound}
 use Rattle.axi_history.specs.PortRules.{or_else}
 use Rattle.axi_history.proofs.HistoryLemmas.{else_none}
-use Rattle.trace_judge.specs.Histories.{is_line_of, is_of_link, shown_in, quiet_round, number_of, number_in, greatest_round, link_count}
+use Rattle.trace_judge.specs.Histories.{is_line_of, is_of_link, shown_in, quiet_round, first_line_with, line_number_at, greatest_round, link_count}
 
 -- ---- the first line with a property, and its number
 
@@ -27,7 +27,7 @@ found_more p (x ∷ xs) r = go (p x) (found_more p xs r)
 abbrev pub numbered : Bool → ℕ → Option ℕ
 numbered b n = if b then Some n else None
 
-pub number_more : (p : PortRound → Bool) (xs : List PortRound) (r : PortRound) → number_of p (xs ++ r ∷ []) ≡ or_else (number_of p xs) (numbered (p r) (length xs + 1))
+pub number_more : (p : PortRound → Bool) (xs : List PortRound) (r : PortRound) → first_line_with p (xs ++ r ∷ []) ≡ or_else (first_line_with p xs) (numbered (p r) (length xs + 1))
 number_more p [] r = refl
 number_more p (x ∷ xs) r = go (p x) (number_more p xs r)
   where
@@ -39,10 +39,10 @@ number_more p (x ∷ xs) r = go (p x) (number_more p xs r)
     longer : length xs + 1 + 1 ≡ length (x ∷ xs) + 1
     longer = omega arith
 
-    go : (b : Bool) → number_of p (xs ++ r ∷ []) ≡ or_else (number_of p xs) (numbered (p r) (length xs + 1)) →
-        (if b then Some 1 else option_map (λ m. m + 1) (number_of p (xs ++ r ∷ []))) ≡ or_else (if b then Some 1 else option_map (λ m. m + 1) (number_of p xs)) (numbered (p r) (length (x ∷ xs) + 1))
+    go : (b : Bool) → first_line_with p (xs ++ r ∷ []) ≡ or_else (first_line_with p xs) (numbered (p r) (length xs + 1)) →
+        (if b then Some 1 else option_map (λ m. m + 1) (first_line_with p (xs ++ r ∷ []))) ≡ or_else (if b then Some 1 else option_map (λ m. m + 1) (first_line_with p xs)) (numbered (p r) (length (x ∷ xs) + 1))
     go true e = refl
-    go false e = ap (option_map (λ m. m + 1)) e ∙ up (number_of p xs) (p r) (length xs + 1) ∙ ap (λ n. or_else (option_map (λ m. m + 1) (number_of p xs)) (numbered (p r) n)) longer
+    go false e = ap (option_map (λ m. m + 1)) e ∙ up (first_line_with p xs) (p r) (length xs + 1) ∙ ap (λ n. or_else (option_map (λ m. m + 1) (first_line_with p xs)) (numbered (p r) n)) longer
 
 pub find_other : (p : PortRound → Bool) (xs : List PortRound) (r : PortRound) → p r ≡ false → find p (xs ++ r ∷ []) ≡ find p xs
 find_other p xs r e = found_more p xs r ∙ ap (λ b. or_else (find p xs) (found b r)) e ∙ else_none (find p xs)
@@ -53,17 +53,17 @@ find_here p xs r e n = found_more p xs r ∙ ap (λ b. or_else (find p xs) (foun
 pub find_stays : (p : PortRound → Bool) (xs : List PortRound) (r x : PortRound) → find p xs ≡ Some x → find p (xs ++ r ∷ []) ≡ Some x
 find_stays p xs r x n = found_more p xs r ∙ ap (λ (o : Option PortRound). or_else o (found (p r) r)) n
 
-pub number_other : (p : PortRound → Bool) (xs : List PortRound) (r : PortRound) → p r ≡ false → number_of p (xs ++ r ∷ []) ≡ number_of p xs
-number_other p xs r e = number_more p xs r ∙ ap (λ b. or_else (number_of p xs) (numbered b (length xs + 1))) e ∙ else_none (number_of p xs)
+pub number_other : (p : PortRound → Bool) (xs : List PortRound) (r : PortRound) → p r ≡ false → first_line_with p (xs ++ r ∷ []) ≡ first_line_with p xs
+number_other p xs r e = number_more p xs r ∙ ap (λ b. or_else (first_line_with p xs) (numbered b (length xs + 1))) e ∙ else_none (first_line_with p xs)
 
-pub number_here : (p : PortRound → Bool) (xs : List PortRound) (r : PortRound) → p r ≡ true → number_of p xs ≡ None → number_of p (xs ++ r ∷ []) ≡ Some (length xs + 1)
-number_here p xs r e n = number_more p xs r ∙ ap (λ b. or_else (number_of p xs) (numbered b (length xs + 1))) e ∙ ap (λ (o : Option ℕ). or_else o (Some (length xs + 1))) n
+pub number_here : (p : PortRound → Bool) (xs : List PortRound) (r : PortRound) → p r ≡ true → first_line_with p xs ≡ None → first_line_with p (xs ++ r ∷ []) ≡ Some (length xs + 1)
+number_here p xs r e n = number_more p xs r ∙ ap (λ b. or_else (first_line_with p xs) (numbered b (length xs + 1))) e ∙ ap (λ (o : Option ℕ). or_else o (Some (length xs + 1))) n
 
-pub number_none : (p : PortRound → Bool) (xs : List PortRound) → find p xs ≡ None → number_of p xs ≡ None
+pub number_none : (p : PortRound → Bool) (xs : List PortRound) → find p xs ≡ None → first_line_with p xs ≡ None
 number_none p [] e = refl
 number_none p (x ∷ xs) e = go (p x) (number_none p xs) e
   where
-    go : (b : Bool) → (find p xs ≡ None → number_of p xs ≡ None) → (if b then Some x else find p xs) ≡ None → (if b then Some 1 else option_map (λ m. m + 1) (number_of p xs)) ≡ None
+    go : (b : Bool) → (find p xs ≡ None → first_line_with p xs ≡ None) → (if b then Some x else find p xs) ≡ None → (if b then Some 1 else option_map (λ m. m + 1) (first_line_with p xs)) ≡ None
     go true h e = absurd cc
     go false h e = ap (option_map (λ m. m + 1)) (h e)
 
@@ -98,13 +98,13 @@ shown_here xs r kind e = ap (λ (o : Option PortRound). unwrap_or o (quiet_round
 pub shown_none : (xs : List PortRound) (kind : PortKind) (link round : ℕ) → find (is_line_of round link) xs ≡ None → shown_in xs kind link round ≡ quiet_round kind link round
 shown_none xs kind link round e = ap (λ (o : Option PortRound). unwrap_or o (quiet_round kind link round)) e
 
-pub numbered_other : (xs : List PortRound) (r : PortRound) (link round : ℕ) → is_line_of round link r ≡ false → number_in (xs ++ r ∷ []) link round ≡ number_in xs link round
+pub numbered_other : (xs : List PortRound) (r : PortRound) (link round : ℕ) → is_line_of round link r ≡ false → line_number_at (xs ++ r ∷ []) link round ≡ line_number_at xs link round
 numbered_other xs r link round e = ap (λ (o : Option ℕ). unwrap_or o 0) (number_other (is_line_of round link) xs r e)
 
-pub numbered_here : (xs : List PortRound) (r : PortRound) → find (is_line_of r.round r.link) xs ≡ None → number_in (xs ++ r ∷ []) r.link r.round ≡ length xs + 1
+pub numbered_here : (xs : List PortRound) (r : PortRound) → find (is_line_of r.round r.link) xs ≡ None → line_number_at (xs ++ r ∷ []) r.link r.round ≡ length xs + 1
 numbered_here xs r e = ap (λ (o : Option ℕ). unwrap_or o 0) (number_here (is_line_of r.round r.link) xs r (is_here r) (number_none (is_line_of r.round r.link) xs e))
 
-pub numbered_none : (xs : List PortRound) (link round : ℕ) → find (is_line_of round link) xs ≡ None → number_in xs link round ≡ 0
+pub numbered_none : (xs : List PortRound) (link round : ℕ) → find (is_line_of round link) xs ≡ None → line_number_at xs link round ≡ 0
 numbered_none xs link round e = ap (λ (o : Option ℕ). unwrap_or o 0) (number_none (is_line_of round link) xs e)
 
 -- ---- the greatest round, and the number of links

@@ -8,7 +8,7 @@ use Rattle.std.proofs.lemmas.List.Splits.{length-slice_split}
 use Rattle.std.proofs.lemmas.List.Sums.{count_by-le-length}
 use Rattle.plain_text.specs.Separator.{is_separator}
 use Rattle.axi_history.specs.declared.port.PortRound.{PortRound}
-use Rattle.trace_text.specs.Reading.{line_of}
+use Rattle.trace_text.specs.Reading.{trace_round_of}
 use Rattle.trace_judge.specs.Lines.{before_separator, shown_after, taken_after}
 use Rattle.trace_judge.specs.Table.{TableStands, TakesLine}
 use Rattle.trace_judge.specs.declared.table.TraceTable.{TraceTable}
@@ -29,17 +29,17 @@ shown_separator earlier all n line t is = next_line earlier all n line t ∙ ap 
 abbrev told : List PortRound → List (List ℕ) → Option PortRound → Result (List PortRound) ℕ
 told earlier more shown = elim shown [ None ↦ Err (length earlier + 1) | Some r ↦ shown_after (earlier ++ r ∷ []) more ]
 
-shown_line : (earlier : List PortRound) (all : List (List ℕ)) (n : ℕ) (line : List ℕ) (shown : Option PortRound) → (n < length all) × (line ≡ get_or all n line) → is_separator line ≡ false → taken_after earlier (line_of line) ≡ shown →
+shown_line : (earlier : List PortRound) (all : List (List ℕ)) (n : ℕ) (line : List ℕ) (shown : Option PortRound) → (n < length all) × (line ≡ get_or all n line) → is_separator line ≡ false → taken_after earlier (trace_round_of line) ≡ shown →
     shown_from earlier all n ≡ told earlier (before_separator (drop (n + 1) all)) shown
 shown_line earlier all n line shown t is e =
     next_line earlier all n line t
     ∙ ap (λ b. shown_after earlier (if b then [] else line ∷ before_separator (drop (n + 1) all))) is
     ∙ ap (told earlier (before_separator (drop (n + 1) all))) e
 
-pub shown_refused : (earlier : List PortRound) (all : List (List ℕ)) (n : ℕ) (line : List ℕ) → (n < length all) × (line ≡ get_or all n line) → is_separator line ≡ false → taken_after earlier (line_of line) ≡ None → shown_from earlier all n ≡ Err (length earlier + 1)
+pub shown_refused : (earlier : List PortRound) (all : List (List ℕ)) (n : ℕ) (line : List ℕ) → (n < length all) × (line ≡ get_or all n line) → is_separator line ≡ false → taken_after earlier (trace_round_of line) ≡ None → shown_from earlier all n ≡ Err (length earlier + 1)
 shown_refused earlier all n line t is e = shown_line earlier all n line None t is e
 
-pub shown_taken : (earlier : List PortRound) (all : List (List ℕ)) (n : ℕ) (line : List ℕ) (r : PortRound) → (n < length all) × (line ≡ get_or all n line) → is_separator line ≡ false → taken_after earlier (line_of line) ≡ Some r → shown_from earlier all n ≡ shown_from (earlier ++ r ∷ []) all (n + 1)
+pub shown_taken : (earlier : List PortRound) (all : List (List ℕ)) (n : ℕ) (line : List ℕ) (r : PortRound) → (n < length all) × (line ≡ get_or all n line) → is_separator line ≡ false → taken_after earlier (trace_round_of line) ≡ Some r → shown_from earlier all n ≡ shown_from (earlier ++ r ∷ []) all (n + 1)
 shown_taken earlier all n line r t is e = shown_line earlier all n line (Some r) t is e
 
 pub shown_end : (earlier : List PortRound) (all : List (List ℕ)) (n : ℕ) → length all ≤ n → shown_from earlier all n ≡ Ok earlier

@@ -14,9 +14,9 @@ use Rattle.axi_history.specs.PortRules.{or_else}
 use Rattle.port_rules.specs.StandsFor.{rounds_of}
 use Rattle.trace_judge.specs.Entries.{EntryFollows, EntryStands, EntryTakes, IsPassedBy, LinkStands}
 use Rattle.trace_judge.specs.Follows.{CanGoOn, Follows, HasJudgedTo, HasNotJudged}
-use Rattle.trace_judge.specs.Histories.{is_line_of, is_of_link, port_of_link, quiet_round, number_of, number_in, shown_in, greatest_round, link_count}
+use Rattle.trace_judge.specs.Histories.{is_line_of, is_of_link, port_of_link, quiet_round, first_line_with, line_number_at, shown_in, greatest_round, link_count}
 use Rattle.trace_judge.specs.Lines.{agrees_with, comes_after, is_before, is_same_port, may_follow}
-use Rattle.trace_judge.specs.Table.{TableStands, entry_of, is_lite, place_of, round_of}
+use Rattle.trace_judge.specs.Table.{TableStands, link_entry, is_lite, line_place, round_of}
 use Rattle.trace_judge.specs.declared.link_judge.LinkJudge.{LinkJudge}
 use Rattle.trace_judge.specs.declared.link_state.LinkState.{LinkState}
 use Rattle.trace_judge.specs.declared.table.TraceTable.{TraceTable}
@@ -188,7 +188,7 @@ follows_other (Some j) kind xs r link ne f =
     let inside : j.rounds ≤ greatest_round xs = f.within in
     record {
       port = f.port;
-      judged = judged_same j.checker j.fault j.rounds (shown_in xs kind link) (shown_in (xs ++ r ∷ []) kind link) (number_in xs link) (number_in (xs ++ r ∷ []) link)
+      judged = judged_same j.checker j.fault j.rounds (shown_in xs kind link) (shown_in (xs ++ r ∷ []) kind link) (line_number_at xs link) (line_number_at (xs ++ r ∷ []) link)
           (λ m le. sym (shown_other xs r kind link m (is_not_on r m link ne))) (λ m le. sym (numbered_other xs r link m (is_not_on r m link ne))) f.judged;
       last = λ round lo. find_other (is_line_of round link) xs r (is_not_on r round link ne) ∙ f.last round lo;
       within = omega arith;
@@ -209,7 +209,7 @@ entry_other (Some s) xs r link ne after e = record {
 
 -- ---- the table
 
-order_told : (o : Option PortRound) (last : Option (ℕ × ℕ)) (r : PortRound) → last ≡ option_map place_of o → comes_after o r ≡ true → round_of last ≤ r.round
+order_told : (o : Option PortRound) (last : Option (ℕ × ℕ)) (r : PortRound) → last ≡ option_map line_place o → comes_after o r ≡ true → round_of last ≤ r.round
 order_told None last r is after = let e : round_of last ≡ 0 = ap round_of is in omega arith
 order_told (Some before) last r is after =
     let e : round_of last ≡ before.round = ap round_of is in
@@ -218,9 +218,9 @@ order_told (Some before) last r is after =
 
 pub table_grows : (t after : TraceTable) (xs : List PortRound) (r : PortRound) → r.link < 4096 → TableStands t xs → may_follow xs r ≡ true →
     after.lines ≡ t.lines + 1 → after.last ≡ Some (r.round, r.link) → after.lite ≡ or_else t.lite (if r.kind.lite then Some (t.lines + 1) else None) → length after.links.items ≡ max (length t.links.items) (r.link + 1) →
-    ((k : ℕ) → k ≢ r.link → entry_of after.links.items k ≡ entry_of t.links.items k) →
-    (state : LinkState) → entry_of after.links.items r.link ≡ Some state → state.port ≡ r.kind → HasJudgedTo state.judge r.round →
-    ((lines : List PortRound) → t.lines + 1 ≡ length lines + 1 → EntryFollows (entry_of t.links.items r.link) lines r → Follows state.judge r.kind (lines ++ r ∷ []) r.link) →
+    ((k : ℕ) → k ≢ r.link → link_entry after.links.items k ≡ link_entry t.links.items k) →
+    (state : LinkState) → link_entry after.links.items r.link ≡ Some state → state.port ≡ r.kind → HasJudgedTo state.judge r.round →
+    ((lines : List PortRound) → t.lines + 1 ≡ length lines + 1 → EntryFollows (link_entry t.links.items r.link) lines r → Follows state.judge r.kind (lines ++ r ∷ []) r.link) →
     TableStands after (xs ++ r ∷ [])
 table_grows t after xs r small s may lines last lite size others state is port to follows =
     let p = and_parts (comes_after (last_or None xs) r) (list_all (agrees_with r) xs) may in
@@ -233,19 +233,19 @@ table_grows t after xs r small s may lines last lite size others state is port t
     let n : t.lines ≡ length xs = s.count in
     let sized : length t.links.items ≡ link_count xs = s.size in
     let few : length t.links.items ≤ 4096 = s.few in
-    let here : Follows state.judge r.kind (xs ++ r ∷ []) r.link = follows xs (ap (λ m. m + 1) n) (entry_follows (entry_of t.links.items r.link) xs r (s.links r.link) may) in
-    let new : EntryStands (Some state) (xs ++ r ∷ []) r.link = entry_here (entry_of t.links.items r.link) xs r state (s.links r.link) may port to here in
+    let here : Follows state.judge r.kind (xs ++ r ∷ []) r.link = follows xs (ap (λ m. m + 1) n) (entry_follows (link_entry t.links.items r.link) xs r (s.links r.link) may) in
+    let new : EntryStands (Some state) (xs ++ r ∷ []) r.link = entry_here (link_entry t.links.items r.link) xs r state (s.links r.link) may port to here in
     record {
       count = lines ∙ ap (λ m. m + 1) n ∙ sym longer;
-      last = last ∙ sym (ap (option_map place_of) (last_more None xs r));
+      last = last ∙ sym (ap (option_map line_place) (last_more None xs r));
       greatest = omega arith;
-      lite = lite ∙ ap (λ (o : Option ℕ). or_else o (if r.kind.lite then Some (t.lines + 1) else None)) s.lite ∙ ap (λ m. or_else (number_of is_lite xs) (if r.kind.lite then Some (m + 1) else None)) n ∙ sym (number_more is_lite xs r);
+      lite = lite ∙ ap (λ (o : Option ℕ). or_else o (if r.kind.lite then Some (t.lines + 1) else None)) s.lite ∙ ap (λ m. or_else (first_line_with is_lite xs) (if r.kind.lite then Some (m + 1) else None)) n ∙ sym (number_more is_lite xs r);
       size = omega arith;
       few = omega arith;
       links = λ link. elim (eqb_tells link r.link) [
-        | inl e ↦ (let P : ℕ → Type 0 = λ k. EntryStands (entry_of after.links.items k) (xs ++ r ∷ []) k in
+        | inl e ↦ (let P : ℕ → Type 0 = λ k. EntryStands (link_entry after.links.items k) (xs ++ r ∷ []) k in
             subst P (sym e.1) (subst (λ (entry : Option LinkState). EntryStands entry (xs ++ r ∷ []) r.link) (sym is) new))
         | inr e ↦ (let ne : r.link ≢ link = λ same. e.1 (sym same) in
-            subst (λ (entry : Option LinkState). EntryStands entry (xs ++ r ∷ []) link) (sym (others link e.1)) (entry_other (entry_of t.links.items link) xs r link ne p.0 (s.links link)))
+            subst (λ (entry : Option LinkState). EntryStands entry (xs ++ r ∷ []) link) (sym (others link e.1)) (entry_other (link_entry t.links.items link) xs r link ne p.0 (s.links link)))
       ];
     }

@@ -9,7 +9,7 @@ use Rattle.axi_history.specs.declared.port.PortKind.{PortKind}
 use Rattle.axi_history.specs.declared.port.PortRound.{PortRound}
 use Rattle.axi_history.specs.PortRules.{or_else, axi4_history_fault}
 use Rattle.axi_history.proofs.HistoryLemmas.{else_parts}
-use Rattle.trace_judge.specs.Histories.{broken_at, broken_in, fault_of_link, fault_of_port, first_broken, greatest_round, history, is_of_link, least, link_count, number_in, number_of, port_of_link, shown_in}
+use Rattle.trace_judge.specs.Histories.{broken_at, broken_in, fault_of_link, fault_of_port, first_broken, greatest_round, history, is_of_link, first_answer, link_count, line_number_at, first_line_with, port_of_link, shown_in}
 use Rattle.trace_judge.specs.Lines.{judged_lines, shown_by}
 use Rattle.trace_judge.specs.Table.{is_lite}
 use Rattle.trace_judge.specs.VerdictLaws.{BrokenTracesTellTheFirst, IsFirstFault, KeepsRules, LegalTracesKeepTheRules, Shows}
@@ -20,10 +20,10 @@ use Rattle.trace_judge.specs.declared.verdict.Verdict.TheVariants.{Broken, Legal
 -- ---- the least number at which something is answered
 
 module _ {A : Type 0} where
-  least_none : (answer : ℕ → Option A) (n : ℕ) → least answer n ≡ None → (m : ℕ) → m < n → answer m ≡ None
+  least_none : (answer : ℕ → Option A) (n : ℕ) → first_answer answer n ≡ None → (m : ℕ) → m < n → answer m ≡ None
   least_none answer zero e m h = absurd (omega arith)
   least_none answer (suc n) e m h =
-      let p = else_parts (least answer n) (answer n) e in
+      let p = else_parts (first_answer answer n) (answer n) e in
       elim (eqb_tells m n) [ inl same ↦ ap answer same.1 ∙ p.1 | inr other ↦ (let ne : m ≢ n = other.1 in least_none answer n p.0 m (omega arith)) ]
 
   pub record IsLeast (answer : ℕ → Option A) (n : ℕ) (x : A) : Type 0 where
@@ -32,18 +32,18 @@ module _ {A : Type 0} where
     pub told : answer place ≡ Some x
     pub before : (m : ℕ) → m < place → answer m ≡ None
 
-  least_some : (answer : ℕ → Option A) (n : ℕ) (x : A) → least answer n ≡ Some x → IsLeast answer n x
+  least_some : (answer : ℕ → Option A) (n : ℕ) (x : A) → first_answer answer n ≡ Some x → IsLeast answer n x
   least_some answer zero x e = absurd cc
-  least_some answer (suc n) x e = go (least answer n) refl e (least_some answer n x)
+  least_some answer (suc n) x e = go (first_answer answer n) refl e (least_some answer n x)
     where
-      go : (o : Option A) → least answer n ≡ o → or_else o (answer n) ≡ Some x → (least answer n ≡ Some x → IsLeast answer n x) → IsLeast answer (suc n) x
+      go : (o : Option A) → first_answer answer n ≡ o → or_else o (answer n) ≡ Some x → (first_answer answer n ≡ Some x → IsLeast answer n x) → IsLeast answer (suc n) x
       go None is e ih = record { place = n; below = omega arith; told = e; before = least_none answer n is }
       go (Some y) is e ih = let l : IsLeast answer n x = ih (is ∙ e) in record { place = l.place; below = (let h : l.place < n = l.below in omega arith); told = l.told; before = l.before }
 
 -- ---- a link in a round
 
 abbrev placed : List PortRound → ℕ → ℕ → Option (ℕ × ℕ) → Option TraceFault
-placed lines round link fault = option_map (λ (f : ℕ × ℕ). let v : TraceFault = record { line = number_in lines link round; round = round; link = link; channel = f.0; rule = f.1 } in v) fault
+placed lines round link fault = option_map (λ (f : ℕ × ℕ). let v : TraceFault = record { line = line_number_at lines link round; round = round; link = link; channel = f.0; rule = f.1 } in v) fault
 
 placed_none : (lines : List PortRound) (round link : ℕ) (fault : Option (ℕ × ℕ)) → placed lines round link fault ≡ None → fault ≡ None
 placed_none lines round link None e = refl
@@ -87,7 +87,7 @@ pub record IsPlaced (lines : List PortRound) (round link : ℕ) (fault : TraceFa
   pub broken : axi4_history_fault port.bus (history (shown_in lines port link) round) ≡ Some (fault.channel, fault.rule)
   pub round_is : fault.round ≡ round
   pub link_is : fault.link ≡ link
-  pub line_is : fault.line ≡ number_in lines link round
+  pub line_is : fault.line ≡ line_number_at lines link round
 
 is_placed : (lines : List PortRound) (round link : ℕ) (fault : TraceFault) → broken_at lines round link ≡ Some fault → IsPlaced lines round link fault
 is_placed lines round link fault e = go (port_of_link lines link) refl e
@@ -95,7 +95,7 @@ is_placed lines round link fault e = go (port_of_link lines link) refl e
     at : (port : PortKind) → port_of_link lines link ≡ Some port → (f : Option (ℕ × ℕ)) → axi4_history_fault port.bus (history (shown_in lines port link) round) ≡ f → placed lines round link f ≡ Some fault → IsPlaced lines round link fault
     at port is None told e = absurd cc
     at port is (Some f) told e =
-        let v : TraceFault = record { line = number_in lines link round; round = round; link = link; channel = f.0; rule = f.1 } in
+        let v : TraceFault = record { line = line_number_at lines link round; round = round; link = link; channel = f.0; rule = f.1 } in
         let same : v ≡ fault = cc in
         record {
           port = port;
@@ -122,7 +122,7 @@ first_is lines fault e =
       is_port = ap (port_of_link lines) p.link_is ∙ p.is_port;
       broken = ap (λ (l : ℕ). axi4_history_fault p.port.bus (history (shown_in lines p.port l) fault.round)) p.link_is ∙ ap (λ (n : ℕ). axi4_history_fault p.port.bus (history (shown_in lines p.port on_link.place) n)) p.round_is ∙ p.broken;
       round = omega arith;
-      line = p.line_is ∙ ap (λ (l : ℕ). number_in lines l in_round.place) (sym p.link_is) ∙ ap (number_in lines fault.link) (sym p.round_is);
+      line = p.line_is ∙ ap (λ (l : ℕ). line_number_at lines l in_round.place) (sym p.link_is) ∙ ap (line_number_at lines fault.link) (sym p.round_is);
       earlier = λ link n h. keeps_round lines n (in_round.before n (omega arith)) link;
       lesser = λ link h. (let h' : link < on_link.place = subst (λ (l : ℕ). link < l) p.link_is h in
           subst (KeepsRules lines link) (sym p.round_is) (keeps lines link in_round.place (placed_none lines in_round.place link (fault_of_link lines in_round.place link) (on_link.before link h'))));
@@ -143,7 +143,7 @@ legal_means text count e = go (shown_by (judged_lines text)) refl e
 
     go : (r : Result (List PortRound) ℕ) → shown_by (judged_lines text) ≡ r → verdict_of_lines r ≡ Legal count → (xs : List PortRound) × Shows text xs × (length xs ≡ count) × ((link round : ℕ) → round ≤ greatest_round xs → KeepsRules xs link round)
     go (Err n) is e = absurd cc
-    go (Ok lines) is e = ports lines is (number_of is_lite lines) e
+    go (Ok lines) is e = ports lines is (first_line_with is_lite lines) e
 
 pub broken_means : BrokenTracesTellTheFirst
 broken_means text fault e = go (shown_by (judged_lines text)) refl e
@@ -158,4 +158,4 @@ broken_means text fault e = go (shown_by (judged_lines text)) refl e
 
     go : (r : Result (List PortRound) ℕ) → shown_by (judged_lines text) ≡ r → verdict_of_lines r ≡ Broken fault → (xs : List PortRound) × Shows text xs × IsFirstFault xs fault
     go (Err n) is e = absurd cc
-    go (Ok lines) is e = ports lines is (number_of is_lite lines) e
+    go (Ok lines) is e = ports lines is (first_line_with is_lite lines) e

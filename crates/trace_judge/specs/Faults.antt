@@ -2,7 +2,7 @@
 use Rattle.std.specs.Prelude.{◌≡◌, ◌≤◌, ℕ, List, Option, Some, None, IfSome, nat_le, nat_lt, if◌then◌else◌}
 use Rattle.axi_history.specs.declared.port.PortRound.{PortRound}
 use Rattle.trace_judge.specs.Follows.{CanGoOn}
-use Rattle.trace_judge.specs.Histories.{broken_at, greatest_round, number_in}
+use Rattle.trace_judge.specs.Histories.{broken_at, greatest_round, line_number_at}
 use Rattle.trace_judge.specs.declared.link_judge.LinkFault.{LinkFault}
 use Rattle.trace_judge.specs.declared.link_state.LinkState.{LinkState}
 use Rattle.trace_judge.specs.declared.verdict.TraceFault.{TraceFault}
@@ -30,9 +30,9 @@ EntryServes (Some state) = CanGoOn state.judge state.port
 abbrev pub broken_by : List PortRound → ℕ → Option LinkFault → ℕ → Option TraceFault
 broken_by lines link None n = None
 broken_by lines link (Some f) n =
-    if nat_lt n f.round then None else Some (record { line = number_in lines link n; round = n; link = link; channel = f.channel; rule = f.rule })
+    if nat_lt n f.round then None else Some (record { line = line_number_at lines link n; round = n; link = link; channel = f.channel; rule = f.rule })
 
 -- what a link breaks first in the rounds of the trace
 pub record IsFaultOf (fault : Option LinkFault) (lines : List PortRound) (link : ℕ) : Type 0 where
   pub told : (n : ℕ) → n ≤ greatest_round lines → broken_at lines n link ≡ broken_by lines link fault n
-  pub within : IfSome fault (λ f. (f.round ≤ greatest_round lines) × (f.line ≡ number_in lines link f.round))
+  pub within : IfSome fault (λ f. (f.round ≤ greatest_round lines) × (f.line ≡ line_number_at lines link f.round))

@@ -5,7 +5,7 @@ use Rattle.axi_history.specs.declared.port.PortKind.{PortKind}
 use Rattle.axi_history.specs.declared.port.PortRound.{PortRound}
 use Rattle.axi_history.specs.PortRules.{axi4_history_fault}
 use Rattle.port_rules.specs.StandsFor.{checked_port, rounds_of}
-use Rattle.trace_judge.specs.Histories.{greatest_round, history, is_line_of, number_in, shown_in}
+use Rattle.trace_judge.specs.Histories.{greatest_round, history, is_line_of, line_number_at, shown_in}
 use Rattle.trace_judge.specs.Judged.{fault_by, IsJudged}
 use Rattle.trace_judge.specs.declared.link_judge.LinkFault.{LinkFault}
 use Rattle.trace_judge.specs.declared.link_judge.LinkJudge.{LinkJudge}
@@ -13,7 +13,7 @@ use Rattle.trace_judge.specs.declared.link_judge.LinkJudge.{LinkJudge}
 -- a judge of a port of this kind has judged the link up to its last line
 pub record FollowsLink (judge : LinkJudge) (kind : PortKind) (lines : List PortRound) (link : ℕ) : Type 0 where
   pub port : checked_port judge.checker ≡ kind
-  pub judged : IsJudged judge.checker judge.fault judge.rounds (shown_in lines kind link) (number_in lines link)
+  pub judged : IsJudged judge.checker judge.fault judge.rounds (shown_in lines kind link) (line_number_at lines link)
   pub last : (round : ℕ) → judge.rounds < round → find (is_line_of round link) lines ≡ None
   pub within : judge.rounds ≤ greatest_round lines
   pub few : rounds_of judge.checker ≤ 2 * length lines
@@ -41,4 +41,4 @@ HasNotJudged (Some judge) round = judge.rounds < round
 -- what a link breaks first in the rounds from 1 to the greatest of a line
 pub record TellsOf (fault : Option LinkFault) (kind : PortKind) (lines : List PortRound) (link : ℕ) : Type 0 where
   pub told : (n : ℕ) → n ≤ greatest_round lines → axi4_history_fault kind.bus (history (shown_in lines kind link) n) ≡ fault_by fault n
-  pub within : IfSome fault (λ f. (f.round ≤ greatest_round lines) × (f.line ≡ number_in lines link f.round))
+  pub within : IfSome fault (λ f. (f.round ≤ greatest_round lines) × (f.line ≡ line_number_at lines link f.round))

@@ -46,24 +46,24 @@ abbrev pub fault_of_link : List PortRound → ℕ → ℕ → Option (ℕ × ℕ
 fault_of_link lines round link = fault_of_port lines link round (port_of_link lines link)
 
 -- the number of the first line with a property, from 1
-abbrev pub number_of : (PortRound → Bool) → List PortRound → Option ℕ
-number_of property [] = None
-number_of property (r ∷ more) = if property r then Some 1 else option_map (λ n. n + 1) (number_of property more)
+abbrev pub first_line_with : (PortRound → Bool) → List PortRound → Option ℕ
+first_line_with property [] = None
+first_line_with property (r ∷ more) = if property r then Some 1 else option_map (λ n. n + 1) (first_line_with property more)
 
 -- the number of the line of a round and a link, or 0 where there is none
-abbrev pub number_in : List PortRound → ℕ → ℕ → ℕ
-number_in lines link round = unwrap_or (number_of (is_line_of round link) lines) 0
+abbrev pub line_number_at : List PortRound → ℕ → ℕ → ℕ
+line_number_at lines link round = unwrap_or (first_line_with (is_line_of round link) lines) 0
 
 -- what a link breaks first in the rounds from 1 to this one, with the line, the round and the link
 abbrev pub broken_at : List PortRound → ℕ → ℕ → Option TraceFault
 broken_at lines round link =
-    option_map (λ fault. record { line = number_in lines link round; round = round; link = link; channel = fault.0; rule = fault.1 }) (fault_of_link lines round link)
+    option_map (λ fault. record { line = line_number_at lines link round; round = round; link = link; channel = fault.0; rule = fault.1 }) (fault_of_link lines round link)
 
 module _ {A : Type 0} where
   -- what is answered at the least number below n at which something is
-  abbrev pub least : (ℕ → Option A) → ℕ → Option A
-  least answer zero = None
-  least answer (suc n) = or_else (least answer n) (answer n)
+  abbrev pub first_answer : (ℕ → Option A) → ℕ → Option A
+  first_answer answer zero = None
+  first_answer answer (suc n) = or_else (first_answer answer n) (answer n)
 
 -- the greatest round of a line, and one more than the greatest link
 abbrev pub greatest_round : List PortRound → ℕ
@@ -76,9 +76,9 @@ link_count (r ∷ more) = max (r.link + 1) (link_count more)
 
 -- what is broken in a round, on the least link
 abbrev pub broken_in : List PortRound → ℕ → Option TraceFault
-broken_in lines round = least (broken_at lines round) (link_count lines)
+broken_in lines round = first_answer (broken_at lines round) (link_count lines)
 
 -- what is broken in the first round in which something is. The rounds are those up to the greatest of a line, for each
 -- link; round 0 has no history.
 abbrev pub first_broken : List PortRound → Option TraceFault
-first_broken lines = least (broken_in lines) (greatest_round lines + 1)
+first_broken lines = first_answer (broken_in lines) (greatest_round lines + 1)

@@ -6,7 +6,7 @@ use Rattle.plain_text.specs.Lines.{lines}
 use Rattle.plain_text.specs.Separator.{is_separator}
 use Rattle.axi_history.specs.declared.port.PortKind.{PortKind}
 use Rattle.axi_history.specs.declared.port.PortRound.{PortRound}
-use Rattle.trace_text.specs.Reading.{line_of}
+use Rattle.trace_text.specs.Reading.{trace_round_of}
 
 -- the lines before the first line `%%`, and all lines where there is none
 abbrev pub before_separator : List (List ℕ) → List (List ℕ)
@@ -48,7 +48,7 @@ taken_after earlier (Some r) = if may_follow earlier r then Some r else None
 abbrev pub shown_after : List PortRound → List (List ℕ) → Result (List PortRound) ℕ
 shown_after earlier [] = Ok earlier
 shown_after earlier (line ∷ more) =
-    elim (taken_after earlier (line_of line)) [ None ↦ Err (length earlier + 1) | Some r ↦ shown_after (earlier ++ r ∷ []) more ]
+    elim (taken_after earlier (trace_round_of line)) [ None ↦ Err (length earlier + 1) | Some r ↦ shown_after (earlier ++ r ∷ []) more ]
 
 abbrev pub shown_by : List (List ℕ) → Result (List PortRound) ℕ
 shown_by lines = shown_after [] lines

@@ -3,7 +3,7 @@ use Rattle.std.specs.Prelude.{◌≡◌, ◌<◌, ◌≤◌, ℕ, List, Some, No
 use Rattle.axi_history.specs.declared.port.PortKind.{PortKind}
 use Rattle.axi_history.specs.declared.port.PortRound.{PortRound}
 use Rattle.axi_history.specs.PortRules.{axi4_history_fault}
-use Rattle.trace_judge.specs.Histories.{greatest_round, history, number_in, port_of_link, shown_in}
+use Rattle.trace_judge.specs.Histories.{greatest_round, history, line_number_at, port_of_link, shown_in}
 use Rattle.trace_judge.specs.Lines.{judged_lines, shown_by}
 use Rattle.trace_judge.specs.Verdicts.{verdict_of}
 use Rattle.trace_judge.specs.declared.verdict.TraceFault.{TraceFault}
@@ -20,7 +20,7 @@ pub record IsFirstFault (lines : List PortRound) (fault : TraceFault) : Type 0 w
   pub is_port : port_of_link lines fault.link ≡ Some port
   pub broken : axi4_history_fault port.bus (history (shown_in lines port fault.link) fault.round) ≡ Some (fault.channel, fault.rule)
   pub round : fault.round ≤ greatest_round lines
-  pub line : fault.line ≡ number_in lines fault.link fault.round
+  pub line : fault.line ≡ line_number_at lines fault.link fault.round
   pub earlier : (link round : ℕ) → round < fault.round → KeepsRules lines link round
   pub lesser : (link : ℕ) → link < fault.link → KeepsRules lines link fault.round
 

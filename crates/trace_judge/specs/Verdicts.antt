@@ -1,7 +1,7 @@
 -- The verdict on a trace.
 use Rattle.std.specs.Prelude.{ℕ, List, Option, Some, None, Result, Ok, Err, length}
 use Rattle.axi_history.specs.declared.port.PortRound.{PortRound}
-use Rattle.trace_judge.specs.Histories.{number_of, first_broken}
+use Rattle.trace_judge.specs.Histories.{first_line_with, first_broken}
 use Rattle.trace_judge.specs.Lines.{judged_lines, shown_by}
 use Rattle.trace_judge.specs.declared.verdict.TraceFault.{TraceFault}
 use Rattle.trace_judge.specs.declared.verdict.Verdict.{Verdict}
@@ -20,7 +20,7 @@ verdict_of_ports lines (Some line) = NotBuilt line
 -- where a line is refused, the first such line
 abbrev pub verdict_of_lines : Result (List PortRound) ℕ → Verdict
 verdict_of_lines (Err line) = BadTraceLine line
-verdict_of_lines (Ok lines) = verdict_of_ports lines (number_of (λ (r : PortRound). r.kind.lite) lines)
+verdict_of_lines (Ok lines) = verdict_of_ports lines (first_line_with (λ (r : PortRound). r.kind.lite) lines)
 
 -- A line that is refused goes before all else, and a line of an AXI4-Lite port before a broken rule.
 abbrev pub verdict_of : List ℕ → Verdict

@@ -5,7 +5,7 @@ ghost use Rattle.axi_history.specs.declared.port.PortRound.{PortRound as Round};
 ghost use Rattle.port_rules.specs.StandsFor.{HasSmallAddresses};
 ghost use Rattle.trace_judge.specs.Entries.{EntryFollows, EntryTakes};
 ghost use Rattle.trace_judge.specs.Follows.{Follows, HasJudgedTo};
-ghost use Rattle.trace_judge.specs.Table.{entry_of};
+ghost use Rattle.trace_judge.specs.Table.{link_entry};
 
 use crate::link_state::LinkState;
 use axi_beats::NoMemory;
@@ -13,8 +13,8 @@ use axi_history::PortRound;
 use std::alloc::{AllocError, Global};
 
 /// What is kept of a link, or nothing where no line of it was given.
-pub(crate) fn entry_of(links: &[Option<LinkState>], link: u32) -> Option<&LinkState>
-    ensures { option_map (λ state. state.now) result ≡ entry_of links.now link }
+pub(crate) fn link_entry(links: &[Option<LinkState>], link: u32) -> Option<&LinkState>
+    ensures { option_map (λ state. state.now) result ≡ link_entry links.now link }
 {
     match links.get(link as usize) {
         Some(entry) => entry.as_ref(),
@@ -25,7 +25,7 @@ pub(crate) fn entry_of(links: &[Option<LinkState>], link: u32) -> Option<&LinkSt
 /// Makes a place for a link, and for those before it, where there is none. Without memory some places may be added.
 pub(crate) fn grow(links: &mut Vec<Option<LinkState>>, link: u32) -> Result<(), AllocError>
     ensures size { OnOk result (length links.new.items ≡ max (length links.old.items) (link + 1)) }
-    ensures entries { OnOk result ((k : ℕ) → entry_of links.new.items k ≡ entry_of links.old.items k) }
+    ensures entries { OnOk result ((k : ℕ) → link_entry links.new.items k ≡ link_entry links.old.items k) }
 {
     while links.len() <= link as usize {
         links.push(None)?;
@@ -44,13 +44,13 @@ pub(crate) fn add_to_link(
     requires bus { IsBusWidth r.now.kind.bus }
     requires small { HasSmallAddresses r.now }
     requires first { 1 ≤ r.now.round }
-    requires takes { EntryTakes (entry_of links.old.items r.now.link) r.now.kind }
+    requires takes { EntryTakes (link_entry links.old.items r.now.link) r.now.kind }
     ensures size { OnOk result (length links.new.items ≡ length links.old.items) }
-    ensures others { OnOk result ((k : ℕ) → k ≢ r.now.link → entry_of links.new.items k ≡ entry_of links.old.items k) }
-    ensures entry { OnOk result ((state : _) × (entry_of links.new.items r.now.link ≡ Some state)
+    ensures others { OnOk result ((k : ℕ) → k ≢ r.now.link → link_entry links.new.items k ≡ link_entry links.old.items k) }
+    ensures entry { OnOk result ((state : _) × (link_entry links.new.items r.now.link ≡ Some state)
         × (state.port ≡ r.now.kind) × HasJudgedTo state.judge r.now.round
         × ((lines : List Round) → line ≡ length lines + 1 →
-        EntryFollows (entry_of links.old.items r.now.link) lines r.now →
+        EntryFollows (link_entry links.old.items r.now.link) lines r.now →
         Follows state.judge r.now.kind (lines ++ r.now ∷ []) r.now.link)) }
 {
     let place = r.link as usize;

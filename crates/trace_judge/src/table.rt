@@ -5,11 +5,11 @@ ghost use Rattle.axi_history.specs.declared.port.PortKind.{PortKind as Kind};
 ghost use Rattle.axi_history.specs.declared.port.PortRound.{PortRound as Round};
 ghost use Rattle.axi_history.specs.PortRules.{or_else};
 ghost use Rattle.trace_text.specs.Ranges.{IsTraceRound};
-ghost use Rattle.trace_text.specs.Reading.{line_of};
+ghost use Rattle.trace_text.specs.Reading.{trace_round_of};
 ghost use Rattle.trace_judge.specs.Lines.{agrees_with, comes_after, is_same_port, may_follow, taken_after};
-ghost use Rattle.trace_judge.specs.Table.{TableStands, TakesLine, entry_of, place_of};
+ghost use Rattle.trace_judge.specs.Table.{TableStands, TakesLine, link_entry, line_place};
 
-use crate::entries::{add_to_link, entry_of, grow};
+use crate::entries::{add_to_link, grow, link_entry};
 use crate::link_state::LinkState;
 use axi_beats::NoMemory;
 use axi_history::{PortKind, PortRound};
@@ -49,7 +49,7 @@ impl TraceTable {
         requires few { self.old.lines < 2 ^ 25 }
         ensures lines { IfOk result (λ taken. self.new.lines ≡ self.old.lines + (if taken then 1 else 0)) }
         ensures taken { IfOk result (λ taken. (lines : List Round) → TableStands self.old lines →
-            TakesLine taken self.new lines (taken_after lines (line_of line.now))) }
+            TakesLine taken self.new lines (taken_after lines (trace_round_of line.now))) }
     {
         match read_trace_line(line) {
             Ok(r) => self.take_round(alloc, &r),
@@ -84,7 +84,7 @@ impl TraceTable {
     fn keeps_port(&self, r: &PortRound) -> bool
         ensures { (lines : List Round) → TableStands self.now lines → result ≡ list_all (agrees_with r.now) lines }
     {
-        match entry_of(&self.links, r.link) {
+        match link_entry(&self.links, r.link) {
             Some(state) => is_same_port(state.port, r.kind),
             None => true,
         }
@@ -111,7 +111,7 @@ impl TraceTable {
 
 /// Whether what a line shows comes after the last line, whose round and link these are.
 fn comes_after(last: Option<(u64, u32)>, r: &PortRound) -> bool
-    ensures { (before : _) → last ≡ option_map place_of before → result ≡ comes_after before r.now }
+    ensures { (before : _) → last ≡ option_map line_place before → result ≡ comes_after before r.now }
 {
     match last {
         Some((round, link)) => round < r.round || (round == r.round && link < r.link),

@@ -1,7 +1,7 @@
 //! The judge of a whole trace.
 ghost use Rattle.std.specs.Prelude.{◌≡◌, ◌≤◌, ◌<◌, ◌^◌, [], List, length, IfOk, OnOk};
 ghost use Rattle.axi_history.specs.declared.port.PortRound.{PortRound as Round};
-ghost use Rattle.trace_judge.specs.Histories.{number_of};
+ghost use Rattle.trace_judge.specs.Histories.{first_line_with};
 ghost use Rattle.trace_judge.specs.Lines.{judged_lines, shown_by};
 ghost use Rattle.trace_judge.specs.Reading.{IsRead};
 ghost use Rattle.trace_judge.specs.Table.{TableStands, is_lite, round_of};
@@ -53,7 +53,7 @@ fn verdict_on(table: TraceTable) -> Result<Verdict, NoMemory>
     requires stands { (lines : List Round) × TableStands table lines }
     requires few { table.lines < 2 ^ 25 }
     ensures verdict { IfOk result (λ verdict. (lines : List Round) → TableStands table lines →
-        verdict ≡ verdict_of_ports lines (number_of is_lite lines)) }
+        verdict ≡ verdict_of_ports lines (first_line_with is_lite lines)) }
 {
     let TraceTable {
         links,

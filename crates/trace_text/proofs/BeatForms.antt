@@ -20,7 +20,7 @@ use Rattle.axi_history.specs.declared.port.RawR.{RawR}
 use Rattle.axi_history.specs.declared.port.Seen.{Seen}
 use Rattle.trace_text.specs.Form.{address_text, bit_text, channel_text, lanes_text, mark, read_data_text, response_text, tag_text, write_data_text}
 use Rattle.trace_text.specs.Ranges.{IsOnBus, IsTraceAddress, IsTraceReadData, IsTraceResponse, IsTraceWriteData}
-use Rattle.trace_text.specs.Reading.{address_of, channel_before, channel_of, lanes_before, lanes_of, marked, read_data_of, response_of, tag_of, write_data_of}
+use Rattle.trace_text.specs.Reading.{address_in, channel_before, channel_in, lanes_before, lanes_in, mark_before, read_data_in, response_in, tag_in, write_data_in}
 use Rattle.trace_text.proofs.FieldForms.{step, passes, decimal_form, hexadecimal_form, bit_form, tag_form, Avoids-bit, Avoids-number, Avoids-tag}
 
 -- ---- lanes
@@ -38,8 +38,8 @@ AreBytes-zeros : (n : ℕ) → AreBytes (replicate n 0)
 AreBytes-zeros zero = tt
 AreBytes-zeros (suc n) = (lit< tt, AreBytes-zeros n)
 
-lanes_sound : (bus : ℕ) → bus ≤ 128 → (word lanes : List ℕ) → lanes_of bus word ≡ Some lanes → IsOnBus bus lanes × (word ≡ lanes_text bus lanes)
-unfolding lanes_of
+lanes_sound : (bus : ℕ) → bus ≤ 128 → (word lanes : List ℕ) → lanes_in bus word ≡ Some lanes → IsOnBus bus lanes × (word ≡ lanes_text bus lanes)
+unfolding lanes_in
 lanes_sound bus within word lanes e =
     let bytes = bind_some (read_pairs word) (λ bytes. cond (eqb (length bytes) bus) (Some (bytes ++ replicate (128 - bus) 0)) None) lanes e in
     let p = passes (eqb (length bytes.0) bus) (bytes.0 ++ replicate (128 - bus) 0) lanes bytes.2 in
@@ -54,8 +54,8 @@ lanes_sound bus within word lanes e =
       s.1 ∙ ap pairs (sym (take_at bytes.0 (replicate (128 - bus) 0) bus count)),
     )
 
-lanes_complete : (bus : ℕ) → bus ≤ 128 → (lanes : List ℕ) → IsOnBus bus lanes → lanes_of bus (lanes_text bus lanes) ≡ Some lanes
-unfolding lanes_of
+lanes_complete : (bus : ℕ) → bus ≤ 128 → (lanes : List ℕ) → IsOnBus bus lanes → lanes_in bus (lanes_text bus lanes) ≡ Some lanes
+unfolding lanes_in
 lanes_complete bus within lanes fits =
     let count : length (take bus lanes) ≡ bus = omega (arith, length-take bus lanes, fits.lanes_128) in
     let whole : take bus lanes ++ replicate (128 - bus) 0 ≡ lanes = ap (λ (t : List ℕ). take bus lanes ++ t) (sym fits.above) ∙ take-append-drop bus lanes in
@@ -64,7 +64,7 @@ lanes_complete bus within lanes fits =
 lanes_form : (bus : ℕ) → bus ≤ 128 → IsExactBefore (lanes_before 44 bus) (write_before 44 (lanes_text bus)) (IsOnBus bus)
 unfolding lanes_before
 lanes_form bus within =
-    before_is_exact (lanes_of bus) (lanes_text bus) (IsOnBus bus) (record { sound = lanes_sound bus within; complete = lanes_complete bus within }) 44 (λ lanes fits. Avoids-pairs 44 (take bus lanes) (lit≤ tt) (AreBytes-take bus lanes fits.bytes))
+    before_is_exact (lanes_in bus) (lanes_text bus) (IsOnBus bus) (record { sound = lanes_sound bus within; complete = lanes_complete bus within }) 44 (λ lanes fits. Avoids-pairs 44 (take bus lanes) (lit≤ tt) (AreBytes-take bus lanes fits.bytes))
 
 Avoids-lanes : (bus : ℕ) (lanes : List ℕ) → IsOnBus bus lanes → Avoids 32 (lanes_text bus lanes)
 Avoids-lanes bus lanes fits = Avoids-pairs 32 (take bus lanes) (lit≤ tt) (AreBytes-take bus lanes fits.bytes)
@@ -75,8 +75,8 @@ Avoids-before text rest p q = Avoids-append 32 text (44 ∷ rest) p (refl, q)
 
 -- ---- addresses
 
-address_sound : (text : List ℕ) (beat : RawAddr) → address_of text ≡ Some beat → IsTraceAddress beat × (text ≡ address_text beat)
-unfolding address_of address_text
+address_sound : (text : List ℕ) (beat : RawAddr) → address_in text ≡ Some beat → IsTraceAddress beat × (text ≡ address_text beat)
+unfolding address_in address_text
 address_sound text beat e =
     let id = step (decimal_form 44 (2 ^ 32) (lit≤ tt) (lit≤ tt)) text _ beat e in
     let addr = step (hexadecimal_form 44 (2 ^ 63) (lit≤ tt) (lit≤ tt)) id.0.1 _ beat id.3 in
@@ -84,7 +84,7 @@ address_sound text beat e =
     let size = step (decimal_form 44 8 (lit≤ tt) (lit≤ tt)) len.0.1 _ beat len.3 in
     let burst = step (decimal_form 44 4 (lit≤ tt) (lit≤ tt)) size.0.1 _ beat size.3 in
     let lock = step bit_form burst.0.1 _ beat burst.3 in
-    let tag = bind_some (tag_of lock.0.1) _ beat lock.3 in
+    let tag = bind_some (tag_in lock.0.1) _ beat lock.3 in
     let last = tag_form.sound lock.0.1 tag.0 tag.1 in
     let made : RawAddr = record { id = id.0.0; addr = addr.0.0; len = len.0.0; size = size.0.0; burst = burst.0.0; lock = lock.0.0; tag = tag.0 } in
     subst (λ (b : RawAddr). IsTraceAddress b × (text ≡ decimal b.id ++ 44 ∷ (hexadecimal b.addr ++ 44 ∷ (decimal b.len ++ 44 ∷ (decimal b.size ++ 44 ∷ (decimal b.burst ++ 44 ∷ (bit_text b.lock ++ 44 ∷ tag_text b.tag))))))) {x = made} (some_is made beat tag.2) (
@@ -92,8 +92,8 @@ address_sound text beat e =
       id.2 ∙ ap (λ (t : List ℕ). decimal id.0.0 ++ 44 ∷ t) (addr.2 ∙ ap (λ (t : List ℕ). hexadecimal addr.0.0 ++ 44 ∷ t) (len.2 ∙ ap (λ (t : List ℕ). decimal len.0.0 ++ 44 ∷ t) (size.2 ∙ ap (λ (t : List ℕ). decimal size.0.0 ++ 44 ∷ t) (burst.2 ∙ ap (λ (t : List ℕ). decimal burst.0.0 ++ 44 ∷ t) (lock.2 ∙ ap (λ (t : List ℕ). bit_text lock.0.0 ++ 44 ∷ t) last.1))))),
     )
 
-address_complete : (beat : RawAddr) → IsTraceAddress beat → address_of (address_text beat) ≡ Some beat
-unfolding address_of address_text
+address_complete : (beat : RawAddr) → IsTraceAddress beat → address_in (address_text beat) ≡ Some beat
+unfolding address_in address_text
 address_complete beat fits =
     let len : beat.len < 256 = omega (arith, fits.len) in
     let size : beat.size < 8 = omega (arith, fits.size) in
@@ -104,7 +104,7 @@ address_complete beat fits =
     let after_addr : List ℕ = decimal beat.len ++ 44 ∷ after_len in
     rw ((decimal_form 44 (2 ^ 32) (lit≤ tt) (lit≤ tt)).complete beat.id (hexadecimal beat.addr ++ 44 ∷ after_addr) fits.id, (hexadecimal_form 44 (2 ^ 63) (lit≤ tt) (lit≤ tt)).complete beat.addr after_addr fits.addr, (decimal_form 44 256 (lit≤ tt) (lit≤ tt)).complete beat.len after_len len, (decimal_form 44 8 (lit≤ tt) (lit≤ tt)).complete beat.size after_size size, (decimal_form 44 4 (lit≤ tt) (lit≤ tt)).complete beat.burst after_burst burst, bit_form.complete beat.lock (tag_text beat.tag) tt, tag_form.complete beat.tag fits.tag) refl
 
-pub address_form : IsExact address_of address_text IsTraceAddress
+pub address_form : IsExact address_in address_text IsTraceAddress
 address_form = record { sound = address_sound; complete = address_complete }
 
 pub Avoids-address : (beat : RawAddr) → IsTraceAddress beat → Avoids 32 (address_text beat)
@@ -122,13 +122,13 @@ Avoids-address beat fits =
 strobe_within : (bus : ℕ) → bus ≤ 128 → 2 ^ bus ≤ 2 ^ 128
 strobe_within bus within = pow-le-pow_right {n = 2} (lit< tt) within
 
-write_data_sound : (bus : ℕ) → bus ≤ 128 → (text : List ℕ) (beat : WBeat) → write_data_of bus text ≡ Some beat → IsTraceWriteData bus beat × (text ≡ write_data_text bus beat)
-unfolding write_data_of write_data_text
+write_data_sound : (bus : ℕ) → bus ≤ 128 → (text : List ℕ) (beat : WBeat) → write_data_in bus text ≡ Some beat → IsTraceWriteData bus beat × (text ≡ write_data_text bus beat)
+unfolding write_data_in write_data_text
 write_data_sound bus within text beat e =
     let lanes = step (lanes_form bus within) text _ beat e in
     let strobe = step (hexadecimal_form 44 (2 ^ bus) (lit≤ tt) (strobe_within bus within)) lanes.0.1 _ beat lanes.3 in
     let last = step bit_form strobe.0.1 _ beat strobe.3 in
-    let tag = bind_some (tag_of last.0.1) _ beat last.3 in
+    let tag = bind_some (tag_in last.0.1) _ beat last.3 in
     let end = tag_form.sound last.0.1 tag.0 tag.1 in
     let made : WBeat = record { lanes = lanes.0.0; strobe = strobe.0.0; last = last.0.0; tag = tag.0 } in
     subst (λ (b : WBeat). IsTraceWriteData bus b × (text ≡ lanes_text bus b.lanes ++ 44 ∷ (hexadecimal b.strobe ++ 44 ∷ (bit_text b.last ++ 44 ∷ tag_text b.tag)))) {x = made} (some_is made beat tag.2) (
@@ -136,13 +136,13 @@ write_data_sound bus within text beat e =
       lanes.2 ∙ ap (λ (t : List ℕ). lanes_text bus lanes.0.0 ++ 44 ∷ t) (strobe.2 ∙ ap (λ (t : List ℕ). hexadecimal strobe.0.0 ++ 44 ∷ t) (last.2 ∙ ap (λ (t : List ℕ). bit_text last.0.0 ++ 44 ∷ t) end.1)),
     )
 
-write_data_complete : (bus : ℕ) → bus ≤ 128 → (beat : WBeat) → IsTraceWriteData bus beat → write_data_of bus (write_data_text bus beat) ≡ Some beat
-unfolding write_data_of write_data_text
+write_data_complete : (bus : ℕ) → bus ≤ 128 → (beat : WBeat) → IsTraceWriteData bus beat → write_data_in bus (write_data_text bus beat) ≡ Some beat
+unfolding write_data_in write_data_text
 write_data_complete bus within beat fits =
     let after_strobe : List ℕ = bit_text beat.last ++ 44 ∷ tag_text beat.tag in
     rw ((lanes_form bus within).complete beat.lanes (hexadecimal beat.strobe ++ 44 ∷ after_strobe) fits.lanes, (hexadecimal_form 44 (2 ^ bus) (lit≤ tt) (strobe_within bus within)).complete beat.strobe after_strobe fits.strobe, bit_form.complete beat.last (tag_text beat.tag) tt, tag_form.complete beat.tag fits.tag) refl
 
-pub write_data_form : (bus : ℕ) → bus ≤ 128 → IsExact (write_data_of bus) (write_data_text bus) (IsTraceWriteData bus)
+pub write_data_form : (bus : ℕ) → bus ≤ 128 → IsExact (write_data_in bus) (write_data_text bus) (IsTraceWriteData bus)
 write_data_form bus within = record { sound = write_data_sound bus within; complete = write_data_complete bus within }
 
 pub Avoids-write_data : (bus : ℕ) → bus ≤ 128 → (beat : WBeat) → IsTraceWriteData bus beat → Avoids 32 (write_data_text bus beat)
@@ -154,12 +154,12 @@ Avoids-write_data bus within beat fits =
 
 -- ---- responses
 
-response_sound : (text : List ℕ) (beat : RawB) → response_of text ≡ Some beat → IsTraceResponse beat × (text ≡ response_text beat)
-unfolding response_of response_text
+response_sound : (text : List ℕ) (beat : RawB) → response_in text ≡ Some beat → IsTraceResponse beat × (text ≡ response_text beat)
+unfolding response_in response_text
 response_sound text beat e =
     let id = step (decimal_form 44 (2 ^ 32) (lit≤ tt) (lit≤ tt)) text _ beat e in
     let resp = step (decimal_form 44 4 (lit≤ tt) (lit≤ tt)) id.0.1 _ beat id.3 in
-    let tag = bind_some (tag_of resp.0.1) _ beat resp.3 in
+    let tag = bind_some (tag_in resp.0.1) _ beat resp.3 in
     let last = tag_form.sound resp.0.1 tag.0 tag.1 in
     let made : RawB = record { id = id.0.0; resp = resp.0.0; tag = tag.0 } in
     subst (λ (b : RawB). IsTraceResponse b × (text ≡ decimal b.id ++ 44 ∷ (decimal b.resp ++ 44 ∷ tag_text b.tag))) {x = made} (some_is made beat tag.2) (
@@ -167,13 +167,13 @@ response_sound text beat e =
       id.2 ∙ ap (λ (t : List ℕ). decimal id.0.0 ++ 44 ∷ t) (resp.2 ∙ ap (λ (t : List ℕ). decimal resp.0.0 ++ 44 ∷ t) last.1),
     )
 
-response_complete : (beat : RawB) → IsTraceResponse beat → response_of (response_text beat) ≡ Some beat
-unfolding response_of response_text
+response_complete : (beat : RawB) → IsTraceResponse beat → response_in (response_text beat) ≡ Some beat
+unfolding response_in response_text
 response_complete beat fits =
     let resp : beat.resp < 4 = omega (arith, fits.resp) in
     rw ((decimal_form 44 (2 ^ 32) (lit≤ tt) (lit≤ tt)).complete beat.id (decimal beat.resp ++ 44 ∷ tag_text beat.tag) fits.id, (decimal_form 44 4 (lit≤ tt) (lit≤ tt)).complete beat.resp (tag_text beat.tag) resp, tag_form.complete beat.tag fits.tag) refl
 
-pub response_form : IsExact response_of response_text IsTraceResponse
+pub response_form : IsExact response_in response_text IsTraceResponse
 response_form = record { sound = response_sound; complete = response_complete }
 
 pub Avoids-response : (beat : RawB) → IsTraceResponse beat → Avoids 32 (response_text beat)
@@ -183,14 +183,14 @@ Avoids-response beat fits =
 
 -- ---- read data
 
-read_data_sound : (bus : ℕ) → bus ≤ 128 → (text : List ℕ) (beat : RawR) → read_data_of bus text ≡ Some beat → IsTraceReadData bus beat × (text ≡ read_data_text bus beat)
-unfolding read_data_of read_data_text
+read_data_sound : (bus : ℕ) → bus ≤ 128 → (text : List ℕ) (beat : RawR) → read_data_in bus text ≡ Some beat → IsTraceReadData bus beat × (text ≡ read_data_text bus beat)
+unfolding read_data_in read_data_text
 read_data_sound bus within text beat e =
     let id = step (decimal_form 44 (2 ^ 32) (lit≤ tt) (lit≤ tt)) text _ beat e in
     let lanes = step (lanes_form bus within) id.0.1 _ beat id.3 in
     let resp = step (decimal_form 44 4 (lit≤ tt) (lit≤ tt)) lanes.0.1 _ beat lanes.3 in
     let last = step bit_form resp.0.1 _ beat resp.3 in
-    let tag = bind_some (tag_of last.0.1) _ beat last.3 in
+    let tag = bind_some (tag_in last.0.1) _ beat last.3 in
     let end = tag_form.sound last.0.1 tag.0 tag.1 in
     let made : RawR = record { id = id.0.0; lanes = lanes.0.0; resp = resp.0.0; last = last.0.0; tag = tag.0 } in
     subst (λ (b : RawR). IsTraceReadData bus b × (text ≡ decimal b.id ++ 44 ∷ (lanes_text bus b.lanes ++ 44 ∷ (decimal b.resp ++ 44 ∷ (bit_text b.last ++ 44 ∷ tag_text b.tag))))) {x = made} (some_is made beat tag.2) (
@@ -198,20 +198,20 @@ read_data_sound bus within text beat e =
       id.2 ∙ ap (λ (t : List ℕ). decimal id.0.0 ++ 44 ∷ t) (lanes.2 ∙ ap (λ (t : List ℕ). lanes_text bus lanes.0.0 ++ 44 ∷ t) (resp.2 ∙ ap (λ (t : List ℕ). decimal resp.0.0 ++ 44 ∷ t) (last.2 ∙ ap (λ (t : List ℕ). bit_text last.0.0 ++ 44 ∷ t) end.1))),
     )
 
-read_data_complete : (bus : ℕ) → bus ≤ 128 → (beat : RawR) → IsTraceReadData bus beat → read_data_of bus (read_data_text bus beat) ≡ Some beat
-unfolding read_data_of read_data_text
+read_data_complete : (bus : ℕ) → bus ≤ 128 → (beat : RawR) → IsTraceReadData bus beat → read_data_in bus (read_data_text bus beat) ≡ Some beat
+unfolding read_data_in read_data_text
 read_data_complete bus within beat fits =
     let resp : beat.resp < 4 = omega (arith, fits.resp) in
     let after_resp : List ℕ = bit_text beat.last ++ 44 ∷ tag_text beat.tag in
     let after_lanes : List ℕ = decimal beat.resp ++ 44 ∷ after_resp in
     rw ((decimal_form 44 (2 ^ 32) (lit≤ tt) (lit≤ tt)).complete beat.id (lanes_text bus beat.lanes ++ 44 ∷ after_lanes) fits.id, (lanes_form bus within).complete beat.lanes after_lanes fits.lanes, (decimal_form 44 4 (lit≤ tt) (lit≤ tt)).complete beat.resp after_resp resp, bit_form.complete beat.last (tag_text beat.tag) tt, tag_form.complete beat.tag fits.tag) refl
 
-pub read_data_form : (bus : ℕ) → bus ≤ 128 → IsExact (read_data_of bus) (read_data_text bus) (IsTraceReadData bus)
+pub read_data_form : (bus : ℕ) → bus ≤ 128 → IsExact (read_data_in bus) (read_data_text bus) (IsTraceReadData bus)
 read_data_form bus within = record { sound = read_data_sound bus within; complete = read_data_complete bus within }
 
 -- ---- channels
 
-marked_parts : (word : List ℕ) (found : Bool × List ℕ) → marked word ≡ Some found → word ≡ mark found.0 ∷ found.1
+marked_parts : (word : List ℕ) (found : Bool × List ℕ) → mark_before word ≡ Some found → word ≡ mark found.0 ∷ found.1
 marked_parts [] found = λ e. absurd cc
 marked_parts (byte ∷ rest) found = by (eqb byte 43) (eqb byte 61) refl refl
   where
@@ -225,32 +225,32 @@ module _ {B : Type 0} (read_beat : List ℕ → Option B) (beat_text : B → Lis
   abbrev IsOffered : Option (Seen B) → Type 0
   IsOffered offered = IfSome offered (λ (seen : Seen B). Fits seen.beat)
 
-  channel_sound : (word : List ℕ) (offered : Option (Seen B)) → channel_of read_beat word ≡ Some offered → IsOffered offered × (word ≡ channel_text beat_text offered)
+  channel_sound : (word : List ℕ) (offered : Option (Seen B)) → channel_in read_beat word ≡ Some offered → IsOffered offered × (word ≡ channel_text beat_text offered)
   channel_sound word offered = by (bytes_eq word (codes "-")) refl
     where
-      by : (b : Bool) → bytes_eq word (codes "-") ≡ b → cond b (Some None) (marked word >>= λ mark. read_beat mark.1 >>= λ beat. Some (Some (record { beat = beat; taken = mark.0 }))) ≡ Some offered → IsOffered offered × (word ≡ channel_text beat_text offered)
+      by : (b : Bool) → bytes_eq word (codes "-") ≡ b → cond b (Some None) (mark_before word >>= λ mark. read_beat mark.1 >>= λ beat. Some (Some (record { beat = beat; taken = mark.0 }))) ≡ Some offered → IsOffered offered × (word ≡ channel_text beat_text offered)
       by true p e = subst (λ (o : Option (Seen B)). IsOffered o × (word ≡ channel_text beat_text o)) (some_is None offered e) (tt, (bytes_eq-Decides word (codes "-")).0 p)
       by false p e =
-          let m = bind_some (marked word) _ offered e in
+          let m = bind_some (mark_before word) _ offered e in
           let b = bind_some (read_beat m.0.1) _ offered m.2 in
           let s = exact.sound m.0.1 b.0 b.1 in
           let made : Seen B = record { beat = b.0; taken = m.0.0 } in
           subst (λ (o : Option (Seen B)). IsOffered o × (word ≡ channel_text beat_text o)) (some_is (Some made) offered b.2) (s.0, marked_parts word m.0 m.1 ∙ ap (λ (t : List ℕ). mark m.0.0 ∷ t) s.1)
 
-  seen_complete : (taken : Bool) (beat : B) → Fits beat → channel_of read_beat (mark taken ∷ beat_text beat) ≡ Some (Some (record { beat = beat; taken = taken }))
+  seen_complete : (taken : Bool) (beat : B) → Fits beat → channel_in read_beat (mark taken ∷ beat_text beat) ≡ Some (Some (record { beat = beat; taken = taken }))
   seen_complete true beat fits = rw (exact.complete beat fits) refl
   seen_complete false beat fits = rw (exact.complete beat fits) refl
 
-  channel_complete : (offered : Option (Seen B)) → IsOffered offered → channel_of read_beat (channel_text beat_text offered) ≡ Some offered
+  channel_complete : (offered : Option (Seen B)) → IsOffered offered → channel_in read_beat (channel_text beat_text offered) ≡ Some offered
   channel_complete None fits = refl
   channel_complete (Some seen) fits = seen_complete seen.taken seen.beat fits
 
-  pub channel_form : IsExact (channel_of read_beat) (channel_text beat_text) (λ offered. IfSome offered (λ (seen : Seen B). Fits seen.beat))
+  pub channel_form : IsExact (channel_in read_beat) (channel_text beat_text) (λ offered. IfSome offered (λ (seen : Seen B). Fits seen.beat))
   channel_form = record { sound = channel_sound; complete = channel_complete }
 
   pub channel_before_form : ((beat : B) → Fits beat → Avoids 32 (beat_text beat)) → IsExactBefore (channel_before read_beat) (write_before 32 (channel_text beat_text)) (λ offered. IfSome offered (λ (seen : Seen B). Fits seen.beat))
   unfolding channel_before
-  channel_before_form avoids = before_is_exact (channel_of read_beat) (channel_text beat_text) (λ offered. IfSome offered (λ (seen : Seen B). Fits seen.beat)) channel_form 32 none
+  channel_before_form avoids = before_is_exact (channel_in read_beat) (channel_text beat_text) (λ offered. IfSome offered (λ (seen : Seen B). Fits seen.beat)) channel_form 32 none
     where
       marked_avoids : (taken : Bool) (text : List ℕ) → Avoids 32 text → Avoids 32 (mark taken ∷ text)
       marked_avoids true text h = (refl, h)

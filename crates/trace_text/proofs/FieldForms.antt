@@ -16,7 +16,7 @@ use Rattle.axi_beats.specs.declared.beat.Tag.{Tag}
 use Rattle.axi_history.specs.declared.port.PortKind.{PortKind}
 use Rattle.trace_text.specs.Form.{bit_text, kind_text, tag_text}
 use Rattle.trace_text.specs.Ranges.{IsTraceTag, is_port_kind}
-use Rattle.trace_text.specs.Reading.{bit_before, bit_of, decimal_before, decimal_below, hexadecimal_before, hexadecimal_below, kind_before, lite_of, round_before, tag_of}
+use Rattle.trace_text.specs.Reading.{bit_before, bit_in, decimal_before, decimal_below, hexadecimal_before, hexadecimal_below, kind_before, lite_in, round_before, tag_in}
 use Rattle.trace_text.proofs.LanesLaws.{bus_within}
 
 -- ---- one step of reading
@@ -66,21 +66,21 @@ one_of_two word zero one bit = by (bytes_eq word zero) (bytes_eq word one) refl 
     by false true p q false e = absurd cc
     by false false p q bit e = absurd cc
 
-bit_complete : (bit : Bool) → bit_of (bit_text bit) ≡ Some bit
-unfolding bit_of
+bit_complete : (bit : Bool) → bit_in (bit_text bit) ≡ Some bit
+unfolding bit_in
 bit_complete true = refl
 bit_complete false = refl
 
-bit_sound : (word : List ℕ) (bit : Bool) → bit_of word ≡ Some bit → word ≡ bit_text bit
-unfolding bit_of
+bit_sound : (word : List ℕ) (bit : Bool) → bit_in word ≡ Some bit → word ≡ bit_text bit
+unfolding bit_in
 bit_sound word bit e = one_of_two word (codes "0") (codes "1") bit e
 
-bit_is_exact : IsExact bit_of bit_text (λ bit. Unit {0})
+bit_is_exact : IsExact bit_in bit_text (λ bit. Unit {0})
 bit_is_exact = record { sound = λ word bit e. (tt, bit_sound word bit e); complete = λ bit fits. bit_complete bit }
 
 pub bit_form : IsExactBefore (bit_before 44) (write_before 44 bit_text) (λ bit. Unit {0})
 unfolding bit_before
-bit_form = before_is_exact bit_of bit_text (λ bit. Unit {0}) bit_is_exact 44 (λ bit fits. avoids bit)
+bit_form = before_is_exact bit_in bit_text (λ bit. Unit {0}) bit_is_exact 44 (λ bit fits. avoids bit)
   where
     avoids : (bit : Bool) → Avoids 44 (bit_text bit)
     avoids true = (refl, tt)
@@ -90,20 +90,20 @@ pub Avoids-bit : (bit : Bool) → Avoids 32 (bit_text bit)
 Avoids-bit true = (refl, tt)
 Avoids-bit false = (refl, tt)
 
-lite_complete : (lite : Bool) → lite_of (kind_text lite) ≡ Some lite
-unfolding lite_of
+lite_complete : (lite : Bool) → lite_in (kind_text lite) ≡ Some lite
+unfolding lite_in
 lite_complete true = refl
 lite_complete false = refl
 
-lite_sound : (word : List ℕ) (lite : Bool) → lite_of word ≡ Some lite → word ≡ kind_text lite
-unfolding lite_of
+lite_sound : (word : List ℕ) (lite : Bool) → lite_in word ≡ Some lite → word ≡ kind_text lite
+unfolding lite_in
 lite_sound word lite e = one_of_two word (codes "axi") (codes "lite") lite e
 
-lite_is_exact : IsExact lite_of kind_text (λ lite. Unit {0})
+lite_is_exact : IsExact lite_in kind_text (λ lite. Unit {0})
 lite_is_exact = record { sound = λ word lite e. (tt, lite_sound word lite e); complete = λ lite fits. lite_complete lite }
 
-lite_form : IsExactBefore (read_before 32 lite_of) (write_before 32 kind_text) (λ lite. Unit {0})
-lite_form = before_is_exact lite_of kind_text (λ lite. Unit {0}) lite_is_exact 32 (λ lite fits. avoids lite)
+lite_form : IsExactBefore (read_before 32 lite_in) (write_before 32 kind_text) (λ lite. Unit {0})
+lite_form = before_is_exact lite_in kind_text (λ lite. Unit {0}) lite_is_exact 32 (λ lite fits. avoids lite)
   where
     avoids : (lite : Bool) → Avoids 32 (kind_text lite)
     avoids true = (refl, (refl, (refl, (refl, tt))))
@@ -162,8 +162,8 @@ round_form = record { sound = round_sound; complete = round_complete }
 
 -- ---- tags
 
-tag_sound : (text : List ℕ) (tag : Tag) → tag_of text ≡ Some tag → IsTraceTag tag × (text ≡ tag_text tag)
-unfolding tag_of tag_text
+tag_sound : (text : List ℕ) (tag : Tag) → tag_in text ≡ Some tag → IsTraceTag tag × (text ≡ tag_text tag)
+unfolding tag_in tag_text
 tag_sound text tag e =
     let txn = step (decimal_form 58 (2 ^ 32) (lit≤ tt) (lit≤ tt)) text _ tag e in
     let low = step (decimal_form 58 128 (lit≤ tt) (lit≤ tt)) txn.0.1 _ tag txn.3 in
@@ -175,14 +175,14 @@ tag_sound text tag e =
       txn.2 ∙ ap (λ (t : List ℕ). decimal txn.0.0 ++ 58 ∷ t) (low.2 ∙ ap (λ (t : List ℕ). decimal low.0.0 ++ 58 ∷ t) last.1),
     )
 
-tag_complete : (tag : Tag) → IsTraceTag tag → tag_of (tag_text tag) ≡ Some tag
-unfolding tag_of tag_text
+tag_complete : (tag : Tag) → IsTraceTag tag → tag_in (tag_text tag) ≡ Some tag
+unfolding tag_in tag_text
 tag_complete tag fits =
     let low : tag.low < 128 = omega (arith, fits.low) in
     let high : tag.high < 128 = omega (arith, fits.high) in
     rw ((decimal_form 58 (2 ^ 32) (lit≤ tt) (lit≤ tt)).complete tag.txn (decimal tag.low ++ 58 ∷ decimal tag.high) fits.txn, (decimal_form 58 128 (lit≤ tt) (lit≤ tt)).complete tag.low (decimal tag.high) low, (decimal_is_exact 128 (lit≤ tt)).complete tag.high high) refl
 
-pub tag_form : IsExact tag_of tag_text IsTraceTag
+pub tag_form : IsExact tag_in tag_text IsTraceTag
 tag_form = record { sound = tag_sound; complete = tag_complete }
 
 pub Avoids-tag : (tag : Tag) → IsTraceTag tag → Avoids 32 (tag_text tag)

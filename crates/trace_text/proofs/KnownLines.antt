@@ -10,7 +10,7 @@ use Rattle.axi_history.specs.declared.port.RawAddr.{RawAddr}
 use Rattle.axi_history.specs.declared.port.Seen.{Seen}
 use Rattle.axi_history.specs.declared.port.PortRound.{PortRound}
 use Rattle.trace_text.specs.Form.{address_text, line_text, read_data_text, response_text, tag_text, write_data_text}
-use Rattle.trace_text.specs.Reading.{bit_before, bit_of, channel_before, decimal_before, hexadecimal_before, kind_before, lanes_before, lanes_of, line_of, lite_of, round_before, tag_of, write_data_of}
+use Rattle.trace_text.specs.Reading.{bit_before, bit_in, channel_before, decimal_before, hexadecimal_before, kind_before, lanes_before, lanes_in, trace_round_of, lite_in, round_before, tag_in, write_data_in}
 
 abbrev tag : ℕ → ℕ → ℕ → Tag
 tag txn low high = record { txn = txn; low = low; high = high }
@@ -93,22 +93,22 @@ left_head : line_text (record (nothing 1 0 false 4) { b = Some (record { beat = 
 unfolding line_text response_text tag_text digits
 left_head = refl
 
-read_again : line_of (codes "3 0 axi 4 - +11223344,f,1,1:0:0 - - -") ≡ Some write_data
-unfolding line_of round_before kind_before lite_of channel_before write_data_of tag_of bit_before bit_of lanes_before lanes_of decimal_before hexadecimal_before read_plain_decimal read_plain_hexadecimal number_in read_pairs read_pair read_glyph
+read_again : trace_round_of (codes "3 0 axi 4 - +11223344,f,1,1:0:0 - - -") ≡ Some write_data
+unfolding trace_round_of round_before kind_before lite_in channel_before write_data_in tag_in bit_before bit_in lanes_before lanes_in decimal_before hexadecimal_before read_plain_decimal read_plain_hexadecimal number_in read_pairs read_pair read_glyph
 read_again = refl
 
-two_spaces : line_of (codes "3  0 axi 4 - - - - -") ≡ None
-unfolding line_of round_before kind_before lite_of channel_before decimal_before read_plain_decimal number_in
+two_spaces : trace_round_of (codes "3  0 axi 4 - - - - -") ≡ None
+unfolding trace_round_of round_before kind_before lite_in channel_before decimal_before read_plain_decimal number_in
 two_spaces = refl
 
-needless_zero : line_of (codes "03 0 axi 4 - - - - -") ≡ None
-unfolding line_of round_before kind_before lite_of channel_before decimal_before read_plain_decimal number_in
+needless_zero : trace_round_of (codes "03 0 axi 4 - - - - -") ≡ None
+unfolding trace_round_of round_before kind_before lite_in channel_before decimal_before read_plain_decimal number_in
 needless_zero = refl
 
-round_zero : line_of (codes "0 0 axi 4 - - - - -") ≡ None
-unfolding line_of round_before kind_before lite_of channel_before decimal_before read_plain_decimal number_in
+round_zero : trace_round_of (codes "0 0 axi 4 - - - - -") ≡ None
+unfolding trace_round_of round_before kind_before lite_in channel_before decimal_before read_plain_decimal number_in
 round_zero = refl
 
-wide_lite_bus : line_of (codes "1 0 lite 16 - - - - -") ≡ None
-unfolding line_of round_before kind_before lite_of channel_before decimal_before read_plain_decimal number_in
+wide_lite_bus : trace_round_of (codes "1 0 lite 16 - - - - -") ≡ None
+unfolding trace_round_of round_before kind_before lite_in channel_before decimal_before read_plain_decimal number_in
 wide_lite_bus = refl

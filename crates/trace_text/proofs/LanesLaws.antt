@@ -8,7 +8,7 @@ use Rattle.plain_text.specs.Spelling.{read_pair, read_pairs}
 use Rattle.plain_text.proofs.FieldLaws.{bind_some, some_is}
 use Rattle.std.proofs.lemmas.Bool.Decides.{nat_tests}
 use Rattle.axi_beats.specs.Bus.{IsBusWidth}
-use Rattle.trace_text.specs.Reading.{lanes_of}
+use Rattle.trace_text.specs.Reading.{lanes_in}
 
 -- two digits for each byte
 length-read_pairs : (text bytes : List ℕ) → read_pairs text ≡ Some bytes → length text ≡ 2 * length bytes
@@ -21,17 +21,17 @@ length-read_pairs (high ∷ low ∷ rest) bytes e =
     let more = length-read_pairs rest r.0 r.1 in
     rw (← some_is (b.0 ∷ r.0) bytes r.2) (omega (arith, more))
 
-pub lanes_of-other_length : (bus : ℕ) (word : List ℕ) → (length word ≡ 2 * bus → ⊥) → lanes_of bus word ≡ None
-unfolding lanes_of
-lanes_of-other_length bus word other = by (read_pairs word) refl
+pub lanes_in-other_length : (bus : ℕ) (word : List ℕ) → (length word ≡ 2 * bus → ⊥) → lanes_in bus word ≡ None
+unfolding lanes_in
+lanes_in-other_length bus word other = by (read_pairs word) refl
   where
     by : (o : Option (List ℕ)) → read_pairs word ≡ o → (o >>= λ bytes. cond (eqb (length bytes) bus) (Some (bytes ++ replicate (128 - bus) 0)) None) ≡ None
     by None e = refl
     by (Some bytes) e = let is = length-read_pairs word bytes e in rw (ne_eqb (length bytes) bus (λ same. other (is ∙ ap (λ (n : ℕ). 2 * n) same))) refl
 
-pub lanes_of-unread : (bus : ℕ) (word : List ℕ) → read_pairs word ≡ None → lanes_of bus word ≡ None
-unfolding lanes_of
-lanes_of-unread bus word e = rw e refl
+pub lanes_in-unread : (bus : ℕ) (word : List ℕ) → read_pairs word ≡ None → lanes_in bus word ≡ None
+unfolding lanes_in
+lanes_in-unread bus word e = rw e refl
 
 -- the digits of one lane more
 pairs_at : (word : List ℕ) (lane : ℕ) → 2 * lane + 1 < length word → drop (2 * lane) word ≡ get_or word (2 * lane) 0 ∷ get_or word (2 * lane + 1) 0 ∷ drop (2 * (lane + 1)) word
@@ -83,12 +83,12 @@ IsReading-more word lane lanes byte h below inside e =
       rest = h.rest ∙ ap (λ (t : List ℕ). option_map (λ bytes. take lane lanes ++ bytes) (read_pairs t)) (pairs_at word lane inside) ∙ pairs_read (get_or word (2 * lane) 0) (get_or word (2 * lane + 1) 0) byte (drop (2 * (lane + 1)) word) (take lane lanes) e ∙ ap (λ (t : List ℕ). option_map (λ bytes. t ++ bytes) (read_pairs (drop (2 * (lane + 1)) word))) (sym (take_more_set lanes lane byte at));
     }
 
-pub IsReading-fails : (word : List ℕ) (lane bus : ℕ) (lanes : List ℕ) → IsReading word lane lanes → 2 * lane + 1 < length word → read_pair (get_or word (2 * lane) 0) (get_or word (2 * lane + 1) 0) ≡ None → lanes_of bus word ≡ None
+pub IsReading-fails : (word : List ℕ) (lane bus : ℕ) (lanes : List ℕ) → IsReading word lane lanes → 2 * lane + 1 < length word → read_pair (get_or word (2 * lane) 0) (get_or word (2 * lane + 1) 0) ≡ None → lanes_in bus word ≡ None
 IsReading-fails word lane bus lanes h inside e =
-    lanes_of-unread bus word (h.rest ∙ ap (λ (t : List ℕ). option_map (λ bytes. take lane lanes ++ bytes) (read_pairs t)) (pairs_at word lane inside) ∙ pairs_unread (get_or word (2 * lane) 0) (get_or word (2 * lane + 1) 0) (drop (2 * (lane + 1)) word) (take lane lanes) e)
+    lanes_in-unread bus word (h.rest ∙ ap (λ (t : List ℕ). option_map (λ bytes. take lane lanes ++ bytes) (read_pairs t)) (pairs_at word lane inside) ∙ pairs_unread (get_or word (2 * lane) 0) (get_or word (2 * lane + 1) 0) (drop (2 * (lane + 1)) word) (take lane lanes) e)
 
-pub IsReading-ends : (word : List ℕ) (bus : ℕ) (lanes : List ℕ) → IsReading word bus lanes → bus ≤ 128 → length word ≡ 2 * bus → lanes_of bus word ≡ Some lanes
-unfolding lanes_of read_pairs
+pub IsReading-ends : (word : List ℕ) (bus : ℕ) (lanes : List ℕ) → IsReading word bus lanes → bus ≤ 128 → length word ≡ 2 * bus → lanes_in bus word ≡ Some lanes
+unfolding lanes_in read_pairs
 IsReading-ends word bus lanes h within long =
     let ended : drop (2 * bus) word ≡ [] = drop_all (2 * bus) word (omega arith) in
     let front : take bus lanes ++ [] ≡ take bus lanes = append-nil (take bus lanes) in

@@ -14,28 +14,28 @@ use Rattle.trace_text.specs.Form.{address_text, channel_text, line_text, read_da
 use Rattle.trace_text.specs.Line.{Line}
 use Rattle.trace_text.specs.LineLaws.{LinesAreUnique}
 use Rattle.trace_text.specs.Ranges.{IsTraceAddress, IsTraceReadData, IsTraceResponse, IsTraceRound, IsTraceWriteData}
-use Rattle.trace_text.specs.Reading.{address_of, channel_before, channel_of, line_of, read_data_of, response_of, write_data_of}
+use Rattle.trace_text.specs.Reading.{address_in, channel_before, channel_in, trace_round_of, read_data_in, response_in, write_data_in}
 use Rattle.trace_text.proofs.FieldForms.{step, decimal_form, kind_form, port_bus_within, round_form, write_kind}
 use Rattle.trace_text.proofs.BeatForms.{address_form, write_data_form, response_form, read_data_form, channel_form, channel_before_form, Avoids-address, Avoids-write_data, Avoids-response}
 
 -- ---- the channels
 
-addresses : IsExactBefore (channel_before address_of) (write_before 32 (channel_text address_text)) (λ offered. IfSome offered (λ (seen : Seen RawAddr). IsTraceAddress seen.beat))
-addresses = channel_before_form address_of address_text IsTraceAddress address_form Avoids-address
+addresses : IsExactBefore (channel_before address_in) (write_before 32 (channel_text address_text)) (λ offered. IfSome offered (λ (seen : Seen RawAddr). IsTraceAddress seen.beat))
+addresses = channel_before_form address_in address_text IsTraceAddress address_form Avoids-address
 
-write_data : (bus : ℕ) → bus ≤ 128 → IsExactBefore (channel_before (write_data_of bus)) (write_before 32 (channel_text (write_data_text bus))) (λ offered. IfSome offered (λ (seen : Seen WBeat). IsTraceWriteData bus seen.beat))
-write_data bus within = channel_before_form (write_data_of bus) (write_data_text bus) (IsTraceWriteData bus) (write_data_form bus within) (Avoids-write_data bus within)
+write_data : (bus : ℕ) → bus ≤ 128 → IsExactBefore (channel_before (write_data_in bus)) (write_before 32 (channel_text (write_data_text bus))) (λ offered. IfSome offered (λ (seen : Seen WBeat). IsTraceWriteData bus seen.beat))
+write_data bus within = channel_before_form (write_data_in bus) (write_data_text bus) (IsTraceWriteData bus) (write_data_form bus within) (Avoids-write_data bus within)
 
-responses : IsExactBefore (channel_before response_of) (write_before 32 (channel_text response_text)) (λ offered. IfSome offered (λ (seen : Seen RawB). IsTraceResponse seen.beat))
-responses = channel_before_form response_of response_text IsTraceResponse response_form Avoids-response
+responses : IsExactBefore (channel_before response_in) (write_before 32 (channel_text response_text)) (λ offered. IfSome offered (λ (seen : Seen RawB). IsTraceResponse seen.beat))
+responses = channel_before_form response_in response_text IsTraceResponse response_form Avoids-response
 
-read_data : (bus : ℕ) → bus ≤ 128 → IsExact (channel_of (read_data_of bus)) (channel_text (read_data_text bus)) (λ offered. IfSome offered (λ (seen : Seen RawR). IsTraceReadData bus seen.beat))
-read_data bus within = channel_form (read_data_of bus) (read_data_text bus) (IsTraceReadData bus) (read_data_form bus within)
+read_data : (bus : ℕ) → bus ≤ 128 → IsExact (channel_in (read_data_in bus)) (channel_text (read_data_text bus)) (λ offered. IfSome offered (λ (seen : Seen RawR). IsTraceReadData bus seen.beat))
+read_data bus within = channel_form (read_data_in bus) (read_data_text bus) (IsTraceReadData bus) (read_data_form bus within)
 
 -- ---- the line
 
-pub line_sound : (text : List ℕ) (r : PortRound) → line_of text ≡ Some r → Line r text
-unfolding line_of line_text
+pub line_sound : (text : List ℕ) (r : PortRound) → trace_round_of text ≡ Some r → Line r text
+unfolding trace_round_of line_text
 line_sound text r e =
     let round = step round_form text _ r e in
     let link = step (decimal_form 32 4096 (lit≤ tt) (lit≤ tt)) round.0.1 _ r round.3 in
@@ -45,7 +45,7 @@ line_sound text r e =
     let w = step (write_data kind.0.0.bus within) aw.0.1 _ r aw.3 in
     let b = step responses w.0.1 _ r w.3 in
     let ar = step addresses b.0.1 _ r b.3 in
-    let last = bind_some (channel_of (read_data_of kind.0.0.bus) ar.0.1) _ r ar.3 in
+    let last = bind_some (channel_in (read_data_in kind.0.0.bus) ar.0.1) _ r ar.3 in
     let end = (read_data kind.0.0.bus within).sound ar.0.1 last.0 last.1 in
     let made : PortRound = record { round = round.0.0; link = link.0.0; kind = kind.0.0; aw = aw.0.0; w = w.0.0; b = b.0.0; ar = ar.0.0; r = last.0 } in
     let whole : text ≡ line_text made =
@@ -54,8 +54,8 @@ line_sound text r e =
     subst (λ (x : PortRound). Line x text) {x = made} (some_is made r last.2)
     (record { ranges = record { first_round = round.1.0; last_round = round.1.1; link = link.1; kind = kind.1; aw = aw.1; w = w.1; b = b.1; ar = ar.1; r = end.0 }; text_is = whole })
 
-line_complete : (r : PortRound) → IsTraceRound r → line_of (line_text r) ≡ Some r
-unfolding line_of line_text
+line_complete : (r : PortRound) → IsTraceRound r → trace_round_of (line_text r) ≡ Some r
+unfolding trace_round_of line_text
 line_complete r fits =
     let within : r.kind.bus ≤ 128 = port_bus_within r.kind fits.kind in
     let after_b : List ℕ = channel_text address_text r.ar ++ 32 ∷ channel_text (read_data_text r.kind.bus) r.r in
@@ -65,12 +65,12 @@ line_complete r fits =
     rw (round_form.complete r.round (decimal r.link ++ 32 ∷ write_kind r.kind after_kind) (fits.first_round, fits.last_round), (decimal_form 32 4096 (lit≤ tt) (lit≤ tt)).complete r.link (write_kind r.kind after_kind) fits.link, kind_form.complete r.kind after_kind fits.kind, addresses.complete r.aw after_aw fits.aw, (write_data r.kind.bus within).complete r.w after_w fits.w, responses.complete r.b after_b fits.b, addresses.complete r.ar (channel_text (read_data_text r.kind.bus) r.r) fits.ar, (read_data r.kind.bus within).complete r.r fits.r) refl
 
 -- the trace lines are exactly the texts that are read
-pub line_is_exact : IsExact line_of line_text IsTraceRound
+pub line_is_exact : IsExact trace_round_of line_text IsTraceRound
 line_is_exact = record { sound = λ text r e. (let s = line_sound text r e in (s.ranges, s.text_is)); complete = line_complete }
 
 -- the line of a round is read as that round
-pub line_of-line : (r : PortRound) (text : List ℕ) → Line r text → line_of text ≡ Some r
-line_of-line r text line = ap line_of line.text_is ∙ line_complete r line.ranges
+pub trace_round_of-line : (r : PortRound) (text : List ℕ) → Line r text → trace_round_of text ≡ Some r
+trace_round_of-line r text line = ap trace_round_of line.text_is ∙ line_complete r line.ranges
 
 pub lines_are_unique : LinesAreUnique
-lines_are_unique r s text p q = some_is r s (sym (line_of-line r text p) ∙ line_of-line s text q)
+lines_are_unique r s text p q = some_is r s (sym (trace_round_of-line r text p) ∙ trace_round_of-line s text q)

@@ -5,7 +5,7 @@ use Rattle.axi_history.specs.declared.port.PortRound.{PortRound}
 use Rattle.trace_text.specs.Form.{line_text}
 use Rattle.trace_text.specs.Line.{Line}
 use Rattle.trace_text.specs.Ranges.{IsTraceRound}
-use Rattle.trace_text.specs.Reading.{line_of}
+use Rattle.trace_text.specs.Reading.{trace_round_of}
 
 -- a text is the trace line of at most one round
 abbrev pub LinesAreUnique : Type 0
@@ -14,4 +14,4 @@ LinesAreUnique = (r s : PortRound) (text : List ℕ) → Line r text → Line s 
 -- a round within the ranges is read from its own text, and a text that is read is the text of what
 -- was read, which is within the ranges
 abbrev pub LinesAreExact : Type 0
-LinesAreExact = IsExact line_of line_text IsTraceRound
+LinesAreExact = IsExact trace_round_of line_text IsTraceRound

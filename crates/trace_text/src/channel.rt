@@ -3,7 +3,7 @@
 ghost use Rattle.std.specs.Prelude.{◌≡◌, ◌+◌, ◌≤◌, ◌++◌, ◌∷◌, [], length, option_map};
 ghost use Rattle.axi_beats.specs.Bus.{IsBusWidth};
 ghost use Rattle.trace_text.specs.Form.{channel_text, mark};
-ghost use Rattle.trace_text.specs.Reading.{channel_of, marked};
+ghost use Rattle.trace_text.specs.Reading.{channel_in, mark_before};
 
 use crate::trace_beat::TraceBeat;
 use axi_history::Seen;
@@ -12,14 +12,14 @@ use plain_text::words::is_word;
 
 // What a channel of a port with a bus of so many bytes offers: nothing, which is `-`, or a beat behind
 // its mark.
-pub(crate) fn channel_of<B: TraceBeat>(word: &[u8], bus: u8) -> Option<Option<Seen<B>>>
+pub(crate) fn channel_in<B: TraceBeat>(word: &[u8], bus: u8) -> Option<Option<Seen<B>>>
     requires { IsBusWidth bus }
-    ensures { result ≡ channel_of (B.read_of bus) word.now }
+    ensures { result ≡ channel_in (B.read_of bus) word.now }
 {
     if is_word(word, b"-") {
         return Some(None);
     }
-    let (taken, fields) = marked(word)?;
+    let (taken, fields) = mark_before(word)?;
     let beat = B::read(fields, bus)?;
     Some(Some(Seen { beat, taken }))
 }
@@ -41,8 +41,8 @@ pub(crate) fn push_channel<B: TraceBeat>(line: &mut LineBuffer, offered: &Option
 }
 
 // Whether the beat behind the mark is taken, and the beat's fields.
-fn marked(word: &[u8]) -> Option<(bool, &[u8])>
-    ensures { option_map (λ mark. (mark.0, mark.1.now)) result ≡ marked word.now }
+fn mark_before(word: &[u8]) -> Option<(bool, &[u8])>
+    ensures { option_map (λ mark. (mark.0, mark.1.now)) result ≡ mark_before word.now }
 {
     match word {
         [b'+', fields @ ..] => Some((true, fields)),

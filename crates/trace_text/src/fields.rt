@@ -5,7 +5,7 @@ ghost use Rattle.std.specs.Fmt.{decimal};
 ghost use Rattle.plain_text.specs.Printing.{hexadecimal};
 ghost use Rattle.axi_beats.specs.Bus.{IsBusWidth};
 ghost use Rattle.trace_text.specs.Form.{bit_text, lanes_text, tag_text};
-ghost use Rattle.trace_text.specs.Reading.{bit_before, bit_of, decimal_before, hexadecimal_before, lanes_of, tag_of};
+ghost use Rattle.trace_text.specs.Reading.{bit_before, bit_in, decimal_before, hexadecimal_before, lanes_in, tag_in};
 
 use axi_beats::{Lanes, Tag};
 use plain_text::fields::field_before;
@@ -77,13 +77,13 @@ pub(crate) fn bit_before(text: &[u8], end: u8) -> Option<(bool, &[u8])>
     ensures { option_map (λ found. (found.0, found.1.now)) result ≡ bit_before end text.now }
 {
     let (word, rest) = field_before(text, end)?;
-    Some((bit_of(word)?, rest))
+    Some((bit_in(word)?, rest))
 }
 
 // The bit that `0` or `1` is.
-#[tactic(auto, unfolding(crate::specs::Reading::bit_of))]
-fn bit_of(word: &[u8]) -> Option<bool>
-    ensures { result ≡ bit_of word.now }
+#[tactic(auto, unfolding(crate::specs::Reading::bit_in))]
+fn bit_in(word: &[u8]) -> Option<bool>
+    ensures { result ≡ bit_in word.now }
 {
     if is_word(word, b"0") {
         Some(false)
@@ -109,9 +109,9 @@ pub(crate) fn push_bit_before(line: &mut LineBuffer, bit: bool, end: u8)
 }
 
 // The lanes that two digits for each lane of the bus give, from lane 0 on; the lanes above it are 0.
-pub(crate) fn lanes_of(word: &[u8], bus: u8) -> Option<Lanes>
+pub(crate) fn lanes_in(word: &[u8], bus: u8) -> Option<Lanes>
     requires { IsBusWidth bus }
-    ensures { result ≡ lanes_of bus word.now }
+    ensures { result ≡ lanes_in bus word.now }
 {
     if word.len() != 2 * usize::from(bus) {
         return None;
@@ -139,9 +139,9 @@ pub(crate) fn push_lanes_before(line: &mut LineBuffer, lanes: &Lanes, bus: u8, e
 }
 
 // The number of the transaction, and the lowest and the highest lane that is wanted.
-#[tactic(auto, unfolding(crate::specs::Reading::tag_of))]
-pub(crate) fn tag_of(text: &[u8]) -> Option<Tag>
-    ensures { result ≡ tag_of text.now }
+#[tactic(auto, unfolding(crate::specs::Reading::tag_in))]
+pub(crate) fn tag_in(text: &[u8]) -> Option<Tag>
+    ensures { result ≡ tag_in text.now }
 {
     let (txn, rest) = decimal_before(text, b':', 1 << 32)?;
     let (low, rest) = decimal_before(rest, b':', 128)?;

@@ -5,9 +5,9 @@ ghost use Rattle.std.specs.Option.{ok_or};
 ghost use Rattle.axi_beats.specs.Bus.{IsBusWidth};
 ghost use Rattle.trace_text.specs.Line.{Line};
 ghost use Rattle.trace_text.specs.Ranges.{is_port_kind};
-ghost use Rattle.trace_text.specs.Reading.{kind_before, line_of, lite_of, round_before};
+ghost use Rattle.trace_text.specs.Reading.{kind_before, trace_round_of, lite_in, round_before};
 
-use crate::channel::channel_of;
+use crate::channel::channel_in;
 use crate::fields::decimal_before;
 use axi_beats::is_bus_width;
 use axi_history::{PortKind, PortRound};
@@ -37,31 +37,31 @@ pub fn read_trace_line(line: &str) -> Result<PortRound, LineFault>
     // What is refused is no round's trace line.
     ensures refused { IsErr result → (r : PortRound) → Line r line.now → ⊥ }
     // The answer as one definition.
-    ensures exact { result ≡ ok_or (line_of line.now) LineFault.BadTraceLine }
+    ensures exact { result ≡ ok_or (trace_round_of line.now) LineFault.BadTraceLine }
 {
-    match line_of(line.as_bytes()) {
+    match trace_round_of(line.as_bytes()) {
         Some(round) => Ok(round),
         None => Err(LineFault::BadTraceLine),
     }
 }
 
 // The round whose trace line the text is, if there is one.
-#[tactic(auto, unfolding(crate::specs::Reading::line_of, crate::specs::Reading::channel_before))]
-fn line_of(text: &[u8]) -> Option<PortRound>
-    ensures { result ≡ line_of text.now }
+#[tactic(auto, unfolding(crate::specs::Reading::trace_round_of, crate::specs::Reading::channel_before))]
+fn trace_round_of(text: &[u8]) -> Option<PortRound>
+    ensures { result ≡ trace_round_of text.now }
 {
     let (round, rest) = round_before(text)?;
     let (link, rest) = decimal_before(rest, b' ', 4096)?;
     let (kind, rest) = kind_before(rest)?;
     let (word, rest) = field_before(rest, b' ')?;
-    let aw = channel_of(word, kind.bus)?;
+    let aw = channel_in(word, kind.bus)?;
     let (word, rest) = field_before(rest, b' ')?;
-    let w = channel_of(word, kind.bus)?;
+    let w = channel_in(word, kind.bus)?;
     let (word, rest) = field_before(rest, b' ')?;
-    let b = channel_of(word, kind.bus)?;
+    let b = channel_in(word, kind.bus)?;
     let (word, rest) = field_before(rest, b' ')?;
-    let ar = channel_of(word, kind.bus)?;
-    let r = channel_of(rest, kind.bus)?;
+    let ar = channel_in(word, kind.bus)?;
+    let r = channel_in(rest, kind.bus)?;
     Some(PortRound {
         round,
         link: link as u32,
@@ -93,7 +93,7 @@ fn kind_before(text: &[u8]) -> Option<(PortKind, &[u8])>
     ensures bus { IfSome result (λ found. IsBusWidth found.0.bus) }
 {
     let (word, rest) = field_before(text, b' ')?;
-    let lite = lite_of(word)?;
+    let lite = lite_in(word)?;
     let (bus, rest) = decimal_before(rest, b' ', 129)?;
     let kind = PortKind {
         lite,
@@ -107,9 +107,9 @@ fn kind_before(text: &[u8]) -> Option<(PortKind, &[u8])>
 }
 
 // Whether the port is one of AXI4-Lite: `axi` or `lite`.
-#[tactic(auto, unfolding(crate::specs::Reading::lite_of))]
-fn lite_of(word: &[u8]) -> Option<bool>
-    ensures { result ≡ lite_of word.now }
+#[tactic(auto, unfolding(crate::specs::Reading::lite_in))]
+fn lite_in(word: &[u8]) -> Option<bool>
+    ensures { result ≡ lite_in word.now }
 {
     if is_word(word, b"axi") {
         Some(false)

@@ -3,11 +3,11 @@
 ghost use Rattle.std.specs.Prelude.{◌≡◌, ℕ, ◌+◌, ◌≤◌, ◌++◌, List, Option, length};
 ghost use Rattle.axi_beats.specs.Bus.{IsBusWidth};
 ghost use Rattle.trace_text.specs.Form.{address_text, read_data_text, response_text, write_data_text};
-ghost use Rattle.trace_text.specs.Reading.{address_of, read_data_of, response_of, write_data_of};
+ghost use Rattle.trace_text.specs.Reading.{address_in, read_data_in, response_in, write_data_in};
 
 use crate::fields::{
-    bit_before, decimal_before, greatest_strobe, hexadecimal_before, lanes_of, push_bit_before,
-    push_decimal_before, push_hexadecimal_before, push_lanes_before, push_tag, tag_of,
+    bit_before, decimal_before, greatest_strobe, hexadecimal_before, lanes_in, push_bit_before,
+    push_decimal_before, push_hexadecimal_before, push_lanes_before, push_tag, tag_in,
 };
 use axi_beats::WBeat;
 use axi_history::{RawAddr, RawB, RawR};
@@ -39,7 +39,7 @@ pub(crate) trait TraceBeat: Copy {
 impl TraceBeat for RawAddr {
     ghost text_of = { λ bus beat. address_text beat };
 
-    ghost read_of = { λ bus text. address_of text };
+    ghost read_of = { λ bus text. address_in text };
 
     #[tactic(auto, unfolding(crate::specs::Form::address_text))]
     fn push(&self, line: &mut LineBuffer, _bus: u8) {
@@ -52,7 +52,7 @@ impl TraceBeat for RawAddr {
         push_tag(line, &self.tag);
     }
 
-    #[tactic(auto, unfolding(crate::specs::Reading::address_of))]
+    #[tactic(auto, unfolding(crate::specs::Reading::address_in))]
     fn read(text: &[u8], _bus: u8) -> Option<RawAddr> {
         let (id, rest) = decimal_before(text, b',', 1 << 32)?;
         let (addr, rest) = hexadecimal_before(rest, b',', (1 << 63) - 1)?;
@@ -60,7 +60,7 @@ impl TraceBeat for RawAddr {
         let (size, rest) = decimal_before(rest, b',', 8)?;
         let (burst, rest) = decimal_before(rest, b',', 4)?;
         let (lock, rest) = bit_before(rest, b',')?;
-        let tag = tag_of(rest)?;
+        let tag = tag_in(rest)?;
         Some(RawAddr {
             id: id as u32,
             addr: addr as u64,
@@ -77,7 +77,7 @@ impl TraceBeat for RawAddr {
 impl TraceBeat for WBeat {
     ghost text_of = { write_data_text };
 
-    ghost read_of = { write_data_of };
+    ghost read_of = { write_data_in };
 
     #[tactic(auto, unfolding(crate::specs::Form::write_data_text))]
     fn push(&self, line: &mut LineBuffer, bus: u8) {
@@ -87,13 +87,13 @@ impl TraceBeat for WBeat {
         push_tag(line, &self.tag);
     }
 
-    #[tactic(auto, unfolding(crate::specs::Reading::write_data_of, crate::specs::Reading::lanes_before))]
+    #[tactic(auto, unfolding(crate::specs::Reading::write_data_in, crate::specs::Reading::lanes_before))]
     fn read(text: &[u8], bus: u8) -> Option<WBeat> {
         let (word, rest) = field_before(text, b',')?;
-        let lanes = lanes_of(word, bus)?;
+        let lanes = lanes_in(word, bus)?;
         let (strobe, rest) = hexadecimal_before(rest, b',', greatest_strobe(bus))?;
         let (last, rest) = bit_before(rest, b',')?;
-        let tag = tag_of(rest)?;
+        let tag = tag_in(rest)?;
         Some(WBeat {
             lanes,
             strobe,
@@ -107,7 +107,7 @@ impl TraceBeat for WBeat {
 impl TraceBeat for RawB {
     ghost text_of = { λ bus beat. response_text beat };
 
-    ghost read_of = { λ bus text. response_of text };
+    ghost read_of = { λ bus text. response_in text };
 
     #[tactic(auto, unfolding(crate::specs::Form::response_text))]
     fn push(&self, line: &mut LineBuffer, _bus: u8) {
@@ -116,11 +116,11 @@ impl TraceBeat for RawB {
         push_tag(line, &self.tag);
     }
 
-    #[tactic(auto, unfolding(crate::specs::Reading::response_of))]
+    #[tactic(auto, unfolding(crate::specs::Reading::response_in))]
     fn read(text: &[u8], _bus: u8) -> Option<RawB> {
         let (id, rest) = decimal_before(text, b',', 1 << 32)?;
         let (resp, rest) = decimal_before(rest, b',', 4)?;
-        let tag = tag_of(rest)?;
+        let tag = tag_in(rest)?;
         Some(RawB {
             id: id as u32,
             resp: resp as u8,
@@ -133,7 +133,7 @@ impl TraceBeat for RawB {
 impl TraceBeat for RawR {
     ghost text_of = { read_data_text };
 
-    ghost read_of = { read_data_of };
+    ghost read_of = { read_data_in };
 
     #[tactic(auto, unfolding(crate::specs::Form::read_data_text))]
     fn push(&self, line: &mut LineBuffer, bus: u8) {
@@ -144,14 +144,14 @@ impl TraceBeat for RawR {
         push_tag(line, &self.tag);
     }
 
-    #[tactic(auto, unfolding(crate::specs::Reading::read_data_of, crate::specs::Reading::lanes_before))]
+    #[tactic(auto, unfolding(crate::specs::Reading::read_data_in, crate::specs::Reading::lanes_before))]
     fn read(text: &[u8], bus: u8) -> Option<RawR> {
         let (id, rest) = decimal_before(text, b',', 1 << 32)?;
         let (word, rest) = field_before(rest, b',')?;
-        let lanes = lanes_of(word, bus)?;
+        let lanes = lanes_in(word, bus)?;
         let (resp, rest) = decimal_before(rest, b',', 4)?;
         let (last, rest) = bit_before(rest, b',')?;
-        let tag = tag_of(rest)?;
+        let tag = tag_in(rest)?;
         Some(RawR {
             id: id as u32,
             lanes,

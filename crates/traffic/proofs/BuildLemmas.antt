@@ -8,24 +8,24 @@ use Rattle.std.proofs.Math.ListN.{replicate}
 use Rattle.std.proofs.lemmas.List.Elements.{All-from_get_or}
 use Rattle.std.proofs.lemmas.Grind.{fold-append, get_or-set_at}
 use Rattle.plain_text.specs.Lines.{lines}
-use Rattle.traffic.specs.Orders.{Order, Holds, Issues, issued, order_of, orders_of}
+use Rattle.traffic.specs.Orders.{Order, Holds, Issues, issued, order_said, orders_of}
 use Rattle.traffic.specs.Steps.{counts_after, counts_by, item_of, items_by, items_of, IsFitting}
-use Rattle.traffic.specs.Traffic.{TrafficItem, count_of, counted, held, items_after, none_yet, one_more, traffic_of}
+use Rattle.traffic.specs.Traffic.{TrafficItem, count_after, after_order, after_wait, items_after, none_yet, after_issue, traffic_of}
 use Rattle.traffic.specs.declared.build.Count.{Count}
 use Rattle.traffic.specs.declared.port.ManagerPort.{ManagerPort}
 
 -- a manager has no more transactions than there are
-count-from : (place : ℕ) (orders : List Order) (count : Count) → (fold (counted place) count orders).all ≤ count.all + length (issued orders)
+count-from : (place : ℕ) (orders : List Order) (count : Count) → (fold (after_order place) count orders).all ≤ count.all + length (issued orders)
 count-from place [] count = omega arith
 count-from place (Holds other ∷ more) count =
-    elim (other == place) as (λ b. (fold (counted place) (cond b (held count) count) more).all ≤ count.all + length (issued more)) [
-      | true ↦ count-from place more (held count)
+    elim (other == place) as (λ b. (fold (after_order place) (cond b (after_wait count) count) more).all ≤ count.all + length (issued more)) [
+      | true ↦ count-from place more (after_wait count)
       | false ↦ count-from place more count
     ]
 count-from place (Issues other access ∷ more) count =
-    elim (other == place) as (λ b. (fold (counted place) (cond b (one_more count) count) more).all ≤ count.all + length (access ∷ issued more)) [
-      | true ↦ let rest : (fold (counted place) (one_more count) more).all ≤ count.all + 1 + length (issued more) = count-from place more (one_more count) in omega arith
-      | false ↦ let rest : (fold (counted place) count more).all ≤ count.all + length (issued more) = count-from place more count in omega arith
+    elim (other == place) as (λ b. (fold (after_order place) (cond b (after_issue count) count) more).all ≤ count.all + length (access ∷ issued more)) [
+      | true ↦ let rest : (fold (after_order place) (after_issue count) more).all ≤ count.all + 1 + length (issued more) = count-from place more (after_issue count) in omega arith
+      | false ↦ let rest : (fold (after_order place) count more).all ≤ count.all + length (issued more) = count-from place more count in omega arith
     ]
 
 -- a count that changes at one place
@@ -45,20 +45,20 @@ at-place counts place k change now inside each within =
     ]
 
 counts-step : (counts : List Count) (before : List Order) (order : Order) → IsFitting (length counts) order
-    → ((j : ℕ) → j < length counts → get_or counts j none_yet ≡ count_of j before)
-    → (k : ℕ) → k < length counts → get_or (counts_after counts order) k none_yet ≡ count_of k (before ++ order ∷ [])
+    → ((j : ℕ) → j < length counts → get_or counts j none_yet ≡ count_after j before)
+    → (k : ℕ) → k < length counts → get_or (counts_after counts order) k none_yet ≡ count_after k (before ++ order ∷ [])
 counts-step counts before (Holds place) fits each k within =
-    at-place counts place k held (λ j. count_of j before) fits each within ∙ sym (fold-append (counted k) none_yet before (Holds place ∷ []))
+    at-place counts place k after_wait (λ j. count_after j before) fits each within ∙ sym (fold-append (after_order k) none_yet before (Holds place ∷ []))
 counts-step counts before (Issues place access) fits each k within =
-    at-place counts place k one_more (λ j. count_of j before) fits.0 each within ∙ sym (fold-append (counted k) none_yet before (Issues place access ∷ []))
+    at-place counts place k after_issue (λ j. count_after j before) fits.0 each within ∙ sym (fold-append (after_order k) none_yet before (Issues place access ∷ []))
 
 counts-length : (counts : List Count) (order : Order) → length (counts_after counts order) ≡ length counts
-counts-length counts (Holds place) = length-set counts place (held (get_or counts place none_yet))
-counts-length counts (Issues place access) = length-set counts place (one_more (get_or counts place none_yet))
+counts-length counts (Holds place) = length-set counts place (after_wait (get_or counts place none_yet))
+counts-length counts (Issues place access) = length-set counts place (after_issue (get_or counts place none_yet))
 
 -- what an order adds
 items-step : (counts : List Count) (number : ℕ) (before more : List Order) (order : Order) → IsFitting (length counts) order → number ≡ length (issued before)
-    → ((j : ℕ) → j < length counts → get_or counts j none_yet ≡ count_of j before)
+    → ((j : ℕ) → j < length counts → get_or counts j none_yet ≡ count_after j before)
     → items_of counts (number + 1) order ++ items_after (before ++ order ∷ []) more ≡ items_after before (order ∷ more)
 items-step counts number before more (Holds place) fits is each = refl
 items-step counts number before more (Issues place access) fits is each =
@@ -84,7 +84,7 @@ pub record IsBuilt (managers : List ManagerPort) (text : List ℕ) (items : List
   pub made : items ++ items_after before (orders_of managers (lines rest)) ≡ traffic_of managers (lines text)
   number : length items ≡ length (issued before)
   pub as_many : length counts ≡ length managers
-  counts_are : (k : ℕ) → k < length counts → get_or counts k none_yet ≡ count_of k before
+  counts_are : (k : ℕ) → k < length counts → get_or counts k none_yet ≡ count_after k before
   fits : AllByRecursion (IsFitting (length counts)) (orders_of managers (lines rest))
   pub left : length items + length rest ≤ length text
 
@@ -143,12 +143,12 @@ step-by managers text items counts rest more (Some order) is shorter b =
 -- after one more line
 pub built-line : (managers : List ManagerPort) (text : List ℕ) (items after : List TrafficItem) (counts later : List Count) (line rest more : List ℕ)
     → lines rest ≡ line ∷ lines more → length more < length rest
-    → after ≡ items ++ items_by counts (length items + 1) (order_of managers line) → later ≡ counts_by counts (order_of managers line)
+    → after ≡ items ++ items_by counts (length items + 1) (order_said managers line) → later ≡ counts_by counts (order_said managers line)
     → IsBuilt managers text items counts rest → IsBuilt managers text after later more
 built-line managers text items after counts later line rest more is shorter items_are counts_are b =
     subst (λ (t : List TrafficItem). IsBuilt managers text t later more) (sym items_are)
-    (subst (λ (c : List Count). IsBuilt managers text (items ++ items_by counts (length items + 1) (order_of managers line)) c more) (sym counts_are)
-    (step-by managers text items counts rest more (order_of managers line) (ap (λ ls. orders_of managers ls) is) shorter b))
+    (subst (λ (c : List Count). IsBuilt managers text (items ++ items_by counts (length items + 1) (order_said managers line)) c more) (sym counts_are)
+    (step-by managers text items counts rest more (order_said managers line) (ap (λ ls. orders_of managers ls) is) shorter b))
 
 -- what the next line needs
 fits-head : (n : ℕ) (o : Option Order) (more : List Order) → AllByRecursion (IsFitting n) (cons_option o more) → IfSome o (IsFitting n)
@@ -156,15 +156,15 @@ fits-head n None more all = tt
 fits-head n (Some order) more all = all.0
 
 pub built-fits : (managers : List ManagerPort) (text : List ℕ) (items : List TrafficItem) (counts : List Count) (line rest more : List ℕ)
-    → lines rest ≡ line ∷ lines more → IsBuilt managers text items counts rest → IfSome (order_of managers line) (IsFitting (length counts))
+    → lines rest ≡ line ∷ lines more → IsBuilt managers text items counts rest → IfSome (order_said managers line) (IsFitting (length counts))
 built-fits managers text items counts line rest more is b =
-    fits-head (length counts) (order_of managers line) (orders_of managers (lines more))
+    fits-head (length counts) (order_said managers line) (orders_of managers (lines more))
     (subst (λ (ls : List (List ℕ)). AllByRecursion (IsFitting (length counts)) (orders_of managers ls)) is b.fits)
 
 pub built-small : (managers : List ManagerPort) (text : List ℕ) (items : List TrafficItem) (counts : List Count) (rest : List ℕ)
     → IsBuilt managers text items counts rest → All (λ count. count.all ≤ length items) counts
 built-small managers text items counts rest b =
     All-from_get_or (λ (count : Count). count.all ≤ length items) counts none_yet (λ k within.
-    let most : (count_of k b.before).all ≤ 0 + length (issued b.before) = count-from k b.before none_yet in
+    let most : (count_after k b.before).all ≤ 0 + length (issued b.before) = count-from k b.before none_yet in
     let number : length items ≡ length (issued b.before) = b.number in
     subst (λ (count : Count). count.all ≤ length items) (sym (b.counts_are k within)) (omega arith))

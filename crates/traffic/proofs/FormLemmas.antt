@@ -13,7 +13,7 @@ use Rattle.manager_end.specs.declared.script.WriteByte.{WriteByte}
 use Rattle.plain_text.specs.Numbers.{is_numeral, number_in, read_byte_pair, read_decimal, read_hexadecimal}
 use Rattle.plain_text.specs.Words.{words, next_word, has_no_word}
 use Rattle.traffic.specs.Data.{are_pairs, are_data_words, data_bytes, is_data_word, is_pair, lane_byte, pair_byte, word_bytes}
-use Rattle.traffic.specs.Line.{Access, Line, Passed, Waits, Asks, at_end, beats_named, burst_named, first_pairs, is_passed, line_of, form_by, form_of, other_pairs, read_of, said_by, size_named, start_of, wait_of, write_of, write_with}
+use Rattle.traffic.specs.Line.{Access, Line, Passed, Waits, Asks, at_end, beats_named, burst_named, first_pairs, is_passed, form_by, other_pairs, said_by, size_named, start_of, write_with, line_said, form_said, read_said, wait_said, write_said}
 
 -- ---- optional values
 
@@ -149,16 +149,16 @@ start-form line =
     bind (next_word size_word.1) _ (λ _. Unit {0}) _ (free (next_word size_word.1)) (λ burst_word _.
     bind (burst_named burst_word.0) _ (λ _. Unit {0}) _ (free (burst_named burst_word.0)) (λ burst _. below)))))))))
 
-write-form : (line : List (List ℕ)) → IfSome (write_of line) IsFormLine
-unfolding write_of
+write-form : (line : List (List ℕ)) → IfSome (write_said line) IsFormLine
+unfolding write_said
 write-form line =
     bind (start_of line) (λ start. write_with start.0 start.1) (λ found. found.0.addr < 2 ^ 63) IsFormLine (start-form line) (λ start below.
     where-true (are_data_words (first_pairs start.0) (other_pairs start.0) start.1) (Asks (record { start = start.0; write = true; beats = length start.1; bytes = data_bytes start.1 })) IsFormLine (λ e.
     let long = words-length (first_pairs start.0) (other_pairs start.0) start.1 e in
     record { addr = below; some = long.0; bytes = long.1; values = data-values start.1 }))
 
-read-form : (line : List (List ℕ)) → IfSome (read_of line) IsFormLine
-unfolding read_of
+read-form : (line : List (List ℕ)) → IfSome (read_said line) IsFormLine
+unfolding read_said
 read-form line =
     bind (start_of line) _ (λ found. found.0.addr < 2 ^ 63) IsFormLine (start-form line) (λ start below.
     bind (next_word start.1) _ (λ _. Unit {0}) IsFormLine (free (next_word start.1)) (λ count_word _.
@@ -166,8 +166,8 @@ read-form line =
     where-true (has_no_word count_word.1) (Asks (record { start = start.0; write = false; beats = beats; bytes = [] })) IsFormLine (λ e.
     record { addr = below; some = some; bytes = refl; values = All-nil (λ (byte : WriteByte). byte.value < 256) }))))
 
-wait-form : (line : List (List ℕ)) → IfSome (wait_of line) IsFormLine
-unfolding wait_of
+wait-form : (line : List (List ℕ)) → IfSome (wait_said line) IsFormLine
+unfolding wait_said
 wait-form line =
     bind (next_word line) (λ manager. at_end (Waits manager.0) manager.1) (λ _. Unit {0}) IsFormLine (free (next_word line)) (λ manager _.
     where-true (has_no_word manager.1) (Waits manager.0) IsFormLine (λ e. tt))
@@ -176,15 +176,15 @@ choose : {A : Type 0} (b : Bool) (x y : Option A) (P : A → Type 0) → IfSome 
 choose true x y P h k = h
 choose false x y P h k = k
 
-form-of : (line : List (List ℕ)) → IfSome (form_of line) IsFormLine
-unfolding form_of
+form-of : (line : List (List ℕ)) → IfSome (form_said line) IsFormLine
+unfolding form_said
 form-of line =
     bind (next_word line) (λ verb. form_by verb.0 verb.1) (λ _. Unit {0}) IsFormLine (free (next_word line)) (λ verb _.
-    choose (bytes_eq verb.0 (codes "write")) (write_of verb.1) _ IsFormLine (write-form verb.1)
-    (choose (bytes_eq verb.0 (codes "read")) (read_of verb.1) _ IsFormLine (read-form verb.1)
-    (choose (bytes_eq verb.0 (codes "wait")) (wait_of verb.1) None IsFormLine (wait-form verb.1) tt)))
+    choose (bytes_eq verb.0 (codes "write")) (write_said verb.1) _ IsFormLine (write-form verb.1)
+    (choose (bytes_eq verb.0 (codes "read")) (read_said verb.1) _ IsFormLine (read-form verb.1)
+    (choose (bytes_eq verb.0 (codes "wait")) (wait_said verb.1) None IsFormLine (wait-form verb.1) tt)))
 
 -- what a line says has a form
-pub line-form : (line : List ℕ) → IfSome (line_of line) IsFormLine
+pub line-form : (line : List ℕ) → IfSome (line_said line) IsFormLine
 unfolding said_by
-line-form line = choose (is_passed (words line)) (Some Passed) (form_of (words line)) IsFormLine tt (form-of (words line))
+line-form line = choose (is_passed (words line)) (Some Passed) (form_said (words line)) IsFormLine tt (form-of (words line))

@@ -14,17 +14,17 @@ use Rattle.burst_address.proofs.Legality.{legal-length, wrap_length}
 use Rattle.std.proofs.Math.Nat.{pow-le-pow_right}
 use Rattle.std.proofs.lemmas.Option.{slice_get_within}
 use Rattle.traffic.specs.Steps.{IsFitting}
-use Rattle.traffic.specs.Accepted.{AcceptedSuits, AreInOrder, Suits, beats_in, last_after, of_manager}
+use Rattle.traffic.specs.Accepted.{AcceptedSuits, AreInOrder, Suits, beats_in, last_after, items_of_manager}
 use Rattle.traffic.specs.Line.{Access, first_pairs, other_pairs, other_pairs_of}
 use Rattle.traffic.specs.Orders.{Order, Holds, Issues, is_too_much, issued, orders_of, total_beats}
-use Rattle.traffic.specs.Traffic.{TrafficItem, count_of, counted, held, item_after, items_after, none_yet, one_more, traffic_of, traffic_refusal}
+use Rattle.traffic.specs.Traffic.{TrafficItem, item_after, items_after, none_yet, traffic_of, traffic_refusal, count_after, after_order, after_wait, after_issue}
 use Rattle.traffic.specs.declared.build.Count.{Count}
 use Rattle.traffic.specs.declared.port.ManagerPort.{ManagerPort}
 use Rattle.traffic.proofs.AcceptLemmas.{IsAccepted, IsAllowed, lines-allowed}
 use Rattle.traffic.proofs.BuildLemmas.{issued-append}
 use Rattle.traffic.proofs.BurstLemmas.{burst-length, other_by}
 use Rattle.traffic.proofs.FormLemmas.{IsForm}
-use Rattle.traffic.specs.LineRefusals.{least_refusal, request_of}
+use Rattle.traffic.specs.LineRefusals.{least_refusal, request_said}
 use Rattle.refusals.specs.declared.refusal.Refusal.{Refusal}
 use Rattle.refusals.specs.Refusal.{refused_for}
 use Rattle.refusals.specs.declared.cause.Cause.TheVariants.{TooMuchTraffic}
@@ -32,10 +32,10 @@ use Rattle.refusals.specs.declared.cause.Cause.TheVariants.{TooMuchTraffic}
 -- ---- each transaction suits its manager
 
 -- a write has a byte for each valid byte
-write-bytes : (access : Access) (bus : ℕ) → IsLegal (request_of access) bus → length (burst_bytes (request_of access)) ≡ first_pairs access.start + (access.beats - 1) * other_pairs access.start
-write-bytes access bus legal = burst-length (request_of access) bus legal ∙ ap (λ n. first_pairs access.start + (access.beats - 1) * n) (other access.start.burst)
+write-bytes : (access : Access) (bus : ℕ) → IsLegal (request_said access) bus → length (burst_bytes (request_said access)) ≡ first_pairs access.start + (access.beats - 1) * other_pairs access.start
+write-bytes access bus legal = burst-length (request_said access) bus legal ∙ ap (λ n. first_pairs access.start + (access.beats - 1) * n) (other access.start.burst)
   where
-    other : (burst : Burst) → other_by burst (request_of access) ≡ other_pairs_of burst access.start
+    other : (burst : Burst) → other_by burst (request_said access) ≡ other_pairs_of burst access.start
     other Fixed = refl
     other Incr = refl
     other Wrap = refl
@@ -63,14 +63,14 @@ all-suit managers before (Issues place access ∷ more) all = (accepted-suits ma
 
 -- a count tells of the transactions of a manager before a place
 record Tells (place : ℕ) (items : List TrafficItem) (count : Count) : Type 0 where
-  all : count.all ≡ length (of_manager place items)
-  within : count.awaited ≤ length (of_manager place items)
-  awaited : (count.awaited ≡ length (of_manager place items)) ⊎ (count.awaited ≡ last_after (of_manager place items))
+  all : count.all ≡ length (items_of_manager place items)
+  within : count.awaited ≤ length (items_of_manager place items)
+  awaited : (count.awaited ≡ length (items_of_manager place items)) ⊎ (count.awaited ≡ last_after (items_of_manager place items))
 
-filter-append : (place : ℕ) (xs ys : List TrafficItem) → of_manager place (xs ++ ys) ≡ of_manager place xs ++ of_manager place ys
+filter-append : (place : ℕ) (xs ys : List TrafficItem) → items_of_manager place (xs ++ ys) ≡ items_of_manager place xs ++ items_of_manager place ys
 filter-append place [] ys = refl
 filter-append place (x ∷ xs) ys =
-    elim (x.manager == place) as (λ b. cond b (x ∷ of_manager place (xs ++ ys)) (of_manager place (xs ++ ys)) ≡ cond b (x ∷ of_manager place xs) (of_manager place xs) ++ of_manager place ys) [
+    elim (x.manager == place) as (λ b. cond b (x ∷ items_of_manager place (xs ++ ys)) (items_of_manager place (xs ++ ys)) ≡ cond b (x ∷ items_of_manager place xs) (items_of_manager place xs) ++ items_of_manager place ys) [
       | true ↦ ap (λ t. x ∷ t) (filter-append place xs ys)
       | false ↦ filter-append place xs ys
     ]
@@ -81,31 +81,31 @@ last-push (y ∷ []) x = refl
 last-push (y ∷ z ∷ more) x = last-push (z ∷ more) x
 
 -- of one transaction more, for the manager at a place or for another one
-mine-push : (place : ℕ) (items : List TrafficItem) (item : TrafficItem) → of_manager place (items ++ item ∷ []) ≡ cond (item.manager == place) (of_manager place items ++ item ∷ []) (of_manager place items)
+mine-push : (place : ℕ) (items : List TrafficItem) (item : TrafficItem) → items_of_manager place (items ++ item ∷ []) ≡ cond (item.manager == place) (items_of_manager place items ++ item ∷ []) (items_of_manager place items)
 mine-push place items item =
     filter-append place items (item ∷ [])
-    ∙ (elim (item.manager == place) as (λ b. of_manager place items ++ cond b (item ∷ []) [] ≡ cond b (of_manager place items ++ item ∷ []) (of_manager place items)) [
+    ∙ (elim (item.manager == place) as (λ b. items_of_manager place items ++ cond b (item ∷ []) [] ≡ cond b (items_of_manager place items ++ item ∷ []) (items_of_manager place items)) [
       | true ↦ refl
-      | false ↦ append-nil (of_manager place items)
+      | false ↦ append-nil (items_of_manager place items)
     ])
 
-tells-hold : (place other : ℕ) (items : List TrafficItem) (count : Count) → Tells place items count → Tells place items (counted place count (Holds other))
+tells-hold : (place other : ℕ) (items : List TrafficItem) (count : Count) → Tells place items count → Tells place items (after_order place count (Holds other))
 tells-hold place other items count t =
-    elim (other == place) as (λ b. Tells place items (cond b (held count) count)) [
-      | true ↦ let all : count.all ≡ length (of_manager place items) = t.all in record { all = all; within = omega arith; awaited = inl all }
+    elim (other == place) as (λ b. Tells place items (cond b (after_wait count) count)) [
+      | true ↦ let all : count.all ≡ length (items_of_manager place items) = t.all in record { all = all; within = omega arith; awaited = inl all }
       | false ↦ t
     ]
 
-tells-mine : (place : ℕ) (items after : List TrafficItem) (item : TrafficItem) (count : Count) → of_manager place after ≡ of_manager place items ++ item ∷ [] → item.txn.after ≡ count.awaited
-    → Tells place items count → Tells place after (one_more count)
+tells-mine : (place : ℕ) (items after : List TrafficItem) (item : TrafficItem) (count : Count) → items_of_manager place after ≡ items_of_manager place items ++ item ∷ [] → item.txn.after ≡ count.awaited
+    → Tells place items count → Tells place after (after_issue count)
 tells-mine place items after item count is waits t =
-    let all : count.all ≡ length (of_manager place items) = t.all in
-    let within : count.awaited ≤ length (of_manager place items) = t.within in
-    let longer : length (of_manager place after) ≡ length (of_manager place items) + 1 = ap length is ∙ length-append (of_manager place items) (item ∷ []) in
-    let last : last_after (of_manager place after) ≡ item.txn.after = ap last_after is ∙ last-push (of_manager place items) item in
+    let all : count.all ≡ length (items_of_manager place items) = t.all in
+    let within : count.awaited ≤ length (items_of_manager place items) = t.within in
+    let longer : length (items_of_manager place after) ≡ length (items_of_manager place items) + 1 = ap length is ∙ length-append (items_of_manager place items) (item ∷ []) in
+    let last : last_after (items_of_manager place after) ≡ item.txn.after = ap last_after is ∙ last-push (items_of_manager place items) item in
     record { all = omega arith; within = omega arith; awaited = inr (omega arith) }
 
-tells-other : (place : ℕ) (items after : List TrafficItem) (count : Count) → of_manager place after ≡ of_manager place items → Tells place items count → Tells place after count
+tells-other : (place : ℕ) (items after : List TrafficItem) (count : Count) → items_of_manager place after ≡ items_of_manager place items → Tells place items count → Tells place after count
 tells-other place items after count is t =
     record {
       all = t.all ∙ ap length (sym is);
@@ -114,33 +114,33 @@ tells-other place items after count is t =
     }
 
 tells-issue : (place other : ℕ) (access : Access) (items : List TrafficItem) (item : TrafficItem) (count : Count) → item.manager ≡ other → (other ≡ place → item.txn.after ≡ count.awaited)
-    → Tells place items count → Tells place (items ++ item ∷ []) (counted place count (Issues other access))
+    → Tells place items count → Tells place (items ++ item ∷ []) (after_order place count (Issues other access))
 tells-issue place other access items item count is waits t = by (other == place) refl
   where
-    by : (same : Bool) → (other == place) ≡ same → Tells place (items ++ item ∷ []) (cond same (one_more count) count)
+    by : (same : Bool) → (other == place) ≡ same → Tells place (items ++ item ∷ []) (cond same (after_issue count) count)
     by true e =
         tells-mine place items (items ++ item ∷ []) item count
-        (mine-push place items item ∙ ap (λ n. cond (n == place) (of_manager place items ++ item ∷ []) (of_manager place items)) is ∙ ap (λ b. cond b (of_manager place items ++ item ∷ []) (of_manager place items)) e)
+        (mine-push place items item ∙ ap (λ n. cond (n == place) (items_of_manager place items ++ item ∷ []) (items_of_manager place items)) is ∙ ap (λ b. cond b (items_of_manager place items ++ item ∷ []) (items_of_manager place items)) e)
         (waits (eqb-true other place e)) t
     by false e =
         tells-other place items (items ++ item ∷ []) count
-        (mine-push place items item ∙ ap (λ n. cond (n == place) (of_manager place items ++ item ∷ []) (of_manager place items)) is ∙ ap (λ b. cond b (of_manager place items ++ item ∷ []) (of_manager place items)) e)
+        (mine-push place items item ∙ ap (λ n. cond (n == place) (items_of_manager place items ++ item ∷ []) (items_of_manager place items)) is ∙ ap (λ b. cond b (items_of_manager place items ++ item ∷ []) (items_of_manager place items)) e)
         t
 
-in-order : (before orders : List Order) (items : List TrafficItem) → length items ≡ length (issued before) → ((place : ℕ) → Tells place items (count_of place before)) → AreInOrder items (items_after before orders)
+in-order : (before orders : List Order) (items : List TrafficItem) → length items ≡ length (issued before) → ((place : ℕ) → Tells place items (count_after place before)) → AreInOrder items (items_after before orders)
 in-order before [] items number tells = tt
 in-order before (Holds place ∷ more) items number tells =
     in-order (before ++ Holds place ∷ []) more items
     (number ∙ sym (ap length (issued-append before (Holds place ∷ [])) ∙ ap length (append-nil (issued before))))
-    (λ other. subst (λ (count : Count). Tells other items count) (sym (fold-append (counted other) none_yet before (Holds place ∷ []))) (tells-hold other place items (count_of other before) (tells other)))
+    (λ other. subst (λ (count : Count). Tells other items count) (sym (fold-append (after_order other) none_yet before (Holds place ∷ []))) (tells-hold other place items (count_after other before) (tells other)))
 in-order before (Issues place access ∷ more) items number tells =
-    let here : Tells place items (count_of place before) = tells place in (
+    let here : Tells place items (count_after place before) = tells place in (
       record { number = ap (λ n. n + 1) (sym number); within = here.within; after = here.awaited },
       in-order (before ++ Issues place access ∷ []) more (items ++ item_after before place access ∷ [])
           (length-append items (item_after before place access ∷ []) ∙ ap (λ n. n + 1) number ∙ sym (ap length (issued-append before (Issues place access ∷ [])) ∙ length-append (issued before) (access ∷ [])))
           (λ other.
-          subst (λ (count : Count). Tells other (items ++ item_after before place access ∷ []) count) (sym (fold-append (counted other) none_yet before (Issues place access ∷ [])))
-          (tells-issue other place access items (item_after before place access) (count_of other before) refl (λ same. ap (λ p. (count_of p before).awaited) same) (tells other))),
+          subst (λ (count : Count). Tells other (items ++ item_after before place access ∷ []) count) (sym (fold-append (after_order other) none_yet before (Issues place access ∷ [])))
+          (tells-issue other place access items (item_after before place access) (count_after other before) refl (λ same. ap (λ p. (count_after p before).awaited) same) (tells other))),
     )
 
 -- ---- how much it is
@@ -173,7 +173,7 @@ fits-all managers [] all = tt
 fits-all managers (Holds place ∷ more) all = (all.0, fits-all managers more all.1)
 fits-all managers (Issues place access ∷ more) all =
     let a : IsAccepted managers place access = all.0 in
-    let most : (access.beats - 1) + 1 ≤ 256 = length-most access.start.burst ((access.beats - 1) + 1) (legal-length (request_of access) a.port.bus a.legal) in
+    let most : (access.beats - 1) + 1 ≤ 256 = length-most access.start.burst ((access.beats - 1) + 1) (legal-length (request_said access) a.port.bus a.legal) in
     ((slice_get_within managers place a.port a.is_manager, omega arith), fits-all managers more all.1)
 
 -- ---- all of it

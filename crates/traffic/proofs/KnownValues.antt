@@ -6,9 +6,9 @@ use Rattle.plain_text.specs.Lines.{lines}
 use Rattle.plain_text.specs.Numbers.{number_in, read_byte_pair, read_decimal, read_hexadecimal}
 use Rattle.plain_text.specs.Words.{words}
 use Rattle.traffic.specs.Data.{are_data_words, data_bytes, is_pair, lane_byte, pair_byte}
-use Rattle.traffic.specs.Line.{Passed, Waits, Asks, beats_named, burst_named, line_of, form_of, read_of, said_by, size_named, start_of, wait_of, write_of}
-use Rattle.traffic.specs.Orders.{order_of}
-use Rattle.traffic.specs.Ports.{port_of}
+use Rattle.traffic.specs.Line.{Passed, Waits, Asks, beats_named, burst_named, line_said, form_said, read_said, said_by, size_named, start_of, wait_said, write_said}
+use Rattle.traffic.specs.Orders.{order_said}
+use Rattle.traffic.specs.Ports.{named_manager}
 use Rattle.traffic.specs.Traffic.{TrafficItem, traffic_refusal, traffic_of}
 use Rattle.refusals.specs.Refusal.{refused_at, refused_burst}
 use Rattle.refusals.specs.declared.cause.Cause.TheVariants.{BadLine, UnknownManager, BadId}
@@ -37,51 +37,51 @@ no_data_word = refl
 
 -- ---- lines
 
-nothing : map line_of ([] ∷ codes " \t" ∷ codes "  #write" ∷ []) ≡ Some Passed ∷ Some Passed ∷ Some Passed ∷ []
+nothing : map line_said ([] ∷ codes " \t" ∷ codes "  #write" ∷ []) ≡ Some Passed ∷ Some Passed ∷ Some Passed ∷ []
 unfolding said_by words
 nothing = refl
 
-waits : line_of (codes "\twait  dma ") ≡ Some (Waits (codes "dma"))
-unfolding said_by form_of wait_of words
+waits : line_said (codes "\twait  dma ") ≡ Some (Waits (codes "dma"))
+unfolding said_by form_said wait_said words
 waits = refl
 
 -- from 0x3 on: one lane of four, and then four
 unaligned_write :
-    line_of (codes "write m 007 0x3 4 incr ff 0001--03")
+    line_said (codes "write m 007 0x3 4 incr ff 0001--03")
     ≡ Some (Asks (record {
       start = record { manager = codes "m"; id = 7; addr = 3; size = 2; burst = Incr };
       write = true;
       beats = 2;
       bytes = lane_byte (Some 255) ∷ lane_byte (Some 0) ∷ lane_byte (Some 1) ∷ lane_byte None ∷ lane_byte (Some 3) ∷ [];
     }))
-unfolding said_by form_of write_of start_of size_named burst_named is_pair pair_byte read_byte_pair read_decimal read_hexadecimal number_in words
+unfolding said_by form_said write_said start_of size_named burst_named is_pair pair_byte read_byte_pair read_decimal read_hexadecimal number_in words
 unaligned_write = refl
 
 -- each beat of a FIXED burst has the lanes of the first one
 fixed_write :
-    line_of (codes "write m 0 0x1 2 fixed 0a 0b")
+    line_said (codes "write m 0 0x1 2 fixed 0a 0b")
     ≡ Some (Asks (record {
       start = record { manager = codes "m"; id = 0; addr = 1; size = 1; burst = Fixed };
       write = true;
       beats = 2;
       bytes = lane_byte (Some 10) ∷ lane_byte (Some 11) ∷ [];
     }))
-unfolding said_by form_of write_of start_of size_named burst_named is_pair pair_byte read_byte_pair read_decimal read_hexadecimal number_in words
+unfolding said_by form_said write_said start_of size_named burst_named is_pair pair_byte read_byte_pair read_decimal read_hexadecimal number_in words
 fixed_write = refl
 
 wrap_read :
-    line_of (codes "read cpu 4294967295 0x7FFFFFFFFFFFFFFF 128 wrap 4294967295")
+    line_said (codes "read cpu 4294967295 0x7FFFFFFFFFFFFFFF 128 wrap 4294967295")
     ≡ Some (Asks (record {
       start = record { manager = codes "cpu"; id = 4294967295; addr = 9223372036854775807; size = 7; burst = Wrap };
       write = false;
       beats = 4294967295;
       bytes = [];
     }))
-unfolding said_by form_of read_of start_of size_named burst_named beats_named read_decimal read_hexadecimal number_in words
+unfolding said_by form_said read_said start_of size_named burst_named beats_named read_decimal read_hexadecimal number_in words
 wrap_read = refl
 
 bad_lines :
-    map line_of
+    map line_said
     (codes "read m 0 0x0 4 inc 1"
     ∷ codes "read m 0 0x0 4 incr"
     ∷ codes "read m 0 0x0 4 incr 0"
@@ -96,7 +96,7 @@ bad_lines :
     ∷ codes "Wait m"
     ∷ [])
     ≡ None ∷ None ∷ None ∷ None ∷ None ∷ None ∷ None ∷ None ∷ None ∷ None ∷ None ∷ None ∷ []
-unfolding said_by form_of read_of wait_of start_of size_named burst_named beats_named read_decimal read_hexadecimal number_in words
+unfolding said_by form_said read_said wait_said start_of size_named burst_named beats_named read_decimal read_hexadecimal number_in words
 bad_lines = refl
 
 -- ---- whole texts, for a manager `m` on a bus of 4 bytes with IDs of 4 bits
@@ -106,17 +106,17 @@ managers = record { name = record { ref_ptr = (0, 0); now = codes "m" }; bus = 4
 
 a_bad_line_before_all :
     traffic_refusal managers (lines (codes "read m 16 0x0 4 incr 1\nwait dma\n\nread m 0 0x0 4 incr\nread\n")) ≡ Some (refused_at BadLine 4)
-unfolding said_by form_of order_of read_of wait_of start_of size_named burst_named beats_named read_decimal read_hexadecimal number_in words port_of
+unfolding said_by form_said order_said read_said wait_said start_of size_named burst_named beats_named read_decimal read_hexadecimal number_in words named_manager
 a_bad_line_before_all = refl
 
 an_unknown_manager_next :
     traffic_refusal managers (lines (codes "read m 16 0x0 4 incr 1\nread m 0 0x0 8 incr 1\nwait dma\nwait dma\n")) ≡ Some (refused_at UnknownManager 3)
-unfolding said_by form_of order_of read_of wait_of start_of size_named burst_named beats_named read_decimal read_hexadecimal number_in words port_of
+unfolding said_by form_said order_said read_said wait_said start_of size_named burst_named beats_named read_decimal read_hexadecimal number_in words named_manager
 an_unknown_manager_next = refl
 
 then_an_id :
     traffic_refusal managers (lines (codes "read m 0 0x0 8 incr 1\nread m 15 0x0 4 incr 1\nread m 16 0x0 4 incr 1\n")) ≡ Some (refused_at BadId 3)
-unfolding said_by form_of order_of read_of wait_of start_of size_named burst_named beats_named read_decimal read_hexadecimal number_in words port_of
+unfolding said_by form_said order_said read_said wait_said start_of size_named burst_named beats_named read_decimal read_hexadecimal number_in words named_manager
 then_an_id = refl
 
 broken_rules :
@@ -130,7 +130,7 @@ broken_rules :
     ∷ codes "read m 0 0xffc 4 incr 1"
     ∷ [])
     ≡ Some (refused_burst 1 1) ∷ Some (refused_burst 1 2) ∷ Some (refused_burst 1 2) ∷ Some (refused_burst 1 3) ∷ Some (refused_burst 1 4) ∷ None ∷ []
-unfolding said_by form_of order_of read_of wait_of start_of size_named burst_named beats_named read_decimal read_hexadecimal number_in words port_of
+unfolding said_by form_said order_said read_said wait_said start_of size_named burst_named beats_named read_decimal read_hexadecimal number_in words named_manager
 broken_rules = refl
 
 -- the third transaction waits for the first two, as the fourth does
@@ -138,5 +138,5 @@ after_a_wait :
     map (λ (item : TrafficItem). item.txn.number ∷ item.txn.after ∷ item.txn.request.len ∷ [])
     (traffic_of managers (lines (codes "read m 0 0x0 4 incr 1\nread m 1 0x4 4 incr 2\nwait m\nread m 2 0x8 4 incr 3\n# as before\nread m 3 0xc 4 incr 4\n")))
     ≡ (1 ∷ 0 ∷ 0 ∷ []) ∷ (2 ∷ 0 ∷ 1 ∷ []) ∷ (3 ∷ 2 ∷ 2 ∷ []) ∷ (4 ∷ 2 ∷ 3 ∷ []) ∷ []
-unfolding said_by form_of order_of read_of wait_of start_of size_named burst_named beats_named read_decimal read_hexadecimal number_in words port_of
+unfolding said_by form_said order_said read_said wait_said start_of size_named burst_named beats_named read_decimal read_hexadecimal number_in words named_manager
 after_a_wait = refl

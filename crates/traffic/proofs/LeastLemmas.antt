@@ -2,7 +2,7 @@
 use Rattle.std.proofs.Common.{◌≡◌, ℕ, ◌+◌, ◌<◌, ◌≤◌, Bool, true, false, cond, List, [], ◌∷◌, Option, Some, None, nat_lt, zero, suc, inl, inr, refl, sym, ◌∙◌, ap, subst, arith}
 use Rattle.std.specs.List.{slice_get}
 use Rattle.std.proofs.lemmas.Bool.{ltb-true, ltb-false}
-use Rattle.traffic.specs.LineRefusals.{least, least_refusal, line_refusal, lesser}
+use Rattle.traffic.specs.LineRefusals.{lesser_of, least_refusal, line_refusal, lesser}
 use Rattle.traffic.specs.Refusals.{GoesFirst, IsNotRefused, IsLeastRefusal, LeastIsTold}
 use Rattle.refusals.specs.declared.refusal.Refusal.{Refusal}
 use Rattle.traffic.specs.declared.port.ManagerPort.{ManagerPort}
@@ -93,7 +93,7 @@ least-of : (managers : List ManagerPort) (number : ℕ) (line : List ℕ) (more 
 least-of managers number line more refusal told_of e =
     by (line_refusal managers number line) refl (least_refusal managers (number + 1) more) refl e
   where
-    by : (a : Option Refusal) → line_refusal managers number line ≡ a → (b : Option Refusal) → least_refusal managers (number + 1) more ≡ b → least a b ≡ Some refusal → IsLeastRefusal managers number (line ∷ more) refusal
+    by : (a : Option Refusal) → line_refusal managers number line ≡ a → (b : Option Refusal) → least_refusal managers (number + 1) more ≡ b → lesser_of a b ≡ Some refusal → IsLeastRefusal managers number (line ∷ more) refusal
     by None here b rest e =
         told-later managers number line more refusal (λ other is. absurd (cc)) (told_of refusal (rest ∙ e))
     by (Some a) here None rest e =

@@ -2,7 +2,7 @@
 use Rattle.std.proofs.Common.{◌≡◌, ◌<◌, ◌≤◌, cond, Option, Some, None, refl, ap, sym, ◌∙◌, arith}
 use Rattle.std.proofs.lemmas.Bool.{cases_lt, lt-ltb, le-ltb}
 use Rattle.std.proofs.Common.{inl, inr}
-use Rattle.traffic.specs.LineRefusals.{least, lesser}
+use Rattle.traffic.specs.LineRefusals.{lesser_of, lesser}
 use Rattle.refusals.specs.declared.refusal.Refusal.{Refusal}
 
 -- the first refusal stands where its code is no greater
@@ -27,13 +27,13 @@ lesser-assoc a b c =
     ]
 
 -- the least of three refusals is found in any order of search
-pub least_assoc : (a b c : Option Refusal) → least (least a b) c ≡ least a (least b c)
+pub least_assoc : (a b c : Option Refusal) → lesser_of (lesser_of a b) c ≡ lesser_of a (lesser_of b c)
 least_assoc None b c = refl
 least_assoc (Some a) None c = refl
 least_assoc (Some a) (Some b) None = refl
 least_assoc (Some a) (Some b) (Some c) = ap (λ f. Some f) (lesser-assoc a b c)
 
 -- nothing is less than no refusal
-pub least_none : (a : Option Refusal) → least a None ≡ a
+pub least_none : (a : Option Refusal) → lesser_of a None ≡ a
 least_none None = refl
 least_none (Some a) = refl

@@ -22,8 +22,8 @@ pub record Suits (managers : List ManagerPort) (item : TrafficItem) : Type 0 whe
   pub values : All (λ (byte : WriteByte). byte.value < 256) item.bytes
 
 -- the transactions of the manager at this place
-abbrev pub of_manager : ℕ → List TrafficItem → List TrafficItem
-of_manager place items = filter (λ item. item.manager == place) items
+abbrev pub items_of_manager : ℕ → List TrafficItem → List TrafficItem
+items_of_manager place items = filter (λ item. item.manager == place) items
 
 -- how many transactions the last one waits for; none where there is no transaction
 abbrev pub last_after : List TrafficItem → ℕ
@@ -35,8 +35,8 @@ last_after (item ∷ next ∷ more) = last_after (next ∷ more)
 -- for all of them or for as many as the manager's last one.
 pub record Follows (before : List TrafficItem) (item : TrafficItem) : Type 0 where
   pub number : item.txn.number ≡ length before + 1
-  pub within : item.txn.after ≤ length (of_manager item.manager before)
-  pub after : (item.txn.after ≡ length (of_manager item.manager before)) ⊎ (item.txn.after ≡ last_after (of_manager item.manager before))
+  pub within : item.txn.after ≤ length (items_of_manager item.manager before)
+  pub after : (item.txn.after ≡ length (items_of_manager item.manager before)) ⊎ (item.txn.after ≡ last_after (items_of_manager item.manager before))
 
 -- each transaction comes after those before it
 abbrev pub AreInOrder : List TrafficItem → List TrafficItem → Type 0

@@ -3,8 +3,8 @@ use Rattle.std.specs.Prelude.{List, map}
 use Rattle.traffic.specs.Traffic.{TrafficItem}
 use Rattle.traffic.specs.declared.build.Item.{Item}
 
-abbrev pub item_view : Item → TrafficItem
-item_view item = record { manager = item.manager; txn = item.txn; bytes = item.bytes.items }
+abbrev pub traffic_item : Item → TrafficItem
+traffic_item item = record { manager = item.manager; txn = item.txn; bytes = item.bytes.items }
 
-abbrev pub items_view : List Item → List TrafficItem
-items_view items = map item_view items
+abbrev pub traffic_items : List Item → List TrafficItem
+traffic_items items = map traffic_item items

@@ -99,8 +99,8 @@ write_with start lanes =
     else None
 
 -- the words after `write`
-unfoldable pub write_of : List (List ℕ) → Option Line
-write_of line = do
+unfoldable pub write_said : List (List ℕ) → Option Line
+write_said line = do
   start ← start_of line
   write_with start.0 start.1
 
@@ -109,29 +109,29 @@ abbrev pub at_end : Line → List (List ℕ) → Option Line
 at_end said line = if has_no_word line then Some said else None
 
 -- the words after `read`: the number of beats
-unfoldable pub read_of : List (List ℕ) → Option Line
-read_of line = do
+unfoldable pub read_said : List (List ℕ) → Option Line
+read_said line = do
   start ← start_of line
   count_word ← next_word start.1
   beats ← beats_named count_word.0
   at_end (Asks (record { start = start.0; write = false; beats = beats; bytes = [] })) count_word.1
 
 -- the words after `wait`: the manager
-unfoldable pub wait_of : List (List ℕ) → Option Line
-wait_of line = do
+unfoldable pub wait_said : List (List ℕ) → Option Line
+wait_said line = do
   manager ← next_word line
   at_end (Waits manager.0) manager.1
 
 -- what the first word says of the words after it
 abbrev pub form_by : List ℕ → List (List ℕ) → Option Line
 form_by verb line =
-    if bytes_eq verb (codes "write") then write_of line
-    else if bytes_eq verb (codes "read") then read_of line
-    else if bytes_eq verb (codes "wait") then wait_of line
+    if bytes_eq verb (codes "write") then write_said line
+    else if bytes_eq verb (codes "read") then read_said line
+    else if bytes_eq verb (codes "wait") then wait_said line
     else None
 
-unfoldable pub form_of : List (List ℕ) → Option Line
-form_of line = do
+unfoldable pub form_said : List (List ℕ) → Option Line
+form_said line = do
   verb ← next_word line
   form_by verb.0 verb.1
 
@@ -142,8 +142,8 @@ is_passed (word ∷ more) = starts_with nat_eq word (codes "#")
 
 -- what the words of a line say, where they are of one of the forms
 unfoldable pub said_by : List (List ℕ) → Option Line
-said_by line = if is_passed line then Some Passed else form_of line
+said_by line = if is_passed line then Some Passed else form_said line
 
 -- what a line says
-abbrev pub line_of : List ℕ → Option Line
-line_of line = said_by (words line)
+abbrev pub line_said : List ℕ → Option Line
+line_said line = said_by (words line)

@@ -7,13 +7,13 @@ use Rattle.burst_address.specs.declared.rule.BurstRule.TheVariants.{Size, Length
 use Rattle.refusals.specs.Refusal.{refused_at, refused_burst}
 use Rattle.refusals.specs.declared.cause.Cause.TheVariants.{BadLine, UnknownManager, BadId}
 use Rattle.refusals.specs.declared.refusal.Refusal.{Refusal}
-use Rattle.traffic.specs.Line.{Access, Line, Passed, Waits, Asks, line_of}
-use Rattle.traffic.specs.Ports.{port_of}
+use Rattle.traffic.specs.Line.{Access, Line, Passed, Waits, Asks, line_said}
+use Rattle.traffic.specs.Ports.{named_manager}
 use Rattle.traffic.specs.declared.port.ManagerPort.{ManagerPort}
 
 -- the request for a burst; one of over 256 beats, whose `len` is no byte, is of no legal length
-abbrev pub request_of : Access → Addr
-request_of access = record {
+abbrev pub request_said : Access → Addr
+request_said access = record {
   id = access.start.id;
   addr = access.start.addr;
   len = access.beats - 1;
@@ -34,32 +34,32 @@ abbrev pub burst_refusal : ℕ → Access → Option ManagerPort → Option Refu
 burst_refusal number access None = Some (refused_at UnknownManager number)
 burst_refusal number access (Some manager) =
     if nat_lt access.start.id (2 ^ manager.id_width)
-    then option_map (λ rule. refused_burst number (rule_number rule)) (broken_rule (request_of access) manager.bus)
+    then option_map (λ rule. refused_burst number (rule_number rule)) (broken_rule (request_said access) manager.bus)
     else Some (refused_at BadId number)
 
 -- why line `number` is refused, given what it says
 abbrev pub refusal_by : List ManagerPort → ℕ → Option Line → Option Refusal
 refusal_by managers number None = Some (refused_at BadLine number)
 refusal_by managers number (Some Passed) = None
-refusal_by managers number (Some (Waits name)) = if is_some (port_of managers name) then None else Some (refused_at UnknownManager number)
-refusal_by managers number (Some (Asks access)) = burst_refusal number access (port_of managers access.start.manager)
+refusal_by managers number (Some (Waits name)) = if is_some (named_manager managers name) then None else Some (refused_at UnknownManager number)
+refusal_by managers number (Some (Asks access)) = burst_refusal number access (named_manager managers access.start.manager)
 
 -- why line `number` is refused
 abbrev pub line_refusal : List ManagerPort → ℕ → List ℕ → Option Refusal
-line_refusal managers number line = refusal_by managers number (line_of line)
+line_refusal managers number line = refusal_by managers number (line_said line)
 
 -- the one with the lesser code, and of two with one code the first
 abbrev pub lesser : Refusal → Refusal → Refusal
 lesser first other = if nat_lt other.code first.code then other else first
 
 -- the same of refusals that may be missing
-abbrev pub least : Option Refusal → Option Refusal → Option Refusal
-least None other = other
-least (Some first) None = Some first
-least (Some first) (Some other) = Some (lesser first other)
+abbrev pub lesser_of : Option Refusal → Option Refusal → Option Refusal
+lesser_of None other = other
+lesser_of (Some first) None = Some first
+lesser_of (Some first) (Some other) = Some (lesser first other)
 
 -- of the refusals of all lines, where the first line has this number, the one with the least code, and of those with
 -- one code the first
 abbrev pub least_refusal : List ManagerPort → ℕ → List (List ℕ) → Option Refusal
 least_refusal managers number [] = None
-least_refusal managers number (line ∷ more) = least (line_refusal managers number line) (least_refusal managers (number + 1) more)
+least_refusal managers number (line ∷ more) = lesser_of (line_refusal managers number line) (least_refusal managers (number + 1) more)

@@ -1,8 +1,8 @@
 -- What the lines ask of the managers, one after the other.
 use Rattle.std.specs.Prelude.{ℕ, ◌+◌, ◌||◌, nat_lt, Bool, List, [], ◌∷◌, length, Option, None, Some, option_map}
 use Rattle.std.specs.List.{filter_map}
-use Rattle.traffic.specs.Line.{Access, Line, Passed, Waits, Asks, line_of}
-use Rattle.traffic.specs.Ports.{place_of}
+use Rattle.traffic.specs.Line.{Access, Line, Passed, Waits, Asks, line_said}
+use Rattle.traffic.specs.Ports.{manager_place}
 use Rattle.traffic.specs.declared.port.ManagerPort.{ManagerPort}
 
 -- the manager at a place waits, or issues a burst
@@ -14,16 +14,16 @@ pub data Order : Type 0 where
 abbrev pub order_by : List ManagerPort → Option Line → Option Order
 order_by managers None = None
 order_by managers (Some Passed) = None
-order_by managers (Some (Waits name)) = option_map Holds (place_of managers name)
-order_by managers (Some (Asks access)) = option_map (λ place. Issues place access) (place_of managers access.start.manager)
+order_by managers (Some (Waits name)) = option_map Holds (manager_place managers name)
+order_by managers (Some (Asks access)) = option_map (λ place. Issues place access) (manager_place managers access.start.manager)
 
 -- what a line asks
-unfoldable pub order_of : List ManagerPort → List ℕ → Option Order
-order_of managers line = order_by managers (line_of line)
+unfoldable pub order_said : List ManagerPort → List ℕ → Option Order
+order_said managers line = order_by managers (line_said line)
 
 -- what all lines ask, less those that ask nothing
 abbrev pub orders_of : List ManagerPort → List (List ℕ) → List Order
-orders_of managers lines = filter_map (order_of managers) lines
+orders_of managers lines = filter_map (order_said managers) lines
 
 -- the bursts that are issued
 abbrev pub issued : List Order → List Access

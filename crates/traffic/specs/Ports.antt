@@ -10,13 +10,13 @@ use Rattle.traffic.specs.declared.port.ManagerPort.{ManagerPort}
 abbrev pub is_named : List ℕ → ManagerPort → Bool
 is_named name manager = bytes_eq manager.name.now name
 
-abbrev pub place_of : List ManagerPort → List ℕ → Option ℕ
-place_of managers name = position (is_named name) managers
+abbrev pub manager_place : List ManagerPort → List ℕ → Option ℕ
+manager_place managers name = position (is_named name) managers
 
 -- that manager
-unfoldable pub port_of : List ManagerPort → List ℕ → Option ManagerPort
-port_of managers name = do
-  place ← place_of managers name
+unfoldable pub named_manager : List ManagerPort → List ℕ → Option ManagerPort
+named_manager managers name = do
+  place ← manager_place managers name
   slice_get managers place
 
 -- a bus of a width that a bus can have, and IDs of at most 32 bits

@@ -1,21 +1,21 @@
 -- One order's part in the making of the transactions.
 use Rattle.std.specs.Prelude.{ℕ, ◌-◌, ◌<◌, ◌≤◌, List, [], ◌∷◌, Option, None, Some, slice_index_or, slice_set}
-use Rattle.traffic.specs.LineRefusals.{request_of}
+use Rattle.traffic.specs.LineRefusals.{request_said}
 use Rattle.traffic.specs.Line.{Access}
 use Rattle.traffic.specs.Orders.{Order, Holds, Issues}
-use Rattle.traffic.specs.Traffic.{TrafficItem, held, none_yet, one_more}
+use Rattle.traffic.specs.Traffic.{TrafficItem, after_wait, none_yet, after_issue}
 use Rattle.traffic.specs.declared.build.Count.{Count}
 
 -- the counts after an order
 abbrev pub counts_after : List Count → Order → List Count
-counts_after counts (Holds place) = slice_set counts place (held (slice_index_or counts place none_yet))
-counts_after counts (Issues place access) = slice_set counts place (one_more (slice_index_or counts place none_yet))
+counts_after counts (Holds place) = slice_set counts place (after_wait (slice_index_or counts place none_yet))
+counts_after counts (Issues place access) = slice_set counts place (after_issue (slice_index_or counts place none_yet))
 
 -- a transaction with this number, for which so many others are awaited
 abbrev pub item_of : ℕ → ℕ → ℕ → Access → TrafficItem
 item_of number after place access = record {
   manager = place;
-  txn = record { number = number; write = access.write; request = request_of access; after = after };
+  txn = record { number = number; write = access.write; request = request_said access; after = after };
   bytes = access.bytes;
 }
 

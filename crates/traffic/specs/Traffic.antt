@@ -8,32 +8,32 @@ use Rattle.refusals.specs.declared.cause.Cause.TheVariants.{TooMuchTraffic}
 use Rattle.refusals.specs.declared.refusal.DocFault.{DocFault}
 use Rattle.refusals.specs.declared.refusal.DocFault.TheVariants.{NoMemory, Refused}
 use Rattle.refusals.specs.declared.refusal.Refusal.{Refusal}
-use Rattle.traffic.specs.LineRefusals.{least_refusal, request_of}
+use Rattle.traffic.specs.LineRefusals.{least_refusal, request_said}
 use Rattle.traffic.specs.Line.{Access}
 use Rattle.traffic.specs.declared.build.Count.{Count}
 use Rattle.traffic.specs.Orders.{Order, Holds, Issues, is_too_much, issued, orders_of}
 use Rattle.traffic.specs.declared.port.ManagerPort.{ManagerPort}
 
--- Of a manager it is counted how many transactions it has, and how many of them stand before its latest `wait` line.
+-- Of a manager it is after_order how many transactions it has, and how many of them stand before its latest `wait` line.
 abbrev pub none_yet : Count
 none_yet = record { all = 0; awaited = 0 }
 
 -- after a `wait` line all are awaited
-abbrev pub held : Count → Count
-held count = record { all = count.all; awaited = count.all }
+abbrev pub after_wait : Count → Count
+after_wait count = record { all = count.all; awaited = count.all }
 
 -- after one more transaction
-abbrev pub one_more : Count → Count
-one_more count = record { all = count.all + 1; awaited = count.awaited }
+abbrev pub after_issue : Count → Count
+after_issue count = record { all = count.all + 1; awaited = count.awaited }
 
 -- after one more order, which is for the manager at this place or for another one
-abbrev pub counted : ℕ → Count → Order → Count
-counted place count (Holds other) = if other == place then held count else count
-counted place count (Issues other access) = if other == place then one_more count else count
+abbrev pub after_order : ℕ → Count → Order → Count
+after_order place count (Holds other) = if other == place then after_wait count else count
+after_order place count (Issues other access) = if other == place then after_issue count else count
 
 -- the count of the manager at this place after all orders
-abbrev pub count_of : ℕ → List Order → Count
-count_of place orders = fold (counted place) none_yet orders
+abbrev pub count_after : ℕ → List Order → Count
+count_after place orders = fold (after_order place) none_yet orders
 
 -- a transaction, the place of its manager, and the bytes that a write names, one for each valid lane
 pub record TrafficItem : Type 0 where
@@ -45,7 +45,7 @@ pub record TrafficItem : Type 0 where
 abbrev pub item_after : List Order → ℕ → Access → TrafficItem
 item_after before place access = record {
   manager = place;
-  txn = record { number = length (issued before) + 1; write = access.write; request = request_of access; after = (count_of place before).awaited };
+  txn = record { number = length (issued before) + 1; write = access.write; request = request_said access; after = (count_after place before).awaited };
   bytes = access.bytes;
 }
 

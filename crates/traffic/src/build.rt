@@ -3,17 +3,17 @@
 ghost use Rattle.std.specs.Prelude.{◌≡◌, ◌+◌, ◌-◌, ◌<◌, ◌≤◌, ◌++◌, ◌^◌, [], ◌∷◌, All, length, IfOk, IfSome, OnOk, replicate};
 ghost use Rattle.std.specs.List.{AllByRecursion};
 ghost use Rattle.plain_text.specs.Lines.{lines};
-ghost use Rattle.traffic.specs.Inside.{item_view, items_view};
-ghost use Rattle.traffic.specs.Orders.{order_of, orders_of};
+ghost use Rattle.traffic.specs.Inside.{traffic_item, traffic_items};
+ghost use Rattle.traffic.specs.Orders.{order_said, orders_of};
 ghost use Rattle.traffic.specs.Seen.{access_seen, order_seen};
 ghost use Rattle.traffic.specs.Steps.{counts_after, counts_by, item_of, items_by, items_of, IsFitting};
-ghost use Rattle.traffic.specs.Traffic.{held, none_yet, one_more, traffic_of};
+ghost use Rattle.traffic.specs.Traffic.{after_wait, none_yet, after_issue, traffic_of};
 
 use crate::data::push_data;
 use crate::line::TextAccess;
 use crate::order::{TextOrder, read_order};
 use crate::port::ManagerPort;
-use crate::refusal::request_of;
+use crate::refusal::request_said;
 use axi_beats::NoMemory;
 use manager_end::{Txn, WriteByte};
 use plain_text::lines::next_line;
@@ -45,7 +45,7 @@ pub(crate) fn collect_items(
     requires short { length text.now ≤ 16777216 }
     requires managers { length managers.now < 2 ^ 32 }
     requires fits { AllByRecursion (IsFitting (length managers.now)) (orders_of managers.now (lines text.now)) }
-    ensures { IfOk result (λ items. items_view items.items ≡ traffic_of managers.now (lines text.now)) }
+    ensures { IfOk result (λ items. traffic_items items.items ≡ traffic_of managers.now (lines text.now)) }
 {
     let mut counts = no_counts(alloc, managers.len())?;
     let mut items = Vec::new(alloc);
@@ -75,13 +75,13 @@ fn add_line(
     line: &[u8],
     managers: &[ManagerPort<'_>],
 ) -> Result<(), NoMemory>
-    requires fits { IfSome (order_of managers.now line.now) (IsFitting (length counts.old.items)) }
+    requires fits { IfSome (order_said managers.now line.now) (IsFitting (length counts.old.items)) }
     requires managers { length counts.old.items < 2 ^ 32 }
     requires short { length items.old.items < 2 ^ 32 - 1 }
     requires small { All (λ count. count.all ≤ length items.old.items) counts.old.items }
-    ensures items { OnOk result (items_view items.new.items
-        ≡ items_view items.old.items ++ items_by counts.old.items (length items.old.items + 1) (order_of managers.now line.now)) }
-    ensures counts { OnOk result (counts.new.items ≡ counts_by counts.old.items (order_of managers.now line.now)) }
+    ensures items { OnOk result (traffic_items items.new.items
+        ≡ traffic_items items.old.items ++ items_by counts.old.items (length items.old.items + 1) (order_said managers.now line.now)) }
+    ensures counts { OnOk result (counts.new.items ≡ counts_by counts.old.items (order_said managers.now line.now)) }
 {
     match read_order(line, managers) {
         Some(order) => add_order(alloc, items, counts, &order),
@@ -100,19 +100,19 @@ fn add_order(
     requires managers { length counts.old.items < 2 ^ 32 }
     requires short { length items.old.items < 2 ^ 32 - 1 }
     requires small { All (λ count. count.all ≤ length items.old.items) counts.old.items }
-    ensures items { OnOk result (items_view items.new.items
-        ≡ items_view items.old.items ++ items_of counts.old.items (length items.old.items + 1) (order_seen order.now)) }
+    ensures items { OnOk result (traffic_items items.new.items
+        ≡ traffic_items items.old.items ++ items_of counts.old.items (length items.old.items + 1) (order_seen order.now)) }
     ensures counts { OnOk result (counts.new.items ≡ counts_after counts.old.items (order_seen order.now)) }
 {
     match order {
         TextOrder::Hold(place) => {
-            counts[*place] = held(counts[*place]);
+            counts[*place] = after_wait(counts[*place]);
             Ok(())
         }
         TextOrder::Issue(place, access) => {
             let number = items.len() as u32 + 1;
             let after = counts[*place].awaited;
-            counts[*place] = one_more(counts[*place]);
+            counts[*place] = after_issue(counts[*place]);
             let item = make_item(alloc, number, after, *place as u32, access)?;
             push_item(items, item)
         }
@@ -120,8 +120,8 @@ fn add_order(
 }
 
 // The count after a `wait` line.
-fn held(count: Count) -> Count
-    ensures { result ≡ held count }
+fn after_wait(count: Count) -> Count
+    ensures { result ≡ after_wait count }
 {
     Count {
         all: count.all,
@@ -130,9 +130,9 @@ fn held(count: Count) -> Count
 }
 
 // The count after one more transaction.
-fn one_more(count: Count) -> Count
+fn after_issue(count: Count) -> Count
     requires { count.all < 2 ^ 32 - 1 }
-    ensures { result ≡ one_more count }
+    ensures { result ≡ after_issue count }
 {
     Count {
         all: count.all + 1,
@@ -149,13 +149,13 @@ fn make_item(
     access: &TextAccess<'_>,
 ) -> Result<Item, NoMemory>
     requires { access.now.beats - 1 ≤ 255 }
-    ensures { IfOk result (λ item. item_view item ≡ item_of number after manager (access_seen access.now)) }
+    ensures { IfOk result (λ item. traffic_item item ≡ item_of number after manager (access_seen access.now)) }
 {
     let len = access.beats.saturating_sub(1) as u8;
     let txn = Txn {
         number,
         write: access.write,
-        request: request_of(access, len),
+        request: request_said(access, len),
         after,
     };
     let bytes = access_bytes(alloc, access)?;
@@ -179,7 +179,7 @@ fn access_bytes(alloc: Global, access: &TextAccess<'_>) -> Result<Vec<WriteByte>
 
 // Adds an item.
 fn push_item(items: &mut Vec<Item>, item: Item) -> Result<(), NoMemory>
-    ensures { OnOk result (items_view items.new.items ≡ items_view items.old.items ++ item_view item ∷ []) }
+    ensures { OnOk result (traffic_items items.new.items ≡ traffic_items items.old.items ++ traffic_item item ∷ []) }
 {
     match items.push(item) {
         Ok(()) => Ok(()),

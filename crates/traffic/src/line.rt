@@ -2,7 +2,7 @@
 
 ghost use Rattle.std.specs.Prelude.{◌≡◌, ◌<◌, ◌≤◌, ◌^◌, ◌-◌, ◌%◌, option_map, IfSome};
 ghost use Rattle.plain_text.specs.Words.{words};
-ghost use Rattle.traffic.specs.Line.{beats_named, burst_named, first_pairs, form_of, is_passed, line_of, other_pairs, read_of, size_named, start_of, wait_of, write_of};
+ghost use Rattle.traffic.specs.Line.{beats_named, burst_named, first_pairs, form_said, is_passed, line_said, other_pairs, read_said, size_named, start_of, wait_said, write_said};
 ghost use Rattle.traffic.specs.Seen.{line_seen, start_seen};
 
 use crate::data::count_data_words;
@@ -44,7 +44,7 @@ pub(crate) enum TextLine<'a> {
 /// What the line says, or `None` where it is of none of the forms.
 #[tactic(auto, unfolding(crate::specs::Line::said_by))]
 pub(crate) fn read_line(line: &[u8]) -> Option<TextLine<'_>>
-    ensures { option_map line_seen result ≡ line_of line.now }
+    ensures { option_map line_seen result ≡ line_said line.now }
 {
     if is_passed(line) {
         Some(TextLine::Nothing)
@@ -64,9 +64,9 @@ fn is_passed(line: &[u8]) -> bool
 }
 
 // What a line says that isn't passed over.
-#[tactic(auto, unfolding(crate::specs::Line::form_of))]
+#[tactic(auto, unfolding(crate::specs::Line::form_said))]
 fn parse_form(line: &[u8]) -> Option<TextLine<'_>>
-    ensures { option_map line_seen result ≡ form_of (words line.now) }
+    ensures { option_map line_seen result ≡ form_said (words line.now) }
 {
     let (verb, line) = next_word(line)?;
     if is_word(verb, b"write") {
@@ -81,9 +81,9 @@ fn parse_form(line: &[u8]) -> Option<TextLine<'_>>
 }
 
 // The words after `write`.
-#[tactic(auto, unfolding(crate::specs::Line::write_of))]
+#[tactic(auto, unfolding(crate::specs::Line::write_said))]
 fn parse_write(line: &[u8]) -> Option<TextLine<'_>>
-    ensures { option_map line_seen result ≡ write_of (words line.now) }
+    ensures { option_map line_seen result ≡ write_said (words line.now) }
 {
     let (start, line) = parse_start(line)?;
     let beats = count_data_words(line, first_pairs(&start), other_pairs(&start))?;
@@ -96,9 +96,9 @@ fn parse_write(line: &[u8]) -> Option<TextLine<'_>>
 }
 
 // The words after `read`.
-#[tactic(auto, unfolding(crate::specs::Line::read_of))]
+#[tactic(auto, unfolding(crate::specs::Line::read_said))]
 fn parse_read(line: &[u8]) -> Option<TextLine<'_>>
-    ensures { option_map line_seen result ≡ read_of (words line.now) }
+    ensures { option_map line_seen result ≡ read_said (words line.now) }
 {
     let (start, line) = parse_start(line)?;
     let (word, line) = next_word(line)?;
@@ -117,9 +117,9 @@ fn parse_read(line: &[u8]) -> Option<TextLine<'_>>
 }
 
 // The words after `wait`.
-#[tactic(auto, unfolding(crate::specs::Line::wait_of))]
+#[tactic(auto, unfolding(crate::specs::Line::wait_said))]
 fn parse_wait(line: &[u8]) -> Option<TextLine<'_>>
-    ensures { option_map line_seen result ≡ wait_of (words line.now) }
+    ensures { option_map line_seen result ≡ wait_said (words line.now) }
 {
     let (manager, line) = next_word(line)?;
     if has_no_word(line) {

@@ -2,11 +2,11 @@
 
 ghost use Rattle.std.specs.Prelude.{◌≡◌, ◌<◌, option_map};
 ghost use Rattle.plain_text.specs.Lines.{lines};
-ghost use Rattle.traffic.specs.Orders.{is_too_much, issued, order_of, orders_of};
+ghost use Rattle.traffic.specs.Orders.{is_too_much, issued, order_said, orders_of};
 ghost use Rattle.traffic.specs.Seen.{order_seen};
 
 use crate::line::{TextAccess, TextLine, read_line};
-use crate::port::{ManagerPort, place_of};
+use crate::port::{ManagerPort, manager_place};
 use plain_text::lines::next_line;
 
 /// How many transactions a traffic has at most.
@@ -26,18 +26,18 @@ pub(crate) enum TextOrder<'a> {
 
 /// What the line asks, or `None` where it asks nothing, is of none of the forms or names a manager that
 /// isn't there.
-#[tactic(auto, unfolding(crate::specs::Orders::order_of))]
+#[tactic(auto, unfolding(crate::specs::Orders::order_said))]
 pub(crate) fn read_order<'a>(line: &'a [u8], managers: &[ManagerPort<'_>]) -> Option<TextOrder<'a>>
-    ensures { option_map order_seen result ≡ order_of managers.now line.now }
+    ensures { option_map order_seen result ≡ order_said managers.now line.now }
 {
     match read_line(line)? {
         TextLine::Nothing => None,
         TextLine::Wait(name) => {
-            let place = place_of(managers, name)?;
+            let place = manager_place(managers, name)?;
             Some(TextOrder::Hold(place))
         }
         TextLine::Burst(access) => {
-            let place = place_of(managers, access.start.manager)?;
+            let place = manager_place(managers, access.start.manager)?;
             Some(TextOrder::Issue(place, access))
         }
     }

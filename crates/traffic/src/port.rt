@@ -1,7 +1,7 @@
 //! The managers that the lines of a traffic can name.
 
 ghost use Rattle.std.specs.Prelude.{◌≡◌, ◌<◌, All, IfSome, length};
-ghost use Rattle.traffic.specs.Ports.{IsPort, place_of, port_of};
+ghost use Rattle.traffic.specs.Ports.{IsPort, manager_place, named_manager};
 
 use plain_text::words::is_word;
 
@@ -17,8 +17,8 @@ pub struct ManagerPort<'a> {
 }
 
 /// The place of the first manager of this name.
-pub(crate) fn place_of(managers: &[ManagerPort<'_>], name: &[u8]) -> Option<usize>
-    ensures place { result ≡ place_of managers.now name.now }
+pub(crate) fn manager_place(managers: &[ManagerPort<'_>], name: &[u8]) -> Option<usize>
+    ensures place { result ≡ manager_place managers.now name.now }
     ensures inside { IfSome result (λ place. place < length managers.now) }
 {
     managers
@@ -27,12 +27,15 @@ pub(crate) fn place_of(managers: &[ManagerPort<'_>], name: &[u8]) -> Option<usiz
 }
 
 /// The first manager of this name.
-#[tactic(auto, unfolding(crate::specs::Ports::port_of))]
-pub(crate) fn port_of<'a>(managers: &[ManagerPort<'a>], name: &[u8]) -> Option<ManagerPort<'a>>
+#[tactic(auto, unfolding(crate::specs::Ports::named_manager))]
+pub(crate) fn named_manager<'a>(
+    managers: &[ManagerPort<'a>],
+    name: &[u8],
+) -> Option<ManagerPort<'a>>
     requires { All IsPort managers.now }
-    ensures found { result ≡ port_of managers.now name.now }
+    ensures found { result ≡ named_manager managers.now name.now }
     ensures port { IfSome result IsPort }
 {
-    let place = place_of(managers, name)?;
+    let place = manager_place(managers, name)?;
     managers.get(place).copied()
 }

@@ -4,20 +4,20 @@ ghost use Rattle.std.specs.Prelude.{◌≡◌, ◌-◌, ◌<◌, ◌^◌, All, S
 ghost use Rattle.axi_beats.specs.Bus.{IsBusWidth};
 ghost use Rattle.burst_address.specs.Legal.{broken_rule};
 ghost use Rattle.plain_text.specs.Lines.{lines};
-ghost use Rattle.traffic.specs.LineRefusals.{burst_refusal, least, least_refusal, line_refusal, request_of, rule_number};
-ghost use Rattle.traffic.specs.Ports.{IsPort, port_of};
+ghost use Rattle.traffic.specs.LineRefusals.{burst_refusal, lesser_of, least_refusal, line_refusal, request_said, rule_number};
+ghost use Rattle.traffic.specs.Ports.{IsPort, named_manager};
 ghost use Rattle.traffic.specs.Seen.{access_seen};
 
 use crate::line::{TextAccess, TextLine, read_line};
-use crate::port::{ManagerPort, port_of};
+use crate::port::{ManagerPort, named_manager};
 use axi_beats::{Addr, Burst, Tag};
 use burst_address::{BurstRule, legal};
 use plain_text::lines::next_line;
 use refusals::{Cause, Refusal};
 
 // The refusal with the lesser code, and of two with one code the first.
-fn least(first: Option<Refusal>, other: Option<Refusal>) -> Option<Refusal>
-    ensures { result ≡ least first other }
+fn lesser_of(first: Option<Refusal>, other: Option<Refusal>) -> Option<Refusal>
+    ensures { result ≡ lesser_of first other }
 {
     match first {
         Some(earlier) => match other {
@@ -40,7 +40,7 @@ pub(crate) fn least_refusal(text: &[u8], managers: &[ManagerPort<'_>]) -> Option
     let mut rest = text;
     while !rest.is_empty() {
         let (line, more) = next_line(rest);
-        found = least(found, line_refusal(line, number, managers));
+        found = lesser_of(found, line_refusal(line, number, managers));
         number += 1;
         rest = more;
     }
@@ -55,11 +55,11 @@ fn line_refusal(line: &[u8], number: u32, managers: &[ManagerPort<'_>]) -> Optio
     match read_line(line) {
         None => Some(Refusal::at(Cause::BadLine, number)),
         Some(TextLine::Nothing) => None,
-        Some(TextLine::Wait(name)) => match port_of(managers, name) {
+        Some(TextLine::Wait(name)) => match named_manager(managers, name) {
             Some(_) => None,
             None => Some(Refusal::at(Cause::UnknownManager, number)),
         },
-        Some(TextLine::Burst(access)) => match port_of(managers, access.start.manager) {
+        Some(TextLine::Burst(access)) => match named_manager(managers, access.start.manager) {
             Some(manager) => burst_refusal(&access, number, &manager),
             None => Some(Refusal::at(Cause::UnknownManager, number)),
         },
@@ -93,11 +93,11 @@ fn rule_number(rule: BurstRule) -> u8
 // The first rule that a burst breaks on a bus.
 fn broken_rule(access: &TextAccess<'_>, bus: u8) -> Option<BurstRule>
     requires { IsBusWidth bus }
-    ensures { result ≡ broken_rule (request_of (access_seen access.now)) bus }
+    ensures { result ≡ broken_rule (request_said (access_seen access.now)) bus }
 {
     let last = access.beats.saturating_sub(1);
     if last <= 255 {
-        broken_by(&request_of(access, last as u8), bus)
+        broken_by(&request_said(access, last as u8), bus)
     } else {
         too_long(access, bus)
     }
@@ -110,11 +110,11 @@ fn broken_rule(access: &TextAccess<'_>, bus: u8) -> Option<BurstRule>
 fn too_long(access: &TextAccess<'_>, bus: u8) -> Option<BurstRule>
     requires bus { IsBusWidth bus }
     requires long { 256 < access.now.beats }
-    ensures { result ≡ broken_rule (request_of (access_seen access.now)) bus }
+    ensures { result ≡ broken_rule (request_said (access_seen access.now)) bus }
 {
     let one_beat = Addr {
         burst: Burst::Fixed,
-        ..request_of(access, 0)
+        ..request_said(access, 0)
     };
     match broken_by(&one_beat, bus) {
         Some(rule) => Some(rule),
@@ -135,8 +135,8 @@ fn broken_by(request: &Addr, bus: u8) -> Option<BurstRule>
 
 /// The request for a burst, the number of whose last beat is `len`, counted from 0. Its tag isn't used,
 /// since a manager tags its beats itself.
-pub(crate) fn request_of(access: &TextAccess<'_>, len: u8) -> Addr
-    ensures { result ≡ record (request_of (access_seen access.now)) { len = len } }
+pub(crate) fn request_said(access: &TextAccess<'_>, len: u8) -> Addr
+    ensures { result ≡ record (request_said (access_seen access.now)) { len = len } }
 {
     Addr {
         id: access.start.id,

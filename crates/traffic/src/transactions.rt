@@ -3,7 +3,7 @@
 ghost use Rattle.std.specs.Prelude.{◌≡◌, ◌-◌, ◌≤◌, length, Some};
 ghost use Rattle.std.specs.List.{slice_get};
 ghost use Rattle.std.specs.Option.{option_map};
-ghost use Rattle.traffic.specs.Inside.{items_view};
+ghost use Rattle.traffic.specs.Inside.{traffic_items};
 
 use crate::build::Item;
 use manager_end::{Txn, WriteByte};
@@ -21,9 +21,9 @@ impl Model for Traffic {
 
     ghost Value = { List TrafficItem };
 
-    ghost use Rattle.traffic.specs.Inside.{items_view};
+    ghost use Rattle.traffic.specs.Inside.{traffic_items};
 
-    ghost view = { λ traffic. items_view traffic.items.items };
+    ghost view = { λ traffic. traffic_items traffic.items.items };
 
     ghost invariant = { λ traffic. length traffic.items.items ≤ 16384 };
 }
@@ -32,7 +32,7 @@ impl Traffic {
     /// The traffic of these transactions.
     pub(crate) fn from_items(items: Vec<Item>) -> Traffic
         requires { length items.items ≤ 16384 }
-        ensures { result ≡ items_view items.items }
+        ensures { result ≡ traffic_items items.items }
     {
         Traffic { items }
     }

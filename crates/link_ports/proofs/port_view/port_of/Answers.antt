@@ -3,17 +3,17 @@ use Rattle.std.proofs.Common.{◌≡◌, [], ◌∷◌, List, Bool, Option, refl
 use Rattle.std.specs.Prelude.{option_map, slice_get}
 use Rattle.axi_history.specs.declared.port.Seen.{Seen}
 use Rattle.axi_link.specs.Moves.{takes_from}
-use Rattle.link_ports.specs.PortView.{seen_address, seen_itself, seen_read_beat, seen_response, shown}
+use Rattle.link_ports.specs.PortView.{seen_address, seen_itself, seen_read_beat, seen_response, channel_seen}
 use Rattle.link_ports.proofs.port_view.port_of.Goals as goal
 
 -- what a channel shows is its head
-head-shown : {X Y : Type 0} (f : X → Y) (takes : Bool) (queue : List X) → option_map (λ x. record { beat = f x; taken = takes }) (slice_get queue 0) ≡ shown f takes queue
+head-shown : {X Y : Type 0} (f : X → Y) (takes : Bool) (queue : List X) → option_map (λ x. record { beat = f x; taken = takes }) (slice_get queue 0) ≡ channel_seen f takes queue
 head-shown f takes [] = refl
 head-shown f takes (x ∷ queue) = refl
 
 channel :
     {X Y : Type 0} (f : X → Y) (took takes : Bool) (queue : List X) (head : Option X) (seen : Option (Seen Y)) →
-    seen ≡ option_map (λ x. record { beat = f x; taken = took }) head → head ≡ slice_get queue 0 → took ≡ takes → seen ≡ shown f takes queue
+    seen ≡ option_map (λ x. record { beat = f x; taken = took }) head → head ≡ slice_get queue 0 → took ≡ takes → seen ≡ channel_seen f takes queue
 channel f took takes queue head seen is head_is took_is =
     is ∙ ap₂ (λ (t : Bool) (o : Option _). option_map (λ x. record { beat = f x; taken = t }) o) took_is head_is ∙ head-shown f takes queue
 

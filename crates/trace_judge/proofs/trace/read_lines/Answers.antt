@@ -8,7 +8,7 @@ use Rattle.std.specs.Str.Iter.{lines_rest}
 use Rattle.std.specs.Str.Lines.{lines}
 use Rattle.plain_text.specs.Separator.{is_separator}
 use Rattle.axi_history.specs.declared.port.PortRound.{PortRound}
-use Rattle.trace_text.specs.Reading.{line_of}
+use Rattle.trace_text.specs.Reading.{trace_round_of}
 use Rattle.trace_judge.specs.Lines.{taken_after}
 use Rattle.trace_judge.proofs.ReadLemmas.{shown_separator, shown_refused, shown_taken, shown_end, shown_from, was_taken, was_refused, few_lines}
 use Rattle.trace_judge.proofs.trace.read_lines.Goals as goal
@@ -25,7 +25,7 @@ returns-then-not-branch-clause-read c =
     let t = YieldsList-turn (YieldsList-from_lines c.args.text.now (ap lines_rest c.into_iter-line-iterator.ensures.into_iter_gives ∙ c.lines-line-items.ensures.rest)) c.loop-line.yielded c.loop-line.line-iterator c.loop-line.yielded_by c.next.result c.next.new.self c.in-Some.line c.in-Some.is c.next.ensures.steps in
     let s = c.loop-line.invariant.shown in
     let is : is_separator c.in-Some.line.now ≡ false = ap is_separator (sym c.as_bytes.ensures.value) ∙ sym c.if-is_separator.ensures in
-    let refused = was_refused c.in_ok-take_line.field-0 c.take_line.new.self s.0 (taken_after s.0 (line_of c.in-Some.line.now)) c.if-not-branch.true (c.in_ok-take_line.ensures.taken s.0 s.1) in
+    let refused = was_refused c.in_ok-take_line.field-0 c.take_line.new.self s.0 (taken_after s.0 (trace_round_of c.in-Some.line.now)) c.if-not-branch.true (c.in_ok-take_line.ensures.taken s.0 s.1) in
     let same : c.take_line.new.self.lines ≡ c.loop-line.table.lines + 0 = c.in_ok-take_line.ensures.lines ∙ ap (λ b. c.loop-line.table.lines + (if b then 1 else 0)) c.if-not-branch.true in
     let number : length s.0 + 1 ≡ c.take_line.new.self.lines + 1 = omega (arith, s.1.count) in
     sym s.2 ∙ shown_refused s.0 (lines c.args.text.now) (length c.loop-line.yielded) c.in-Some.line.now t is refused ∙ ap (λ (n : ℕ). let r : Result (List PortRound) ℕ = Err n in r) number
@@ -35,7 +35,7 @@ loop-line-preserved c =
     let t = YieldsList-turn (YieldsList-from_lines c.args.text.now (ap lines_rest c.into_iter-line-iterator.ensures.into_iter_gives ∙ c.lines-line-items.ensures.rest)) c.loop-line.yielded c.loop-line.line-iterator c.loop-line.yielded_by c.next.result c.next.new.self c.in-Some.line c.in-Some.is c.next.ensures.steps in
     let s = c.loop-line.invariant.shown in
     let is : is_separator c.in-Some.line.now ≡ false = ap is_separator (sym c.as_bytes.ensures.value) ∙ sym c.if-is_separator.ensures in
-    let took = was_taken c.in_ok-take_line.field-0 c.take_line.new.self s.0 (taken_after s.0 (line_of c.in-Some.line.now)) c.if-not-branch.false (c.in_ok-take_line.ensures.taken s.0 s.1) in
+    let took = was_taken c.in_ok-take_line.field-0 c.take_line.new.self s.0 (taken_after s.0 (trace_round_of c.in-Some.line.now)) c.if-not-branch.false (c.in_ok-take_line.ensures.taken s.0 s.1) in
     let more : c.take_line.new.self.lines ≡ c.loop-line.table.lines + 1 = c.in_ok-take_line.ensures.lines ∙ ap (λ b. c.loop-line.table.lines + (if b then 1 else 0)) c.if-not-branch.false in
     let longer : length (c.loop-line.yielded ++ c.in-Some.line ∷ []) ≡ length c.loop-line.yielded + 1 = length_push c.loop-line.yielded c.in-Some.line in
     let few : c.loop-line.table.lines ≤ length c.loop-line.yielded = c.loop-line.invariant.few in

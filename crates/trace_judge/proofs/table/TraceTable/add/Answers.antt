@@ -2,7 +2,7 @@
 use Rattle.std.proofs.Common.{◌<◌, ◌+◌, ◌^◌, ◌∙◌, sym, subst, refl, arith, List, Option, Some, length}
 use Rattle.axi_history.specs.declared.port.PortRound.{PortRound}
 use Rattle.trace_judge.specs.Entries.{EntryTakes, EntryFollows}
-use Rattle.trace_judge.specs.Table.{entry_of}
+use Rattle.trace_judge.specs.Table.{link_entry}
 use Rattle.trace_judge.specs.declared.link_state.LinkState.{LinkState}
 use Rattle.trace_judge.specs.declared.table.TraceTable.{TraceTable}
 use Rattle.trace_judge.proofs.TableLemmas.{entry_takes, table_grows}
@@ -15,7 +15,7 @@ add_to_link-requires-clause-takes c =
     let s = c.requires.stands.1 in
     let same = c.in_ok-grow.ensures.entries r.link in
     let few : length lines < 2 ^ 25 = omega (arith, s.count, c.requires.few) in
-    subst (λ (e : Option LinkState). EntryTakes e r.kind) (sym same) (entry_takes (entry_of c.args.self.now.links.items r.link) lines r (s.links r.link) c.requires.stands.2 few)
+    subst (λ (e : Option LinkState). EntryTakes e r.kind) (sym same) (entry_takes (link_entry c.args.self.now.links.items r.link) lines r (s.links r.link) c.requires.stands.2 few)
 
 pub returns-clause-stands : goal.returns-clause-stands
 returns-clause-stands c = λ lines s may.

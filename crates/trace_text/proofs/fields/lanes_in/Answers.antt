@@ -1,10 +1,10 @@
 use Rattle.std.proofs.Common.{◌≡◌, ℕ, ◌<◌, ◌+◌, ◌*◌, None, length, rules, arith, sym, subst}
-use Rattle.trace_text.specs.Reading.{lanes_of}
-use Rattle.trace_text.proofs.LanesLaws.{IsReading, IsReading-none, IsReading-more, IsReading-fails, IsReading-ends, lanes_of-other_length, bus_within}
-use Rattle.trace_text.proofs.fields.lanes_of.Goals as goal
+use Rattle.trace_text.specs.Reading.{lanes_in}
+use Rattle.trace_text.proofs.LanesLaws.{IsReading, IsReading-none, IsReading-more, IsReading-fails, IsReading-ends, lanes_in-other_length, bus_within}
+use Rattle.trace_text.proofs.fields.lanes_in.Goals as goal
 
 pub returns-then-word-from : goal.returns-then-word-from
-returns-then-word-from c = sym (lanes_of-other_length c.args.bus c.args.word.now (search rules))
+returns-then-word-from c = sym (lanes_in-other_length c.args.bus c.args.word.now (search rules))
 
 pub loop-lane-init : goal.loop-lane-init
 loop-lane-init c = rw c.zero-lanes.ensures (IsReading-none c.args.word.now)
@@ -12,7 +12,7 @@ loop-lane-init c = rw c.zero-lanes.ensures (IsReading-none c.args.word.now)
 pub returns-in_err-byte : goal.returns-in_err-byte
 returns-in_err-byte c =
     let inside : 2 * c.loop-lane.lane + 1 < length c.args.word.now = omega (arith, c.if-word-from.false, c.from.ensures) in
-    let none : lanes_of c.args.bus c.args.word.now ≡ None = IsReading-fails c.args.word.now c.loop-lane.lane c.args.bus c.loop-lane.lanes c.loop-lane.invariant inside (search rules) in
+    let none : lanes_in c.args.bus c.args.word.now ≡ None = IsReading-fails c.args.word.now c.loop-lane.lane c.args.bus c.loop-lane.lanes c.loop-lane.invariant inside (search rules) in
     search (rules, sym none)
 
 pub loop-lane-preserved : goal.loop-lane-preserved
