@@ -9,7 +9,7 @@ use Rattle.node_core.proofs.RowLemmas.{beat_where-has}
 use Rattle.axi_link.specs.LinkView.{LinkView}
 use Rattle.axi_link.specs.LinkWords.{head_of}
 use Rattle.axi_link.specs.declared.out.Out.{Out}
-use Rattle.link_ports.specs.PortView.{port_of, seen_address, seen_itself, seen_read_beat, seen_response, shown}
+use Rattle.link_ports.specs.PortView.{port_of, seen_address, seen_itself, seen_read_beat, seen_response, channel_seen}
 use Rattle.manager_end.specs.Beats.{data_beat, item_request}
 use Rattle.manager_end.specs.ManagerState.{reads_of, writes_of}
 use Rattle.manager_end.specs.ManagerTable.{manager_out}
@@ -134,9 +134,9 @@ module _ (script : List ScriptItem) (traffic : IsNumberedTraffic script) (fits_b
 
   -- ---- the port
 
-  shown-has : {X Y : Type 0} (P : Y → Type 0) (seen_as : X → Y) (takes : Bool) (queue : List X) → All (λ x. P (seen_as x)) queue → IfSome (shown seen_as takes queue) (λ (seen : Seen Y). P seen.beat)
-  shown-has P seen_as takes [] all = tt
-  shown-has P seen_as takes (x ∷ queue) all = All-head (λ x. P (seen_as x)) x queue all
+  channel_seen-has : {X Y : Type 0} (P : Y → Type 0) (seen_as : X → Y) (takes : Bool) (queue : List X) → All (λ x. P (seen_as x)) queue → IfSome (channel_seen seen_as takes queue) (λ (seen : Seen Y). P seen.beat)
+  channel_seen-has P seen_as takes [] all = tt
+  channel_seen-has P seen_as takes (x ∷ queue) all = All-head (λ x. P (seen_as x)) x queue all
 
   port-in_range : (l : LinkView) (upper lower : Out) (n : ℕ) → suc n < 2 ^ 63 → LinkInRange 4 l → IsTraceRound (port_of (suc n) 0 link_kind l upper lower)
   port-in_range l upper lower n counted range = record {
@@ -144,11 +144,11 @@ module _ (script : List ScriptItem) (traffic : IsNumberedTraffic script) (fits_b
     last_round = counted;
     link = omega arith;
     kind = refl;
-    aw = shown-has _ seen_address _ l.aw range.aw;
-    w = shown-has _ seen_itself _ l.w range.w;
-    b = shown-has _ seen_response _ l.b range.b;
-    ar = shown-has _ seen_address _ l.ar range.ar;
-    r = shown-has _ seen_read_beat _ l.r range.r;
+    aw = channel_seen-has _ seen_address _ l.aw range.aw;
+    w = channel_seen-has _ seen_itself _ l.w range.w;
+    b = channel_seen-has _ seen_response _ l.b range.b;
+    ar = channel_seen-has _ seen_address _ l.ar range.ar;
+    r = channel_seen-has _ seen_read_beat _ l.r range.r;
   }
 
   round-in_range : (n : ℕ) → suc n < 2 ^ 63 → IsTraceRound (port_at (suc n) (after_decide (suc n) (after_rounds n (built_in script))) 0)
