@@ -4,4 +4,4 @@ pub mod LinkForms
 pub mod PlanFacts
 pub mod Uppers
 pub mod Orders
-pub mod Paths
+pub mod PathFacts

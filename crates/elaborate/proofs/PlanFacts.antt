@@ -35,7 +35,7 @@ below-node [] upper lower e = absurd (false≢true e)
 below-node (x ∷ xs) zero lower e = (x, refl, e)
 below-node (x ∷ xs) (suc upper) lower e = below-node xs upper lower e
 
-form-document : (nodes : List DocumentNode) (place inner : ℕ) (node : PlanNode) (k : Kind) → Form nodes place inner node k → node.document ≡ place
+pub form-document : (nodes : List DocumentNode) (place inner : ℕ) (node : PlanNode) (k : Kind) → Form nodes place inner node k → node.document ≡ place
 form-document nodes place inner node k (Own p own first is) = ap (λ (x : PlanNode). x.document) is
 form-document nodes place inner node k (Split p own first is) = ap (λ (x : PlanNode). x.document) is
 form-document nodes place inner node k (Behind p own first is) = ap (λ (x : PlanNode). x.document) is

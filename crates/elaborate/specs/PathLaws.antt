@@ -3,7 +3,7 @@ use Rattle.std.specs.Prelude.{◌≡◌, ◌+◌, ◌/◌, ◌<◌, ℕ, List, S
 use Rattle.node_graph.specs.Graph.{is_in, nodes_below}
 use Rattle.node_graph.specs.Laws.{OrderIsWhole}
 use Rattle.node_graph.specs.Order.{place_in}
-use Rattle.topology.specs.Document.{DocumentNode}
+use Rattle.topology.specs.Document.{DocumentNode, is_manager, node_at}
 use Rattle.topology.specs.Refused.{IsAccepted}
 use Rattle.elaborate.specs.Laws.{is_first}
 use Rattle.elaborate.specs.Path.{path_of, plan_order, target_of}
@@ -21,7 +21,8 @@ is_endpoint other = false
 -- a path begins at its manager
 abbrev pub PathBeginsAtManager : Type 0
 PathBeginsAtManager =
-    (nodes : List DocumentNode) (manager address : ℕ) → manager < length nodes → slice_get (path_of nodes manager address) 0 ≡ Some (first_part nodes manager)
+    (nodes : List DocumentNode) (manager address : ℕ) → manager < length nodes → is_manager (node_at nodes manager).kind ≡ true →
+    slice_get (path_of nodes manager address) 0 ≡ Some (first_part nodes manager)
 
 -- each plan node on it but the first stands below the one before it
 abbrev pub PathFollowsLinks : Type 0
@@ -37,7 +38,9 @@ pub record EndsAtEndpoint (nodes : List DocumentNode) (manager address : ℕ) : 
   pub endpoint : is_endpoint node.part ≡ true
 
 abbrev pub PathEndsAtEndpoint : Type 0
-PathEndsAtEndpoint = (nodes : List DocumentNode) → IsAccepted nodes → (manager address : ℕ) → manager < length nodes → EndsAtEndpoint nodes manager address
+PathEndsAtEndpoint =
+    (nodes : List DocumentNode) → IsAccepted nodes → (manager address : ℕ) → manager < length nodes → is_manager (node_at nodes manager).kind ≡ true →
+    EndsAtEndpoint nodes manager address
 
 -- all addresses of a page have one path
 abbrev pub PageHasOnePath : Type 0

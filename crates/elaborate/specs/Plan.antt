@@ -2,8 +2,9 @@
 use Rattle.std.specs.Prelude.{◌+◌, ◌*◌, ◌++◌, ℕ, suc, List, [], ◌∷◌, Bool, true, false, codes, decimal, flat_map, length, map, slice_index_or, sum, if◌then◌else◌}
 use Rattle.node_graph.specs.Graph.{Graph, numbers}
 use Rattle.node_graph.specs.Order.{place_in}
-use Rattle.topology.specs.Document.{DocumentNode, LinkKind, first_link, inputs_of, link_of, no_link, node_at, plan_nodes_at, targets_of, uppers_of}
+use Rattle.topology.specs.Document.{DocumentNode, first_link, inputs_of, link_of, no_link, node_at, plan_nodes_at, targets_of, uppers_of}
 use Rattle.topology.specs.declared.kind.Kind.{Kind}
+use Rattle.topology.specs.declared.link.LinkKind.{LinkKind}
 use Rattle.topology.specs.declared.kind.Kind.TheVariants as kind
 use Rattle.elaborate.specs.declared.part.Part.{Part}
 use Rattle.elaborate.specs.declared.part.Part.TheVariants as part

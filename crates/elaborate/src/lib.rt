@@ -4,7 +4,7 @@
 
 pub use known::known_plans;
 pub use part::Part;
-pub use path_laws::laws_of_order;
+pub use path_laws::{laws_of_order, laws_of_paths};
 pub use plan_laws::laws;
 
 mod known;

@@ -1,14 +1,14 @@
 -- What is above each node, as it is gathered node by node.
-use Rattle.std.proofs.Common.{◌≡◌, ◌≢◌, ◌<◌, ◌+◌, ◌++◌, ◌||◌, ◌==◌, ℕ, zero, suc, Bool, true, false, cond, List, [], ◌∷◌, length, map, take, drop, get_or, refl, sym, ◌∙◌, ap, ap₂, subst, inl, inr, arith}
+use Rattle.std.proofs.Common.{◌≡◌, ◌≢◌, ◌<◌, ◌≤◌, ◌+◌, ◌++◌, ◌||◌, ◌==◌, ℕ, zero, suc, Bool, true, false, cond, List, [], ◌∷◌, length, map, take, drop, get_or, refl, sym, ◌∙◌, ap, ap₂, subst, inl, inr, arith}
 use Rattle.std.specs.Prelude.{Vec, filter, vec_items}
 use Rattle.std.specs.declared.alloc.Global.{Global}
 use Rattle.std.proofs.Math.ListN.{set, length-set}
-use Rattle.std.proofs.lemmas.Bool.{cases_eq, eq-eqb, ne_eqb, or_parts, true≢false}
+use Rattle.std.proofs.lemmas.Bool.{cases_eq, eq-eqb, ne_eqb, or_left, or_parts, true≢false}
 use Rattle.std.proofs.lemmas.List.{append-nil, get_or-set_same, get_or-set_other, map-set, take_more}
 use Rattle.std.specs.List.{range_with_len}
-use Rattle.std.proofs.lemmas.List.FromFn.{filter_of_map_range_with_len_more}
+use Rattle.std.proofs.lemmas.List.FromFn.{filter_of_map_range_with_len_more, length-range_with_len}
 use Rattle.std.proofs.lemmas.List.Folds.{list_any-append}
-use Rattle.node_graph.specs.Graph.{Graph, is_in, nodes_below, numbers}
+use Rattle.node_graph.specs.Graph.{Graph, is_in, nodes_above, nodes_below, numbers}
 use Rattle.node_graph.specs.Inside.{AddsUpper, HasAbove}
 use Rattle.node_graph.specs.Order.{repeats}
 use Rattle.node_graph.specs.Simple.{lists_in}
@@ -34,6 +34,9 @@ in-more-same xs i x less same = in-more xs i x less ∙ or-some (is_in (take i x
 
 pub in-more-other : (xs : List ℕ) (i x : ℕ) → i < length xs → get_or xs i 0 ≢ x → is_in (take (i + 1) xs) x ≡ is_in (take i xs) x
 in-more-other xs i x less other = in-more xs i x less ∙ or-none (is_in (take i xs) x) (get_or xs i 0 == x) (ne_eqb (get_or xs i 0) x other)
+
+pub in-longer : (xs : List ℕ) (i x : ℕ) → i < length xs → is_in (take i xs) x ≡ true → is_in (take (i + 1) xs) x ≡ true
+in-longer xs i x less there = in-more xs i x less ∙ or_left (is_in (take i xs) x) (get_or xs i 0 == x) there
 
 pub get-in : (xs : List ℕ) (i : ℕ) → i < length xs → is_in xs (get_or xs i 0) ≡ true
 get-in [] i less = absurd (omega (arith, less))
@@ -98,15 +101,11 @@ map-same : (xs : List ℕ) → map (λ (x : ℕ). x) xs ≡ xs
 map-same [] = refl
 map-same (x ∷ xs) = ap (λ (ys : List ℕ). x ∷ ys) (map-same xs)
 
-filter_of_range : (graph : Graph) (node upper : ℕ) → filter (λ other. is_in (nodes_below graph other) node) (range_with_len 0 (upper + 1))
-    ≡ filter (λ other. is_in (nodes_below graph other) node) (range_with_len 0 upper) ++ (cond (is_in (nodes_below graph upper) node) (upper ∷ []) [])
-filter_of_range graph node upper =
-    ap (filter p) (sym (map-same (range_with_len 0 (upper + 1))))
-    ∙ filter_of_map_range_with_len_more p (λ (x : ℕ). x) 0 upper upper (omega arith)
-    ∙ ap (λ (xs : List ℕ). filter p xs ++ (cond (p upper) (upper ∷ []) [])) (map-same (range_with_len 0 upper))
-  where
-    p : ℕ → Bool
-    p other = is_in (nodes_below graph other) node
+pub filter_of_range : (p : ℕ → Bool) (count : ℕ) → filter p (range_with_len 0 (count + 1)) ≡ filter p (range_with_len 0 count) ++ (cond (p count) (count ∷ []) [])
+filter_of_range p count =
+    ap (filter p) (sym (map-same (range_with_len 0 (count + 1))))
+    ∙ filter_of_map_range_with_len_more p (λ (x : ℕ). x) 0 count count (omega arith)
+    ∙ ap (λ (xs : List ℕ). filter p xs ++ (cond (p count) (count ∷ []) [])) (map-same (range_with_len 0 count))
 
 -- so many nodes have been gone through, and now one more
 pub above-none : (graph : Graph) (lists : List (List ℕ)) → length lists ≡ length graph → ((node : ℕ) → get_or lists node [] ≡ []) → HasAbove graph 0 lists
@@ -121,7 +120,7 @@ above-more graph upper before after has adds = record {
       let inside : node < length before = omega (arith, less, has.long) in
       adds.each node inside
       ∙ ap (λ (list : List ℕ). list ++ (cond (is_in (nodes_below graph upper) node) (upper ∷ []) [])) (has.each node less)
-      ∙ sym (filter_of_range graph node upper);
+      ∙ sym (filter_of_range (λ other. is_in (nodes_below graph other) node) upper);
 }
 
 -- what was lent to a call comes back whole
@@ -142,3 +141,17 @@ taken-back n new old same is =
 pub length-lists : (vectors : List (Vec ℕ Global)) → length (lists_in vectors) ≡ length vectors
 length-lists [] = refl
 length-lists (v ∷ vectors) = ap suc (length-lists vectors)
+
+-- no more nodes are above one than there are
+filter-few : (p : ℕ → Bool) (xs : List ℕ) → length (filter p xs) ≤ length xs
+filter-few p [] = omega arith
+filter-few p (x ∷ xs) = kept (p x) (filter-few p xs)
+  where
+    kept : (b : Bool) → length (filter p xs) ≤ length xs → length (cond b (x ∷ filter p xs) (filter p xs)) ≤ length (x ∷ xs)
+    kept true few = omega (arith, few)
+    kept false few = omega (arith, few)
+
+pub above-few : (graph : Graph) (node : ℕ) → length (nodes_above graph node) ≤ length graph
+unfolding numbers
+above-few graph node =
+    omega (arith, filter-few (λ other. is_in (nodes_below graph other) node) (range_with_len 0 (length graph)), length-range_with_len 0 (length graph))

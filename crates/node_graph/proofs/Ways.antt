@@ -25,18 +25,18 @@ module _ (graph : Graph) where
 
   -- ---- ways down
 
-  link-way : (links from to : ℕ) → is_in (nodes_below graph from) to ≡ true → has_way graph (suc links) from to ≡ true
+  pub link-way : (links from to : ℕ) → is_in (nodes_below graph from) to ≡ true → has_way graph (suc links) from to ≡ true
   unfolding has_way
   link-way links from to e =
       passes-some (λ next. next == to || has_way graph links next to) (nodes_below graph from) to e (or_left (to == to) (has_way graph links to to) (eq-eqb to to refl))
 
   -- a way begins with a link, which is all of it, or before the rest
-  record Begins (links from to : ℕ) : Type 0 where
-    next : ℕ
-    link : is_in (nodes_below graph from) next ≡ true
-    rest : (next ≡ to) ⊎ (has_way graph links next to ≡ true)
+  pub record Begins (links from to : ℕ) : Type 0 where
+    pub next : ℕ
+    pub link : is_in (nodes_below graph from) next ≡ true
+    pub rest : (next ≡ to) ⊎ (has_way graph links next to ≡ true)
 
-  begins : (links from to : ℕ) → has_way graph (suc links) from to ≡ true → Begins links from to
+  pub begins : (links from to : ℕ) → has_way graph (suc links) from to ≡ true → Begins links from to
   unfolding has_way
   begins links from to e =
       let found : Passes (λ next. next == to || has_way graph links next to) (nodes_below graph from) true =
@@ -55,7 +55,7 @@ module _ (graph : Graph) where
   more-way links from next to link e =
       passes-some (λ other. other == to || has_way graph links other to) (nodes_below graph from) next link (or_right (next == to) (has_way graph links next to) e)
 
-  way-more : (links from to next : ℕ) → has_way graph links from to ≡ true → is_in (nodes_below graph to) next ≡ true → has_way graph (suc links) from next ≡ true
+  pub way-more : (links from to next : ℕ) → has_way graph links from to ≡ true → is_in (nodes_below graph to) next ≡ true → has_way graph (suc links) from next ≡ true
   unfolding has_way
   way-more zero from to next e link = absurd (false≢true e)
   way-more (suc links) from to next e link =

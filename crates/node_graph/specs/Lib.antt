@@ -3,3 +3,5 @@ pub mod Order
 pub mod Laws
 pub mod Simple
 pub mod Inside
+pub mod Visits
+pub mod Search

@@ -3,6 +3,7 @@ use Rattle.std.specs.Prelude.{◌≡◌, ◌<◌, ℕ, List, true, false, length
 use Rattle.std.specs.Prelude.{Vec, vec_items}
 use Rattle.std.specs.declared.alloc.Global.{Global}
 use Rattle.node_graph.specs.Graph.{Graph, is_in, nodes_above, nodes_below}
+use Rattle.node_graph.specs.Laws.{IsAcyclic}
 use Rattle.node_graph.specs.Order.{repeats}
 
 -- the lists in some vectors
@@ -20,3 +21,7 @@ pub record LeadsDown (graph : Graph) (order : List ℕ) : Type 0 where
   pub whole : (node : ℕ) → node < length graph → is_in order node ≡ true
   pub once : repeats order ≡ false
   pub down : (place upper : ℕ) → place < length order → is_in (nodes_above graph (slice_index_or order place 0)) upper ≡ true → is_in (take place order) upper ≡ true
+
+-- some node stands on a cycle
+abbrev pub HasCycle : Graph → Type 0
+HasCycle graph = IsAcyclic graph → ⊥

@@ -51,18 +51,39 @@ impl NodeGraph {
         self.below.len() as u32
     }
 
-    /// The nodes below a node.
+    /// The nodes below a node, each of which is a node of the graph and stands there once.
     pub fn below(&self, node: u32) -> &[u32]
         requires { node < length self.now }
-        ensures { result.now ≡ nodes_below self.now node }
+        ensures nodes { result.now ≡ nodes_below self.now node }
+        ensures known { (lower : ℕ) → is_in result.now lower ≡ true → lower < length self.now }
+        ensures once { repeats result.now ≡ false }
     {
-        &self.below[node as usize]
+        self.lowers(node)
     }
 
     /// The nodes above a node, in order of number.
     pub fn above(&self, node: u32) -> &[u32]
         requires { node < length self.now }
-        ensures { result.now ≡ nodes_above self.now node }
+        ensures nodes { result.now ≡ nodes_above self.now node }
+        ensures few { length result.now < 2 ^ 32 }
+    {
+        self.uppers(node)
+    }
+
+    // The nodes below a node.
+    fn lowers(&self, node: u32) -> &[u32]
+        requires { node < length self.now }
+        ensures nodes { result.now ≡ nodes_below self.now node }
+        ensures simple { IsSimple self.now }
+    {
+        &self.below[node as usize]
+    }
+
+    // The nodes above a node.
+    fn uppers(&self, node: u32) -> &[u32]
+        requires { node < length self.now }
+        ensures nodes { result.now ≡ nodes_above self.now node }
+        ensures few { length self.now < 2 ^ 32 }
     {
         &self.above[node as usize]
     }

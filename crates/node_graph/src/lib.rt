@@ -4,5 +4,7 @@
 pub use graph::NodeGraph;
 pub use graph_laws::laws;
 
+mod cycle;
 mod graph;
 mod graph_laws;
+mod order;

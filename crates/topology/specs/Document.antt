@@ -2,6 +2,7 @@
 use Rattle.std.specs.Prelude.{◌==◌, ◌+◌, ◌-◌, ◌*◌, ◌/◌, ℕ, zero, suc, List, [], ◌∷◌, Bool, true, false, Option, length, filter_map, map, max, bytes_eq, position, slice_index_or, if◌then◌else◌}
 use Rattle.node_graph.specs.Graph.{Graph, each_once, handed_down, nodes_above}
 use Rattle.topology.specs.declared.kind.Kind.{Kind}
+pub use Rattle.topology.specs.declared.link.LinkKind.{LinkKind}
 use Rattle.topology.specs.declared.kind.Kind.TheVariants.{Manager, Memory, LiteMemory, Slice, Mux, Demux, Crossbar, Remap, Up, Down, Lite}
 use Rattle.topology.specs.declared.kind.Span.{Span}
 
@@ -100,12 +101,6 @@ abbrev pub uppers_of : List DocumentNode → ℕ → List ℕ
 uppers_of nodes place = nodes_above (graph_of nodes) place
 
 -- ---- what links are
-
--- a link's protocol, the bytes of its bus, and the bits of its IDs
-pub record LinkKind : Type 0 where
-  pub lite : Bool
-  pub bus : ℕ
-  pub id_width : ℕ
 
 abbrev pub no_link : LinkKind
 no_link = record { lite = false; bus = 0; id_width = 0 }

@@ -6,3 +6,4 @@ pub mod Refused
 pub mod Shape
 pub mod Seen
 pub mod Node
+pub mod Wiring

@@ -1,0 +1,26 @@
+-- A wiring: the nodes of an accepted document, with what is found of them once.
+use Rattle.std.specs.Prelude.{◌≡◌, ◌&&◌, ℕ, List, Option, Vec, bytes_eq, length, map, position, unwrap_or, vec_items}
+use Rattle.std.specs.declared.alloc.Global.{Global}
+use Rattle.address_map.specs.declared.region.Region.{Region}
+use Rattle.node_graph.specs.Graph.{Graph, numbers}
+use Rattle.topology.specs.Document.{DocumentNode, LinkKind, NamedRegion, graph_of, is_manager, link_of, named}
+use Rattle.topology.specs.Refused.{IsAccepted}
+
+-- the regions of a node, each with its target
+abbrev pub regions_of : List DocumentNode → DocumentNode → List Region
+regions_of nodes node = map (λ (region : NamedRegion). record { base = region.base; size = region.size; port = unwrap_or (named nodes region.to) 0 }) node.region
+
+-- the manager of a name
+abbrev pub manager_named : List DocumentNode → List ℕ → Option ℕ
+manager_named nodes name = position (λ (node : DocumentNode). is_manager node.kind && bytes_eq node.name name) nodes
+
+-- the lists of regions in some vectors
+abbrev pub region_lists : List (Vec Region Global) → List (List Region)
+region_lists vectors = map vec_items vectors
+
+-- what is kept beside the nodes is what the definitions make of them, and the document is accepted
+pub record IsWired (nodes : List DocumentNode) (graph : Graph) (links : List LinkKind) (regions : List (List Region)) : Type 0 where
+  pub accepted : IsAccepted nodes
+  pub joined_so : graph ≡ graph_of nodes
+  pub links_are : links ≡ map (link_of nodes) (numbers (length nodes))
+  pub regions_are : regions ≡ map (regions_of nodes) nodes
