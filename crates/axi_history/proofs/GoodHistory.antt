@@ -5,7 +5,8 @@ use Rattle.std.specs.List.{AllByRecursion}
 use Rattle.std.proofs.lemmas.List.Elements.{All-from_recursion, All-nil}
 use Rattle.axi_beats.specs.declared.response.Resp.TheVariants.{Okay, DecErr}
 use Rattle.axi_history.specs.Answered.{Answered, HasItsBytes, IsAnsweredBefore, IsIssuedBefore, WaitsForAnswers, transactions_by}
-use Rattle.axi_history.specs.Delivered.{Delivered, HasAnswer, IsBeginningOf, IsOf, access_due, access_made, is_write_at}
+use Rattle.plain_lists.specs.Prefixes.{IsPrefix}
+use Rattle.axi_history.specs.Delivered.{Delivered, HasAnswer, IsOf, access_due, access_made, is_write_at}
 use Rattle.burst_address.specs.Accesses.{value_after}
 use Rattle.axi_history.specs.KnownHistories.{GoodHistory, answer, five_transactions, fixed_write, good_answers, good_events, good_issues, issue, other_read, read_outside, read_over_the_end, second_read}
 use Rattle.axi_history.specs.Records.{Answer, Event, Issue, Transaction, bytes_due, events_of}
@@ -13,8 +14,8 @@ use Rattle.axi_history.proofs.KnownHistoryLemmas.{EachBetween, five, four, no, o
 
 -- ---- Delivery
 
-in-burst-order : (t : Transaction) → map access_made (events_of t.number good_events) ≡ map access_due (bytes_due t) → IsBeginningOf (map access_made (events_of t.number good_events)) (map access_due (bytes_due t))
-in-burst-order t whole = ([], sym whole ∙ sym (append-nil (map access_made (events_of t.number good_events))))
+in-burst-order : (t : Transaction) → map access_made (events_of t.number good_events) ≡ map access_due (bytes_due t) → IsPrefix (map access_made (events_of t.number good_events)) (map access_due (bytes_due t))
+in-burst-order t whole = record { rest = []; whole = sym whole ∙ sym (append-nil (map access_made (events_of t.number good_events))) }
 
 abbrev SeesLatest : Transaction → List Event → Event → List Event → Type 0
 SeesLatest t earlier e later = e.number ≡ t.number → e.write ≡ false → e.value ≡ value_after (is_write_at e.node e.address) (λ (x : Event). x.value) t.fill earlier
@@ -31,7 +32,7 @@ good-delivered = record {
       (2, other_read, omega arith, refl, (refl, refl, refl))
       (1, read_over_the_end, omega arith, refl, (refl, refl, refl))
       (3, second_read, omega arith, refl, (refl, refl, refl)));
-  in_burst_order = of-five (λ t. IsBeginningOf (map access_made (events_of t.number good_events)) (map access_due (bytes_due t)))
+  in_burst_order = of-five (λ t. IsPrefix (map access_made (events_of t.number good_events)) (map access_due (bytes_due t)))
       (in-burst-order fixed_write refl) (in-burst-order read_over_the_end refl) (in-burst-order other_read refl) (in-burst-order second_read refl) (in-burst-order read_outside refl);
   whole = of-five (λ t. HasAnswer t good_answers → map access_made (events_of t.number good_events) ≡ map access_due (bytes_due t)) (λ _. refl) (λ _. refl) (λ _. refl) (λ _. refl) (λ _. refl);
   reads_latest = of-five (λ t. (earlier later : List Event) (e : Event) → good_events ≡ earlier ++ e ∷ later → e.number ≡ t.number → e.write ≡ false → e.value ≡ value_after (is_write_at e.node e.address) (λ (x : Event). x.value) t.fill earlier)

@@ -3,12 +3,8 @@
 -- (Arm IHI 0022, transaction ordering.)
 use Rattle.std.specs.Prelude.{◌≡◌, ◌==◌, ◌&&◌, ◌++◌, ◌∷◌, [], ℕ, List, Bool, false, Option, Some, None, All, Any, map, if◌then◌else◌}
 use Rattle.burst_address.specs.Accesses.{value_after}
+use Rattle.plain_lists.specs.Prefixes.{IsPrefix}
 use Rattle.axi_history.specs.Records.{NamedByte, Transaction, Event, Answer, events_of, bytes_due}
-
-module _ {X : Type 0} where
-  -- the list begins with these
-  abbrev pub IsBeginningOf : List X → List X → Type 0
-  IsBeginningOf front whole = (rest : List X) × (whole ≡ front ++ rest)
 
 -- the transaction has its answer
 abbrev pub HasAnswer : Transaction → List Answer → Type 0
@@ -35,7 +31,7 @@ pub record Delivered (transactions : List Transaction) (events : List Event) (an
   -- no access is of nobody, of the wrong direction or at the wrong place
   pub belongs : All (IsOf transactions) events
   -- the accesses of a transaction are its due bytes from the first on, each once, in burst order
-  pub in_burst_order : All (λ (t : Transaction). IsBeginningOf (map access_made (events_of t.number events)) (map access_due (bytes_due t))) transactions
+  pub in_burst_order : All (λ (t : Transaction). IsPrefix (map access_made (events_of t.number events)) (map access_due (bytes_due t))) transactions
   -- and all of them once it is answered
   pub whole : All (λ (t : Transaction). HasAnswer t answers → map access_made (events_of t.number events) ≡ map access_due (bytes_due t)) transactions
   -- a read sees what the latest write before it wrote there, and else the subordinate's fill byte

@@ -33,8 +33,8 @@ address id start len size burst =
 abbrev pub locked : RawAddr → RawAddr
 locked a = record a { lock = true }
 
-abbrev pub data_beat : ℕ → Bool → WBeat
-data_beat strobe last = record { lanes = replicate 128 0; strobe = strobe; last = last; tag = no_tag }
+abbrev pub offered_data : ℕ → Bool → WBeat
+offered_data strobe last = record { lanes = replicate 128 0; strobe = strobe; last = last; tag = no_tag }
 
 abbrev pub response : ℕ → ℕ → RawB
 response id resp = record { id = id; resp = resp; tag = no_tag }
@@ -93,20 +93,20 @@ Addresses =
 -- data that is withdrawn
 abbrev pub WriteData : Type 0
 WriteData =
-    IsLegalTrace (w (taken (data_beat 8 false)) ∷ w (waits (data_beat 3 true)) ∷ record (w (taken (data_beat 3 true))) { aw = waits (address 0 3 1 2 1) } ∷ [])
-    × Breaks 2 9 (w (taken (data_beat 8 false)) ∷ w (taken (data_beat 3 false)) ∷ aw (waits (address 0 3 1 2 1)) ∷ [])
-    × Breaks 2 9 (aw (taken (address 0 3 1 2 1)) ∷ w (waits (data_beat 8 true)) ∷ [])
-    × Breaks 2 10 (w (taken (data_beat 4 false)) ∷ w (taken (data_beat 3 true)) ∷ aw (waits (address 0 3 1 2 1)) ∷ [])
-    × Breaks 2 9 (w (taken (data_beat 4 false)) ∷ w (taken (data_beat 3 false)) ∷ aw (waits (address 0 3 1 2 1)) ∷ [])
-    × Breaks 2 1 (w (waits (data_beat 8 false)) ∷ aw (taken (address 0 3 1 2 1)) ∷ [])
+    IsLegalTrace (w (taken (offered_data 8 false)) ∷ w (waits (offered_data 3 true)) ∷ record (w (taken (offered_data 3 true))) { aw = waits (address 0 3 1 2 1) } ∷ [])
+    × Breaks 2 9 (w (taken (offered_data 8 false)) ∷ w (taken (offered_data 3 false)) ∷ aw (waits (address 0 3 1 2 1)) ∷ [])
+    × Breaks 2 9 (aw (taken (address 0 3 1 2 1)) ∷ w (waits (offered_data 8 true)) ∷ [])
+    × Breaks 2 10 (w (taken (offered_data 4 false)) ∷ w (taken (offered_data 3 true)) ∷ aw (waits (address 0 3 1 2 1)) ∷ [])
+    × Breaks 2 9 (w (taken (offered_data 4 false)) ∷ w (taken (offered_data 3 false)) ∷ aw (waits (address 0 3 1 2 1)) ∷ [])
+    × Breaks 2 1 (w (waits (offered_data 8 false)) ∷ aw (taken (address 0 3 1 2 1)) ∷ [])
 
 -- a response one round after the last data, in the same round, and before the data; EXOKAY; a response of another ID;
 -- a second response to one write; a response that changes while it waits
 abbrev pub Responses : Type 0
 Responses =
-    let write = aw (taken (address 2 0 0 2 1)) ∷ w (taken (data_beat 15 true)) ∷ [] in
+    let write = aw (taken (address 2 0 0 2 1)) ∷ w (taken (offered_data 15 true)) ∷ [] in
     IsLegalTrace (write ++ b (taken (response 2 0)) ∷ [])
-    × Breaks 3 11 (aw (taken (address 2 0 0 2 1)) ∷ record (w (taken (data_beat 15 true))) { b = taken (response 2 0) } ∷ [])
+    × Breaks 3 11 (aw (taken (address 2 0 0 2 1)) ∷ record (w (taken (offered_data 15 true))) { b = taken (response 2 0) } ∷ [])
     × Breaks 3 11 (aw (taken (address 2 0 0 2 1)) ∷ b (waits (response 2 0)) ∷ [])
     × Breaks 3 8 (write ++ b (taken (response 2 1)) ∷ [])
     × Breaks 3 11 (write ++ b (taken (response 3 0)) ∷ [])

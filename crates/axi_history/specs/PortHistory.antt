@@ -1,6 +1,6 @@
 -- What is seen of a port, round by round: the words that the rules of a port are said in. A history is a plain
 -- list of rounds, the earliest first. (Arm IHI 0022, basic read and write transactions.)
-use Rattle.std.specs.Prelude.{ℕ, ◌+◌, ◌-◌, ◌==◌, ◌++◌, ◌∷◌, [], List, Bool, false, Option, Some, None, filter, filter_map, count_by, take, nat_lt, if◌then◌else◌}
+use Rattle.std.specs.Prelude.{ℕ, ◌+◌, ◌-◌, ◌==◌, ◌++◌, ◌∷◌, [], List, Bool, false, Option, Some, None, filter_map, count_by, take, nat_lt, if◌then◌else◌}
 use Rattle.std.specs.Option.{option_to_list}
 use Rattle.axi_beats.specs.declared.beat.WBeat.{WBeat}
 use Rattle.axi_history.specs.declared.port.PortRound.{PortRound}
@@ -38,10 +38,6 @@ module _ {X : Type 0} where
   -- the beats that a channel has offered, in order: those that it has transferred, and the one that waits
   abbrev pub offered : (PortRound → Option (Seen X)) → List PortRound → List X
   offered channel history = transferred channel history ++ option_to_list (waiting channel history)
-
-  -- the beats of one ID
-  abbrev pub of_id : (X → ℕ) → ℕ → List X → List X
-  of_id id_of id beats = filter (λ beat. id_of beat == id) beats
 
 -- the five channels of a port
 abbrev pub on_aw : PortRound → Option (Seen RawAddr)

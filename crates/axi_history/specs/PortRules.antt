@@ -14,11 +14,12 @@ use Rattle.axi_beats.specs.declared.beat.WBeat.{WBeat}
 use Rattle.burst_address.specs.Formulas.{beats_of, size_of}
 use Rattle.burst_address.specs.Lanes.{first_lane, last_lane}
 use Rattle.burst_address.specs.Legal.{is_in_page, is_length_of, is_start_of, is_too_wide}
+use Rattle.plain_lists.specs.Keys.{of_key}
 use Rattle.axi_history.specs.declared.port.PortRound.{PortRound}
 use Rattle.axi_history.specs.declared.port.RawAddr.{RawAddr}
 use Rattle.axi_history.specs.declared.port.RawB.{RawB}
 use Rattle.axi_history.specs.declared.port.RawR.{RawR}
-use Rattle.axi_history.specs.PortHistory.{offer_of, transferred, waiting, offered, of_id, on_aw, on_w, on_b, on_ar, on_r, beats_asked, bursts, whole_writes, ends_a_request}
+use Rattle.axi_history.specs.PortHistory.{offer_of, transferred, waiting, offered, on_aw, on_w, on_b, on_ar, on_r, beats_asked, bursts, whole_writes, ends_a_request}
 
 -- ---- The same beat in two rounds: equal in every field
 
@@ -165,17 +166,17 @@ strobes_are_on_valid_lanes bus history =
 
 -- the writes, the responses and the read beats of an ID, in order
 abbrev pub writes_of : ℕ → List RawAddr → List RawAddr
-writes_of id writes = of_id (λ (a : RawAddr). a.id) id writes
+writes_of id writes = of_key (λ (a : RawAddr). a.id) id writes
 
 abbrev pub responses_of : ℕ → List RawB → List RawB
-responses_of id responses = of_id (λ (b : RawB). b.id) id responses
+responses_of id responses = of_key (λ (b : RawB). b.id) id responses
 
 abbrev pub read_beats_of : ℕ → List RawR → List RawR
-read_beats_of id beats = of_id (λ (r : RawR). r.id) id beats
+read_beats_of id beats = of_key (λ (r : RawR). r.id) id beats
 
 -- the numbers of beats of the reads of an ID, in order
 abbrev pub reads_of : ℕ → List RawAddr → List ℕ
-reads_of id reads = map beats_asked (of_id (λ (a : RawAddr). a.id) id reads)
+reads_of id reads = map beats_asked (of_key (λ (a : RawAddr). a.id) id reads)
 
 -- 11: a write response of an ID is offered only where earlier rounds have transferred fewer responses of that ID
 -- than addresses of it whose last W beat they have transferred too

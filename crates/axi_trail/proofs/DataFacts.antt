@@ -5,7 +5,7 @@ use Rattle.std.proofs.lemmas.List.{length-map, take-map}
 use Rattle.axi_beats.specs.declared.beat.Addr.{Addr}
 use Rattle.axi_trail.specs.ContractLaws.{AnsweredHaveTheirData}
 use Rattle.axi_trail.specs.Waiting.{complete}
-use Rattle.axi_trail.specs.Words.{Mark, Asked, Reply, InOrderOfId, completed, marks, marks_of, beats_of, data_marks, write_asked, burst_asked, write_reply, write_replies, mark_of_data, number_of_mark, number_of_asked, number_of_reply, number_of_address, number_of_data, number_of_response, id_of_asked, id_of_reply, len_of_asked}
+use Rattle.axi_trail.specs.Words.{Mark, Asked, Reply, InOrderOfId, completed, marks, marks_of, beats_due, data_marks, write_asked, burst_asked, write_reply, write_replies, mark_of_data, number_of_mark, number_of_asked, number_of_reply, number_of_address, number_of_data, number_of_response, id_of_asked, id_of_reply, len_of_asked}
 use Rattle.axi_trail.proofs.FilterFacts.{length-marks, ids_of_beats, length-ids_of_beats, count_of-ids_of_beats}
 use Rattle.axi_trail.proofs.MarkFacts.{completed_are_complete}
 use Rattle.axi_trail.proofs.OrderFacts.{at_most_asked, own_ids, own_beats}
@@ -17,10 +17,10 @@ use Rattle.plain_lists.proofs.PrefixLemmas.{agree_prefix, prefix_total, prefix_l
 use Rattle.plain_lists.proofs.PartLemmas.{length-take_le}
 
 -- a transaction has no more answers than its requests ask for
-pub own_answers_within : (asked : List Asked) (replies : List Reply) (t : ℕ) → InOrderOfId asked replies → length (of_key number_of_reply t replies) ≤ beats_of (of_key number_of_asked t asked)
+pub own_answers_within : (asked : List Asked) (replies : List Reply) (t : ℕ) → InOrderOfId asked replies → length (of_key number_of_reply t replies) ≤ beats_due (of_key number_of_asked t asked)
 own_answers_within asked replies t order =
     let fewer : (i : ℕ) → count_of i (map id_of_reply (of_key number_of_reply t replies)) ≤ count_of i (ids_of_beats (of_key number_of_asked t asked)) = λ i.
-    omega (arith, own_ids i t replies, at_most_asked asked replies order t i, count_of-ids_of_beats i (of_key number_of_asked t asked), ap beats_of (of_key-of_key id_of_asked number_of_asked i t asked)) in
+    omega (arith, own_ids i t replies, at_most_asked asked replies order t i, count_of-ids_of_beats i (of_key number_of_asked t asked), ap beats_due (of_key-of_key id_of_asked number_of_asked i t asked)) in
     omega (
       arith,
       length-by_counts (map id_of_reply (of_key number_of_reply t replies)) (ids_of_beats (of_key number_of_asked t asked)) fewer,
@@ -29,9 +29,9 @@ own_answers_within asked replies t order =
     )
 
 -- a write asks for one answer
-pub beats_of-writes : (addresses : List Addr) → beats_of (map write_asked addresses) ≡ length addresses
-beats_of-writes [] = refl
-beats_of-writes (a ∷ addresses) = omega (arith, beats_of-writes addresses)
+pub beats_due-writes : (addresses : List Addr) → beats_due (map write_asked addresses) ≡ length addresses
+beats_due-writes [] = refl
+beats_due-writes (a ∷ addresses) = omega (arith, beats_due-writes addresses)
 
 -- the data of completed addresses has passed
 completed_marks : (addresses : List Addr) (passed : List Mark) → Agree passed (marks (map burst_asked addresses)) → IsPrefix (marks (map burst_asked (completed addresses passed))) passed
@@ -44,7 +44,7 @@ completed_marks addresses passed agree =
           let front : IsPrefix passed (marks (map burst_asked addresses)) = agree_prefix passed (marks (map burst_asked addresses)) agree (omega arith) in
           let whole : map burst_asked (completed addresses passed) ≡ complete len_of_asked (length passed) (map burst_asked addresses) =
           sym (take-map burst_asked (length (filter (λ (m : Mark). m.last) passed)) addresses) ∙ completed_are_complete (map burst_asked addresses) passed front in
-          prefix_total among front (omega (arith, length-marks (map burst_asked (completed addresses passed)), ap beats_of whole, complete-beats len_of_asked (length passed) (map burst_asked addresses)))
+          prefix_total among front (omega (arith, length-marks (map burst_asked (completed addresses passed)), ap beats_due whole, complete-beats len_of_asked (length passed) (map burst_asked addresses)))
     ]
 
 -- the requests of a transaction, each shown as one answer or as its burst
@@ -56,9 +56,9 @@ same_lengths t addresses =
     ap length (own_writes t addresses) ∙ length-map (of_key number_of_address t addresses) write_asked
     ∙ sym (ap length (of_key-map number_of_asked burst_asked t addresses) ∙ length-map (of_key number_of_address t addresses) burst_asked)
 
-single_beats : (t : ℕ) (addresses : List Addr) → beats_of (of_key number_of_asked t (map write_asked addresses)) ≡ length (of_key number_of_asked t (map write_asked addresses))
+single_beats : (t : ℕ) (addresses : List Addr) → beats_due (of_key number_of_asked t (map write_asked addresses)) ≡ length (of_key number_of_asked t (map write_asked addresses))
 single_beats t addresses =
-    ap beats_of (own_writes t addresses) ∙ beats_of-writes (of_key number_of_address t addresses)
+    ap beats_due (own_writes t addresses) ∙ beats_due-writes (of_key number_of_address t addresses)
     ∙ sym (ap length (own_writes t addresses) ∙ length-map (of_key number_of_address t addresses) write_asked)
 
 pub answered_have_their_data : AnsweredHaveTheirData
@@ -68,7 +68,7 @@ answered_have_their_data schedule now trail asks answers t =
     prefix_of_key number_of_asked t (prefix_map burst_asked front) in
     let as_writes : length (of_key number_of_asked t (map write_asked (completed trail.aw (data_marks trail)))) ≡ length (of_key number_of_asked t (map burst_asked (completed trail.aw (data_marks trail)))) =
     same_lengths t (completed trail.aw (data_marks trail)) in
-    let singles : beats_of (of_key number_of_asked t (map write_asked (completed trail.aw (data_marks trail)))) ≡ length (of_key number_of_asked t (map write_asked (completed trail.aw (data_marks trail)))) =
+    let singles : beats_due (of_key number_of_asked t (map write_asked (completed trail.aw (data_marks trail)))) ≡ length (of_key number_of_asked t (map write_asked (completed trail.aw (data_marks trail)))) =
     single_beats t (completed trail.aw (data_marks trail)) in
     let few : length (of_key number_of_reply t (write_replies trail)) ≤ length (of_key number_of_asked t (map burst_asked (completed trail.aw (data_marks trail)))) =
     omega (arith, own_answers_within (map write_asked (completed trail.aw (data_marks trail))) (write_replies trail) t answers.answered_after_its_data) in

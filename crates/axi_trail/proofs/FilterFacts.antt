@@ -3,7 +3,7 @@ use Rattle.std.proofs.Common.{◌≡◌, ℕ, ◌+◌, ◌==◌, suc, zero, Bool
 use Rattle.std.proofs.lemmas.Bool.{cases_eq, cases_Bool}
 use Rattle.std.proofs.lemmas.List.{length-replicate}
 use Rattle.std.proofs.lemmas.List.Elements.{filter-append}
-use Rattle.axi_trail.specs.Words.{Asked, burst_marks, marks_of, marks, beats_of, number_of_mark, number_of_asked, id_of_asked}
+use Rattle.axi_trail.specs.Words.{Asked, burst_marks, marks_of, marks, beats_due, number_of_mark, number_of_asked, id_of_asked}
 use Rattle.plain_lists.specs.Keys.{of_key, count_of, selected}
 use Rattle.plain_lists.proofs.KeyLemmas.{count_of-append, filter_cons, filter_skip, count_of-replicate, of_key-cons, count_of-replicate_other, of_key-skip}
 
@@ -40,25 +40,25 @@ marks-selected selects (a ∷ asked) =
 pub marks-of_number : (t : ℕ) (asked : List Asked) → of_key number_of_mark t (marks asked) ≡ marks (of_key number_of_asked t asked)
 marks-of_number t asked = marks-selected (λ n. n == t) asked
 
-pub length-marks : (asked : List Asked) → length (marks asked) ≡ beats_of asked
+pub length-marks : (asked : List Asked) → length (marks asked) ≡ beats_due asked
 length-marks [] = refl
 length-marks (a ∷ asked) = omega (arith, length-append (marks_of a) (marks asked), length-burst_marks a.number a.len, length-marks asked)
 
-pub beats_of-append : (xs ys : List Asked) → beats_of (xs ++ ys) ≡ beats_of xs + beats_of ys
-beats_of-append [] ys = omega arith
-beats_of-append (a ∷ xs) ys = omega (arith, beats_of-append xs ys)
+pub beats_due-append : (xs ys : List Asked) → beats_due (xs ++ ys) ≡ beats_due xs + beats_due ys
+beats_due-append [] ys = omega arith
+beats_due-append (a ∷ xs) ys = omega (arith, beats_due-append xs ys)
 
 -- the ID of each beat that the requests ask for
 pub ids_of_beats : List Asked → List ℕ
 ids_of_beats [] = []
 ids_of_beats (a ∷ asked) = replicate (suc a.len) a.id ++ ids_of_beats asked
 
-pub length-ids_of_beats : (asked : List Asked) → length (ids_of_beats asked) ≡ beats_of asked
+pub length-ids_of_beats : (asked : List Asked) → length (ids_of_beats asked) ≡ beats_due asked
 unfolding ids_of_beats
 length-ids_of_beats [] = refl
 length-ids_of_beats (a ∷ asked) = omega (arith, length-append (replicate (suc a.len) a.id) (ids_of_beats asked), length-replicate (suc a.len) a.id, length-ids_of_beats asked)
 
-pub count_of-ids_of_beats : (i : ℕ) (asked : List Asked) → count_of i (ids_of_beats asked) ≡ beats_of (of_key id_of_asked i asked)
+pub count_of-ids_of_beats : (i : ℕ) (asked : List Asked) → count_of i (ids_of_beats asked) ≡ beats_due (of_key id_of_asked i asked)
 unfolding ids_of_beats
 count_of-ids_of_beats i [] = refl
 count_of-ids_of_beats i (a ∷ asked) =
@@ -66,10 +66,10 @@ count_of-ids_of_beats i (a ∷ asked) =
     ∙ elim (cases_eq a.id i) [
       | inl e ↦
           let mine : count_of i (replicate (suc a.len) a.id) ≡ suc a.len = subst (λ (j : ℕ). count_of j (replicate (suc a.len) a.id) ≡ suc a.len) e (count_of-replicate a.id (suc a.len)) in
-          let kept : beats_of (of_key id_of_asked i (a ∷ asked)) ≡ suc a.len + beats_of (of_key id_of_asked i asked) = ap beats_of (of_key-cons id_of_asked i a asked e) in
+          let kept : beats_due (of_key id_of_asked i (a ∷ asked)) ≡ suc a.len + beats_due (of_key id_of_asked i asked) = ap beats_due (of_key-cons id_of_asked i a asked e) in
           omega (arith, count_of-ids_of_beats i asked)
       | inr ne ↦
           let none : count_of i (replicate (suc a.len) a.id) ≡ 0 = count_of-replicate_other i a.id (suc a.len) ne in
-          let kept : beats_of (of_key id_of_asked i (a ∷ asked)) ≡ beats_of (of_key id_of_asked i asked) = ap beats_of (of_key-skip id_of_asked i a asked ne) in
+          let kept : beats_due (of_key id_of_asked i (a ∷ asked)) ≡ beats_due (of_key id_of_asked i asked) = ap beats_due (of_key-skip id_of_asked i a asked ne) in
           omega (arith, count_of-ids_of_beats i asked)
     ]

@@ -4,9 +4,9 @@ use Rattle.std.proofs.lemmas.Bool.{ne_eqb, cases_eq, cases_lt}
 use Rattle.std.proofs.lemmas.List.{length-map}
 use Rattle.std.proofs.lemmas.List.Elements.{Contains-append_right}
 use Rattle.axi_trail.specs.Waiting.{Waiting, fresh, beats_by, pending, advanced, answered_once, answered_by, held}
-use Rattle.axi_trail.specs.Words.{Asked, Reply, beats_of, id_of_asked, len_of_asked, id_of_reply}
+use Rattle.axi_trail.specs.Words.{Asked, Reply, beats_due, id_of_asked, len_of_asked, id_of_reply}
 use Rattle.axi_trail.specs.WordLaws.{UnansweredIsHeld, NoneHeldIsAnswered}
-use Rattle.axi_trail.proofs.FilterFacts.{beats_of-append}
+use Rattle.axi_trail.proofs.FilterFacts.{beats_due-append}
 use Rattle.axi_trail.proofs.WaitingFacts.{pending-beat, pending-zero, none-pending, pending-has, advanced-last, advanced-more}
 use Rattle.plain_lists.specs.Keys.{of_key, count_of, without_oldest, left_after}
 use Rattle.plain_lists.proofs.KeyLemmas.{of_key-append, of_key-cons, of_key-skip, of_key-map, of_key-push, place_in}
@@ -94,8 +94,8 @@ module _ {X : Type 0} (len_of id_of : X → ℕ) where
         ∙ ap (λ n. pending len_of (count + n) xs) (sym (ap length (of_key-skip (λ k. k) id other ids ne)))
   ]
 
-  pub held-of_id : (xs : List X) (ids : List ℕ) (id : ℕ) → of_key id_waiting id (held len_of id_of xs ids) ≡ pending len_of (count_of id ids) (of_key id_of id xs)
-  held-of_id xs ids id =
+  pub held-of_key : (xs : List X) (ids : List ℕ) (id : ℕ) → of_key id_waiting id (held len_of id_of xs ids) ≡ pending len_of (count_of id ids) (of_key id_of id xs)
+  held-of_key xs ids id =
       of_key-answered id 0 (of_key id_of id xs) ids (map fresh xs) (of_key-map id_waiting fresh id xs ∙ sym (pending-zero len_of (of_key id_of id xs)))
       ∙ ap (λ n. pending len_of n (of_key id_of id xs)) (omega arith)
 
@@ -174,7 +174,7 @@ count_of-replies id replies = ap length (of_key-map (λ k. k) id_of_reply id rep
 pending_is_held : (asked : List Asked) (ids : List ℕ) (id : ℕ) (front : List (Waiting Asked)) (w : Waiting Asked) (back : List (Waiting Asked)) →
     pending len_of_asked (count_of id ids) (of_key id_of_asked id asked) ≡ front ++ w ∷ back → Contains (held len_of_asked id_of_asked asked ids) w
 pending_is_held asked ids id front w back e =
-    let found = place_in (λ (v : Waiting Asked). v.request.id) id (held len_of_asked id_of_asked asked ids) front w back (held-of_id len_of_asked id_of_asked asked ids id ∙ e) in
+    let found = place_in (λ (v : Waiting Asked). v.request.id) id (held len_of_asked id_of_asked asked ids) front w back (held-of_key len_of_asked id_of_asked asked ids id ∙ e) in
     stands (held len_of_asked id_of_asked asked ids) found.0 w found.1 found.2
 
 waits : (asked : List Asked) (ids : List ℕ) (before : List Asked) (a : Asked) (after : List Asked) → of_key id_of_asked a.id asked ≡ of_key id_of_asked a.id before ++ a ∷ of_key id_of_asked a.id after →
@@ -187,9 +187,9 @@ pub unanswered_is_held : UnansweredIsHeld
 unanswered_is_held asked replies before a after place held_up =
     let own : of_key id_of_asked a.id asked ≡ of_key id_of_asked a.id before ++ a ∷ of_key id_of_asked a.id after =
     ap (of_key id_of_asked a.id) place ∙ of_key-append id_of_asked a.id before (a ∷ after) ∙ ap (λ t. of_key id_of_asked a.id before ++ t) (of_key-cons id_of_asked a.id a after refl) in
-    let up_to : beats_of (of_key id_of_asked a.id (before ++ a ∷ [])) ≡ beats_of (of_key id_of_asked a.id before) + suc a.len =
-    ap beats_of (of_key-push id_of_asked a.id before a refl) ∙ beats_of-append (of_key id_of_asked a.id before) (a ∷ []) ∙ omega arith in
-    let few : count_of a.id (map id_of_reply replies) < beats_of (of_key id_of_asked a.id before) + suc a.len = elim (cases_lt (count_of a.id (map id_of_reply replies)) (beats_of (of_key id_of_asked a.id before) + suc a.len)) [
+    let up_to : beats_due (of_key id_of_asked a.id (before ++ a ∷ [])) ≡ beats_due (of_key id_of_asked a.id before) + suc a.len =
+    ap beats_due (of_key-push id_of_asked a.id before a refl) ∙ beats_due-append (of_key id_of_asked a.id before) (a ∷ []) ∙ omega arith in
+    let few : count_of a.id (map id_of_reply replies) < beats_due (of_key id_of_asked a.id before) + suc a.len = elim (cases_lt (count_of a.id (map id_of_reply replies)) (beats_due (of_key id_of_asked a.id before) + suc a.len)) [
       | inl lt ↦ lt
       | inr ge ↦ absurd (held_up (omega (arith, count_of-replies a.id replies)))
     ] in
@@ -197,9 +197,9 @@ unanswered_is_held asked replies before a after place held_up =
 
 pub none_held_is_answered : NoneHeldIsAnswered
 none_held_is_answered asked replies before a after place none =
-    let all : beats_of (of_key id_of_asked a.id asked) ≤ count_of a.id (map id_of_reply replies) =
-    none-pending len_of_asked (count_of a.id (map id_of_reply replies)) (of_key id_of_asked a.id asked) (sym (held-of_id len_of_asked id_of_asked asked (map id_of_reply replies) a.id) ∙ none) in
-    let whole : beats_of (of_key id_of_asked a.id asked) ≡ beats_of (of_key id_of_asked a.id (before ++ a ∷ [])) + beats_of (of_key id_of_asked a.id after) =
-    ap beats_of (ap (of_key id_of_asked a.id) (place ∙ sym (append_assoc before (a ∷ []) after)) ∙ of_key-append id_of_asked a.id (before ++ a ∷ []) after)
-    ∙ beats_of-append (of_key id_of_asked a.id (before ++ a ∷ [])) (of_key id_of_asked a.id after) in
+    let all : beats_due (of_key id_of_asked a.id asked) ≤ count_of a.id (map id_of_reply replies) =
+    none-pending len_of_asked (count_of a.id (map id_of_reply replies)) (of_key id_of_asked a.id asked) (sym (held-of_key len_of_asked id_of_asked asked (map id_of_reply replies) a.id) ∙ none) in
+    let whole : beats_due (of_key id_of_asked a.id asked) ≡ beats_due (of_key id_of_asked a.id (before ++ a ∷ [])) + beats_due (of_key id_of_asked a.id after) =
+    ap beats_due (ap (of_key id_of_asked a.id) (place ∙ sym (append_assoc before (a ∷ []) after)) ∙ of_key-append id_of_asked a.id (before ++ a ∷ []) after)
+    ∙ beats_due-append (of_key id_of_asked a.id (before ++ a ∷ [])) (of_key id_of_asked a.id after) in
     omega (arith, count_of-replies a.id replies)

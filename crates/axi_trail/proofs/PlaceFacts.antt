@@ -6,8 +6,8 @@ use Rattle.std.proofs.lemmas.List.Concat.{flat_map-append}
 use Rattle.axi_trail.specs.ContractLaws.{OldestHeldIsNextOfItsOwn}
 use Rattle.axi_trail.specs.LinkContracts.{OneIdAtATime}
 use Rattle.axi_trail.specs.Schedule.{Share}
-use Rattle.axi_trail.specs.Words.{Mark, Asked, Reply, IsAnswered, InOrderOfId, held_asked, beats_of, marks, marks_of, mark_of_reply, number_of_mark, number_of_asked, number_of_reply, id_of_asked, id_of_reply, len_of_asked}
-use Rattle.axi_trail.proofs.FilterFacts.{length-marks, beats_of-append, ids_of_beats, length-ids_of_beats, count_of-ids_of_beats}
+use Rattle.axi_trail.specs.Words.{Mark, Asked, Reply, IsAnswered, InOrderOfId, held_asked, beats_due, marks, marks_of, mark_of_reply, number_of_mark, number_of_asked, number_of_reply, id_of_asked, id_of_reply, len_of_asked}
+use Rattle.axi_trail.proofs.FilterFacts.{length-marks, beats_due-append, ids_of_beats, length-ids_of_beats, count_of-ids_of_beats}
 use Rattle.axi_trail.proofs.MarkFacts.{length_own, take_past}
 use Rattle.axi_trail.proofs.OrderFacts.{own_marks, own_ids, own_beats, at_most_asked, earlier, later}
 use Rattle.axi_trail.proofs.StepFacts.{own_pending, first_has_id}
@@ -17,8 +17,8 @@ use Rattle.plain_lists.specs.Prefixes.{IsPrefix}
 use Rattle.plain_lists.proofs.KeyLemmas.{of_key-of_key, of_key-append, of_key-cons, of_key-skip, of_key-push, length-by_counts, count_of-append, count_of-replicate, count_of-replicate_other, place_in}
 
 -- how many beats of a transaction are among the first marks: all of its requests before one, and so many of it
-own_up_to : (t done : ℕ) (front : List Asked) (a : Asked) (rest : List Asked) (ms : List Mark) → IsPrefix ms (marks (front ++ a ∷ rest)) → length ms ≡ beats_of front + done → done ≤ a.len → a.number ≡ t →
-    length (of_key number_of_mark t ms) ≡ beats_of (of_key number_of_asked t front) + done
+own_up_to : (t done : ℕ) (front : List Asked) (a : Asked) (rest : List Asked) (ms : List Mark) → IsPrefix ms (marks (front ++ a ∷ rest)) → length ms ≡ beats_due front + done → done ≤ a.len → a.number ≡ t →
+    length (of_key number_of_mark t ms) ≡ beats_due (of_key number_of_asked t front) + done
 own_up_to t done front a rest ms p counted le e =
     let whole : ms ≡ marks front ++ take done (marks_of a ++ marks rest) =
     sym (take_at ms p.rest (length ms) refl)
@@ -30,7 +30,7 @@ own_up_to t done front a rest ms p counted le e =
     ∙ length-append (of_key number_of_mark t (marks front)) (of_key number_of_mark t (take done (marks_of a ++ marks rest)))
     ∙ sums (own_beats t front) (length_own (λ n. n == t) a.number done a.len (marks rest) (eq-eqb a.number t e) le)
   where
-    left_over : length (marks front) ≡ beats_of front → length ms - length (marks front) ≡ done
+    left_over : length (marks front) ≡ beats_due front → length ms - length (marks front) ≡ done
     left_over m = omega arith
 
     sums : {a b c d : ℕ} → a ≡ b → c ≡ d → a + c ≡ b + d
@@ -38,32 +38,32 @@ own_up_to t done front a rest ms p counted le e =
 
 module _ (shares : ℕ → Share) (asked : List Asked) (replies : List Reply) (one : OneIdAtATime shares asked replies) (order : InOrderOfId asked replies)
     (before : List Asked) (a : Asked) (after : List Asked) (place : asked ≡ before ++ a ∷ after) (done : ℕ) (le : done ≤ a.len)
-    (counted : beats_of (of_key id_of_asked a.id before) + done ≡ length (of_key id_of_reply a.id replies)) where
+    (counted : beats_due (of_key id_of_asked a.id before) + done ≡ length (of_key id_of_reply a.id replies)) where
   split : of_key id_of_asked a.id asked ≡ of_key id_of_asked a.id before ++ a ∷ of_key id_of_asked a.id after
   split = ap (of_key id_of_asked a.id) place ∙ of_key-append id_of_asked a.id before (a ∷ after) ∙ ap (λ xs. of_key id_of_asked a.id before ++ xs) (of_key-cons id_of_asked a.id a after refl)
 
   held_here : ¬ IsAnswered before a replies
   held_here answered =
-      let whole : beats_of (of_key id_of_asked a.id (before ++ a ∷ [])) ≡ beats_of (of_key id_of_asked a.id before) + suc a.len =
-      ap beats_of (of_key-push id_of_asked a.id before a refl) ∙ beats_of-append (of_key id_of_asked a.id before) (a ∷ []) ∙ omega arith in
+      let whole : beats_due (of_key id_of_asked a.id (before ++ a ∷ [])) ≡ beats_due (of_key id_of_asked a.id before) + suc a.len =
+      ap beats_due (of_key-push id_of_asked a.id before a refl) ∙ beats_due-append (of_key id_of_asked a.id before) (a ∷ []) ∙ omega arith in
       omega arith
 
-  of_this_id : length (of_key id_of_reply a.id (of_key number_of_reply a.number replies)) ≡ beats_of (of_key id_of_asked a.id (of_key number_of_asked a.number before)) + done
+  of_this_id : length (of_key id_of_reply a.id (of_key number_of_reply a.number replies)) ≡ beats_due (of_key id_of_asked a.id (of_key number_of_asked a.number before)) + done
   of_this_id =
       let front : IsPrefix (map mark_of_reply (of_key id_of_reply a.id replies)) (marks (of_key id_of_asked a.id before ++ a ∷ of_key id_of_asked a.id after)) =
       record { rest = (order a.id).rest; whole = ap marks (sym split) ∙ (order a.id).whole } in
       own_marks a.id a.number replies
       ∙ own_up_to a.number done (of_key id_of_asked a.id before) a (of_key id_of_asked a.id after) (map mark_of_reply (of_key id_of_reply a.id replies)) front
       (length-map (of_key id_of_reply a.id replies) mark_of_reply ∙ sym counted) le refl
-      ∙ ap (λ xs. beats_of xs + done) (sym (of_key-of_key id_of_asked number_of_asked a.id a.number before))
+      ∙ ap (λ xs. beats_due xs + done) (sym (of_key-of_key id_of_asked number_of_asked a.id a.number before))
 
-  of_other_id : (i : ℕ) → i ≢ a.id → length (of_key id_of_reply i (of_key number_of_reply a.number replies)) ≡ beats_of (of_key id_of_asked i (of_key number_of_asked a.number before))
+  of_other_id : (i : ℕ) → i ≢ a.id → length (of_key id_of_reply i (of_key number_of_reply a.number replies)) ≡ beats_due (of_key id_of_asked i (of_key number_of_asked a.number before))
   of_other_id i other =
       let none : of_key id_of_asked i (of_key number_of_asked a.number (a ∷ after)) ≡ [] =
       ap (of_key id_of_asked i) (of_key-cons number_of_asked a.number a after refl) ∙ of_key-skip id_of_asked i a (of_key number_of_asked a.number after) (λ h. other (sym h))
       ∙ later shares asked replies one order before a after place held_here i other [] after refl in
-      let whole : beats_of (of_key number_of_asked a.number (of_key id_of_asked i asked)) ≡ beats_of (of_key id_of_asked i (of_key number_of_asked a.number before)) =
-      ap beats_of (sym (of_key-of_key id_of_asked number_of_asked i a.number asked)
+      let whole : beats_due (of_key number_of_asked a.number (of_key id_of_asked i asked)) ≡ beats_due (of_key id_of_asked i (of_key number_of_asked a.number before)) =
+      ap beats_due (sym (of_key-of_key id_of_asked number_of_asked i a.number asked)
       ∙ ap (λ xs. of_key id_of_asked i (of_key number_of_asked a.number xs)) place
       ∙ ap (of_key id_of_asked i) (of_key-append number_of_asked a.number before (a ∷ after))
       ∙ of_key-append id_of_asked i (of_key number_of_asked a.number before) (of_key number_of_asked a.number (a ∷ after))
@@ -84,7 +84,7 @@ module _ (shares : ℕ → Share) (asked : List Asked) (replies : List Reply) (o
     )
   ]
 
-  own_answers : length (of_key number_of_reply a.number replies) ≡ beats_of (of_key number_of_asked a.number before) + done
+  own_answers : length (of_key number_of_reply a.number replies) ≡ beats_due (of_key number_of_asked a.number before) + done
   own_answers =
       omega (
         arith,
@@ -98,11 +98,11 @@ module _ (shares : ℕ → Share) (asked : List Asked) (replies : List Reply) (o
 
 pub oldest_held_is_next_of_its_own : OldestHeldIsNextOfItsOwn
 oldest_held_is_next_of_its_own shares asked replies one order id w others e =
-    let first : (front : List Asked) × (back : List Asked) × (of_key id_of_asked id asked ≡ front ++ w.request ∷ back) × (beats_of front + w.done ≡ length (map mark_of_reply (of_key id_of_reply id replies))) × (w.done ≤ w.request.len) =
+    let first : (front : List Asked) × (back : List Asked) × (of_key id_of_asked id asked ≡ front ++ w.request ∷ back) × (beats_due front + w.done ≡ length (map mark_of_reply (of_key id_of_reply id replies))) × (w.done ≤ w.request.len) =
     pending-place len_of_asked (length (map mark_of_reply (of_key id_of_reply id replies))) (of_key id_of_asked id asked) w others (sym (own_pending asked replies id) ∙ e) in
     let found : (left : List Asked) × (right : List Asked) × (asked ≡ left ++ w.request ∷ right) × (of_key id_of_asked id left ≡ first.0) = place_in id_of_asked id asked first.0 w.request first.1 first.2 in
     let mine : w.request.id ≡ id = first_has_id (held_asked asked replies) id w others e in
-    let counted : beats_of (of_key id_of_asked w.request.id found.0) + w.done ≡ length (of_key id_of_reply w.request.id replies) =
-    subst (λ (i : ℕ). beats_of (of_key id_of_asked i found.0) + w.done ≡ length (of_key id_of_reply i replies)) (sym mine)
-    (ap (λ xs. beats_of xs + w.done) found.3 ∙ first.3 ∙ length-map (of_key id_of_reply id replies) mark_of_reply) in
+    let counted : beats_due (of_key id_of_asked w.request.id found.0) + w.done ≡ length (of_key id_of_reply w.request.id replies) =
+    subst (λ (i : ℕ). beats_due (of_key id_of_asked i found.0) + w.done ≡ length (of_key id_of_reply i replies)) (sym mine)
+    (ap (λ xs. beats_due xs + w.done) found.3 ∙ first.3 ∙ length-map (of_key id_of_reply id replies) mark_of_reply) in
     (found.0, found.1, found.2, own_answers shares asked replies one order found.0 w.request found.1 found.2 w.done first.4 counted)

@@ -4,10 +4,10 @@ use Rattle.std.specs.Prelude.{flat_map}
 use Rattle.std.proofs.lemmas.Bool.{ne_eqb, cases_eq, cases_lt, cases_Bool}
 use Rattle.std.proofs.lemmas.List.{length-map, map-append, drop_at, take_at}
 use Rattle.axi_trail.specs.Waiting.{Waiting, fresh, waiting_shown, pending, advanced, answered_once, answered_by, held}
-use Rattle.axi_trail.specs.Words.{Mark, Asked, Reply, InOrderOfId, owed_marks, next_mark, next_reply, held_asked, pending_asked, burst_marks, marks, beats_of, mark_of_reply, number_of_mark, number_of_asked, number_of_reply, number_of_waiting, id_of_waiting, id_of_asked, id_of_reply, len_of_asked}
+use Rattle.axi_trail.specs.Words.{Mark, Asked, Reply, InOrderOfId, owed_marks, next_mark, next_reply, held_asked, pending_asked, burst_marks, marks, beats_due, mark_of_reply, number_of_mark, number_of_asked, number_of_reply, number_of_waiting, id_of_waiting, id_of_asked, id_of_reply, len_of_asked}
 use Rattle.axi_trail.specs.WordLaws.{NextBeat, NextBeatOfSelected, BeatKeepsOrder, NextAnswer, AnswerKeepsOrder, LaterRequestsAreHeld, HeldOfSelected}
 use Rattle.axi_trail.proofs.FilterFacts.{length-marks}
-use Rattle.axi_trail.proofs.HeldFacts.{once-own, once-other, held-answer, held-request, held-of_id, count_of-replies}
+use Rattle.axi_trail.proofs.HeldFacts.{once-own, once-other, held-answer, held-request, held-of_key, count_of-replies}
 use Rattle.axi_trail.proofs.MarkFacts.{pending_owe_the_rest, pending_of_selected}
 use Rattle.axi_trail.proofs.SlackFacts.{in_order_goes_up}
 use Rattle.axi_trail.proofs.WaitingFacts.{pending-past, pending-within, pending-none, none-pending, advanced-last, advanced-more}
@@ -100,7 +100,7 @@ next_beat_of_selected selects asked passed m w others p e chosen agree =
 pub own_pending : (asked : List Asked) (replies : List Reply) (id : ℕ) →
     of_key id_of_waiting id (held_asked asked replies) ≡ pending_asked (length (map mark_of_reply (of_key id_of_reply id replies))) (of_key id_of_asked id asked)
 own_pending asked replies id =
-    held-of_id len_of_asked id_of_asked asked (map id_of_reply replies) id
+    held-of_key len_of_asked id_of_asked asked (map id_of_reply replies) id
     ∙ ap (λ n. pending_asked n (of_key id_of_asked id asked)) (count_of-replies id replies ∙ sym (length-map (of_key id_of_reply id replies) mark_of_reply))
 
 -- the requests of an ID have the ID
@@ -120,7 +120,7 @@ reply_is p q a b c = ap (λ n. record { number = n; id = p.id; last = p.last }) 
 module _ (asked : List Asked) (replies : List Reply) (p : Reply) where
   still_pending : (ms : List Mark) (count : ℕ) → IsPrefix (ms ++ mark_of_reply p ∷ []) (marks (of_key id_of_asked p.id asked)) → length ms ≡ count → pending_asked count (of_key id_of_asked p.id asked) ≡ [] → ⊥
   still_pending ms count front counted none =
-      let all : beats_of (of_key id_of_asked p.id asked) ≤ count = none-pending len_of_asked count (of_key id_of_asked p.id asked) none in
+      let all : beats_due (of_key id_of_asked p.id asked) ≤ count = none-pending len_of_asked count (of_key id_of_asked p.id asked) none in
       omega (arith, prefix_length front, length-append ms (mark_of_reply p ∷ []), length-marks (of_key id_of_asked p.id asked))
 
   next_answer-of : (ws : List (Waiting Asked)) → of_key id_of_waiting p.id (held_asked asked replies) ≡ ws → IsPrefix (map mark_of_reply (of_key id_of_reply p.id replies) ++ mark_of_reply p ∷ []) (marks (of_key id_of_asked p.id asked)) →
@@ -153,7 +153,7 @@ answer_keeps_order asked replies id w others order e =
     ]
 
 -- no ID has more answers than its requests ask for
-pub answers_within : (asked : List Asked) (replies : List Reply) → InOrderOfId asked replies → (id : ℕ) → count_of id (map id_of_reply replies) ≤ beats_of (of_key id_of_asked id asked)
+pub answers_within : (asked : List Asked) (replies : List Reply) → InOrderOfId asked replies → (id : ℕ) → count_of id (map id_of_reply replies) ≤ beats_due (of_key id_of_asked id asked)
 answers_within asked replies order id =
     omega (arith, count_of-replies id replies, prefix_length (order id), length-map (of_key id_of_reply id replies) mark_of_reply, length-marks (of_key id_of_asked id asked))
 

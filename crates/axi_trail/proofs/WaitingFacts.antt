@@ -1,7 +1,7 @@
 -- Facts on requests that lack beats, where beats come in order of the requests.
 use Rattle.std.proofs.Common.{subst, ◌≡◌, ◌≢◌, ℕ, ◌+◌, ◌-◌, ◌<◌, ◌≤◌, suc, cond, List, [], ◌∷◌, ◌++◌, map, refl, sym, ◌∙◌, ap, inl, inr, arith, eq-eqb}
 use Rattle.std.proofs.lemmas.Bool.{ne_eqb, lt-ltb, le-ltb, cases_eq, cases_lt}
-use Rattle.axi_trail.specs.Waiting.{Waiting, fresh, request_of, beats_by, pending, complete, advanced}
+use Rattle.axi_trail.specs.Waiting.{Waiting, fresh, waiting_request, beats_by, pending, complete, advanced}
 
 module _ {X : Type 0} (len_of : X → ℕ) where
   pub pending-past : (count : ℕ) (x : X) (xs : List X) → len_of x < count → pending len_of count (x ∷ xs) ≡ pending len_of (count - suc (len_of x)) xs
@@ -70,22 +70,22 @@ module _ {X : Type 0} (len_of : X → ℕ) where
   pending-zero [] = refl
   pending-zero (x ∷ xs) = pending-within 0 x xs (omega arith) ∙ ap (λ t. fresh x ∷ t) (pending-zero xs)
 
-  requests-fresh : (xs : List X) → map request_of (map fresh xs) ≡ xs
+  requests-fresh : (xs : List X) → map waiting_request (map fresh xs) ≡ xs
   requests-fresh [] = refl
   requests-fresh (x ∷ xs) = ap (λ t. x ∷ t) (requests-fresh xs)
 
   -- the complete requests stand before the pending ones
-  pub complete-pending : (count : ℕ) (xs : List X) → complete len_of count xs ++ map request_of (pending len_of count xs) ≡ xs
+  pub complete-pending : (count : ℕ) (xs : List X) → complete len_of count xs ++ map waiting_request (pending len_of count xs) ≡ xs
   complete-pending count [] = refl
   complete-pending count (x ∷ xs) = elim (cases_lt (len_of x) count) [
     | inl lt ↦
-        ap (λ t. t ++ map request_of (pending len_of count (x ∷ xs))) (complete-past count x xs lt)
-        ∙ ap (λ t. x ∷ complete len_of (count - suc (len_of x)) xs ++ map request_of t) (pending-past count x xs lt)
+        ap (λ t. t ++ map waiting_request (pending len_of count (x ∷ xs))) (complete-past count x xs lt)
+        ∙ ap (λ t. x ∷ complete len_of (count - suc (len_of x)) xs ++ map waiting_request t) (pending-past count x xs lt)
         ∙ ap (λ t. x ∷ t) (complete-pending (count - suc (len_of x)) xs)
     | inr ge ↦
-        ap (λ t. t ++ map request_of (pending len_of count (x ∷ xs))) (complete-within count x xs ge)
-        ∙ ap (λ t. map request_of t) (pending-within count x xs ge)
-        ∙ ap (λ t. x ∷ map request_of t) (pending-zero xs)
+        ap (λ t. t ++ map waiting_request (pending len_of count (x ∷ xs))) (complete-within count x xs ge)
+        ∙ ap (λ t. map waiting_request t) (pending-within count x xs ge)
+        ∙ ap (λ t. x ∷ map waiting_request t) (pending-zero xs)
         ∙ ap (λ t. x ∷ t) (requests-fresh xs)
   ]
 

@@ -6,7 +6,7 @@ use Rattle.axi_trail.specs.LinkContracts.{Asks, Answers, OneIdAtATime}
 use Rattle.axi_trail.specs.Schedule.{Share, Schedule, Progress, Grows, SameChain}
 use Rattle.axi_trail.specs.Trail.{Beats, IsBehind, IsLinkRun, trail_above, trail_below, seen_above, seen_below}
 use Rattle.axi_trail.specs.Waiting.{Waiting}
-use Rattle.axi_trail.specs.Words.{Asked, Reply, IsAnswered, InOrderOfId, held_asked, beats_of, burst_asked, number_of_asked, number_of_reply, number_of_response, number_of_data, id_of_waiting}
+use Rattle.axi_trail.specs.Words.{Asked, Reply, IsAnswered, InOrderOfId, held_asked, beats_due, burst_asked, number_of_asked, number_of_reply, number_of_response, number_of_data, id_of_waiting}
 use Rattle.plain_lists.specs.Keys.{of_key}
 use Rattle.axi_link.specs.LinkWords.{link_of}
 
@@ -47,7 +47,7 @@ abbrev pub OwnRequestsInOrder : Type 0
 OwnRequestsInOrder =
     (shares : ℕ → Share) (asked : List Asked) (replies : List Reply) → OneIdAtATime shares asked replies → InOrderOfId asked replies →
     (before : List Asked) (a : Asked) (after : List Asked) → asked ≡ before ++ a ∷ after →
-    IsAnswered before a replies ↔ (beats_of (of_key number_of_asked a.number (before ++ a ∷ [])) ≤ length (of_key number_of_reply a.number replies))
+    IsAnswered before a replies ↔ (beats_due (of_key number_of_asked a.number (before ++ a ∷ [])) ≤ length (of_key number_of_reply a.number replies))
 
 -- where a request isn't answered, the later ones of its chain have its ID
 abbrev pub HeldHaveOneId : Type 0
@@ -63,10 +63,10 @@ OldestHeldIsNextOfItsOwn =
     (shares : ℕ → Share) (asked : List Asked) (replies : List Reply) → OneIdAtATime shares asked replies → InOrderOfId asked replies →
     (id : ℕ) (w : Waiting Asked) (others : List (Waiting Asked)) → of_key id_of_waiting id (held_asked asked replies) ≡ w ∷ others →
     (before : List Asked) × (after : List Asked) × (asked ≡ before ++ w.request ∷ after)
-    × (length (of_key number_of_reply w.request.number replies) ≡ beats_of (of_key number_of_asked w.request.number before) + w.done)
+    × (length (of_key number_of_reply w.request.number replies) ≡ beats_due (of_key number_of_asked w.request.number before) + w.done)
 
 -- a transaction's write data is there, as far as its answers go: the beats of its first requests, one for each answer
 abbrev pub AnsweredHaveTheirData : Type 0
 AnsweredHaveTheirData =
     (schedule : Schedule) (now : Progress) (trail : Beats) → Asks schedule now trail → Answers schedule now trail → (t : ℕ) →
-    beats_of (take (length (of_key number_of_response t trail.b)) (of_key number_of_asked t (map burst_asked trail.aw))) ≤ length (of_key number_of_data t trail.w)
+    beats_due (take (length (of_key number_of_response t trail.b)) (of_key number_of_asked t (map burst_asked trail.aw))) ≤ length (of_key number_of_data t trail.w)

@@ -10,8 +10,8 @@ pub record Waiting (X : Type 0) : Type 0 where
 abbrev pub fresh : {X : Type 0} → X → Waiting X
 fresh x = record { request = x; done = 0 }
 
-abbrev pub request_of : {X : Type 0} → Waiting X → X
-request_of w = w.request
+abbrev pub waiting_request : {X : Type 0} → Waiting X → X
+waiting_request w = w.request
 
 -- the same where only what `shown` tells of the request counts
 abbrev pub waiting_shown : {X Y : Type 0} → (X → Y) → Waiting X → Waiting Y

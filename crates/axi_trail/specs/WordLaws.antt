@@ -2,7 +2,7 @@
 -- stated here for lists of one type, such as numbers or addresses.
 use Rattle.std.specs.Prelude.{◌≡◌, ℕ, Bool, true, suc, ◌≤◌, ◌++◌, ◌∷◌, [], List, Contains, length, map, take, drop, flat_map}
 use Rattle.axi_beats.specs.declared.beat.Addr.{Addr}
-use Rattle.axi_trail.specs.Waiting.{Waiting, fresh, request_of, waiting_shown, beats_by, pending, complete, advanced, answered_once, held}
+use Rattle.axi_trail.specs.Waiting.{Waiting, fresh, waiting_request, waiting_shown, beats_by, pending, complete, advanced, answered_once, held}
 use Rattle.axi_trail.specs.Words.{Mark, Asked, Reply, IsAnswered, InOrderOfId, EndsAtLast, owed_marks, next_mark, next_reply, held_asked, pending_asked, marks, marks_of, completed, number_of_mark, number_of_asked, number_of_reply, number_of_waiting, id_of_waiting, id_of_asked, len_of_asked}
 use Rattle.plain_lists.specs.Keys.{of_key, count_of, left_after, selected}
 use Rattle.plain_lists.specs.Prefixes.{IsPrefix, Agree}
@@ -39,7 +39,7 @@ RequestIsPending =
 
 -- the first requests are complete, and the last ones are pending
 abbrev pub PendingAreLast : Type 0
-PendingAreLast = (len_of : Addr → ℕ) (count : ℕ) (xs : List Addr) → complete len_of count xs ++ map request_of (pending len_of count xs) ≡ xs
+PendingAreLast = (len_of : Addr → ℕ) (count : ℕ) (xs : List Addr) → complete len_of count xs ++ map waiting_request (pending len_of count xs) ≡ xs
 
 -- no request is pending exactly where all beats have come
 abbrev pub NonePending : Type 0

@@ -93,8 +93,8 @@ abbrev pub marks : List Asked → List Mark
 marks asked = flat_map marks_of asked
 
 -- how many beats these requests ask for
-abbrev pub beats_of : List Asked → ℕ
-beats_of asked = beats_by len_of_asked asked
+abbrev pub beats_due : List Asked → ℕ
+beats_due asked = beats_by len_of_asked asked
 
 -- a burst: its last beat has `last`, and no other one
 abbrev pub EndsAtLast : List Mark → Type 0
@@ -136,7 +136,7 @@ module _ {X : Type 0} where
 -- The request after these ones is answered: the answers of an ID come in order of its requests, so this request's
 -- last beat is there where the answers of its ID are as many as the requests of its ID, up to this one, ask for.
 abbrev pub IsAnswered : List Asked → Asked → List Reply → Type 0
-IsAnswered before a replies = beats_of (of_key id_of_asked a.id (before ++ a ∷ [])) ≤ length (of_key id_of_reply a.id replies)
+IsAnswered before a replies = beats_due (of_key id_of_asked a.id (before ++ a ∷ [])) ≤ length (of_key id_of_reply a.id replies)
 
 -- the answers of each ID are the first of those that its requests ask for, in order of the requests
 abbrev pub InOrderOfId : List Asked → List Reply → Type 0

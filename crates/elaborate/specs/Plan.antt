@@ -2,7 +2,7 @@
 use Rattle.std.specs.Prelude.{◌+◌, ◌*◌, ◌++◌, ℕ, suc, List, [], ◌∷◌, Bool, true, false, codes, decimal, flat_map, length, map, slice_index_or, sum, if◌then◌else◌}
 use Rattle.node_graph.specs.Graph.{Graph, numbers}
 use Rattle.node_graph.specs.Order.{place_in}
-use Rattle.topology.specs.Document.{DocumentNode, first_link, inputs_of, link_of, no_link, node_at, plan_nodes_at, targets_of, uppers_of}
+use Rattle.topology.specs.Document.{DocumentNode, first_link, inputs_of, link_kind_of, no_link, node_at, plan_nodes_at, targets_of, uppers_of}
 use Rattle.topology.specs.declared.kind.Kind.{Kind}
 use Rattle.topology.specs.declared.link.LinkKind.{LinkKind}
 use Rattle.topology.specs.declared.kind.Kind.TheVariants as kind
@@ -48,7 +48,7 @@ module _ (nodes : List DocumentNode) where
 
     -- the node itself
     abbrev pub itself : Part → PlanNode
-    itself part = named_part part [] entrances (link_of nodes place)
+    itself part = named_part part [] entrances (link_kind_of nodes place)
 
     -- an error subordinate, which has no link below it
     abbrev pub error_part : List ℕ → PlanNode
@@ -60,7 +60,7 @@ module _ (nodes : List DocumentNode) where
 
     -- a demux, whose last port leads to its error subordinate
     abbrev pub demux_itself : PlanNode
-    demux_itself = named_part part.Demux [] (entrances ++ (first_part place + 1) ∷ []) (link_of nodes place)
+    demux_itself = named_part part.Demux [] (entrances ++ (first_part place + 1) ∷ []) (link_kind_of nodes place)
 
     -- a crossbar's input: a demux, whose ports lead to the muxes of all targets and then to its error subordinate
     abbrev pub input_demux : ℕ → PlanNode
@@ -74,7 +74,7 @@ module _ (nodes : List DocumentNode) where
 
     -- a crossbar's target: a mux that leads to it
     abbrev pub target_mux : ℕ → PlanNode
-    target_mux j = named_part part.Mux (codes ".m" ++ decimal j) (entrance place (slice_index_or targets j 0) ∷ []) (link_of nodes place)
+    target_mux j = named_part part.Mux (codes ".m" ++ decimal j) (entrance place (slice_index_or targets j 0) ∷ []) (link_kind_of nodes place)
 
     abbrev pub crossbar_parts : List PlanNode
     crossbar_parts = flat_map input_parts (numbers (length (uppers_of nodes place))) ++ map target_mux (numbers (length targets))

@@ -10,8 +10,8 @@ use Rattle.axi_beats.specs.declared.beat.BBeat.{BBeat}
 use Rattle.axi_beats.specs.declared.beat.RBeat.{RBeat}
 use Rattle.axi_history.specs.PortHistory.{beats_asked, ends_a_request}
 use Rattle.axi_history.specs.PortRules.{writes_of, responses_of, read_beats_of, reads_of}
-use Rattle.axi_trail.specs.Words.{Mark, InOrderOfId, burst_marks, marks, completed, write_asked, burst_asked, write_reply, read_reply, mark_of_data, mark_of_reply, id_of_address, id_of_asked, id_of_reply, beats_of}
-use Rattle.axi_trail.proofs.DataFacts.{beats_of-writes}
+use Rattle.axi_trail.specs.Words.{Mark, InOrderOfId, burst_marks, marks, completed, write_asked, burst_asked, write_reply, read_reply, mark_of_data, mark_of_reply, id_of_address, id_of_asked, id_of_reply, beats_due}
+use Rattle.axi_trail.proofs.DataFacts.{beats_due-writes}
 use Rattle.axi_trail.proofs.FilterFacts.{length-burst_marks, length-marks}
 use Rattle.link_ports.specs.PortView.{seen_address, seen_itself, seen_response, seen_read_beat}
 use Rattle.plain_lists.proofs.KeyLemmas.{of_key-map, filter_map, of_key-between}
@@ -91,9 +91,9 @@ length-marks_read : (beats : List RBeat) → length (marks_read beats) ≡ lengt
 unfolding marks_read
 length-marks_read beats = length-map (map read_reply beats) mark_of_reply ∙ length-map beats read_reply
 
-marks_read-of_id : (id : ℕ) (beats : List RBeat) → map mark_of_reply (of_key id_of_reply id (map read_reply beats)) ≡ marks_read (of_key (λ r. r.id) id beats)
+marks_read-of_key : (id : ℕ) (beats : List RBeat) → map mark_of_reply (of_key id_of_reply id (map read_reply beats)) ≡ marks_read (of_key (λ r. r.id) id beats)
 unfolding marks_read
-marks_read-of_id id beats = ap (map mark_of_reply) (of_key-map id_of_reply read_reply id beats)
+marks_read-of_key id beats = ap (map mark_of_reply) (of_key-map id_of_reply read_reply id beats)
 
 module _ (addresses : List Addr) (taken : List RBeat) (r : RBeat) (later : List RBeat) (order : InOrderOfId (map burst_asked addresses) (map read_reply (taken ++ r ∷ later))) where
   -- the data of an ID that has come, then this beat, and then what is still asked for
@@ -101,7 +101,7 @@ module _ (addresses : List Addr) (taken : List RBeat) (r : RBeat) (later : List 
   read_stands =
       ap marks (sym (of_key-map id_of_asked burst_asked r.id addresses))
       ∙ (order r.id).whole
-      ∙ ap (λ t. t ++ (order r.id).rest) (marks_read-of_id r.id (taken ++ r ∷ later) ∙ ap marks_read (of_key-between (λ r. r.id) taken r later) ∙ marks_read-between (of_key (λ r. r.id) r.id taken) r (of_key (λ r. r.id) r.id later))
+      ∙ ap (λ t. t ++ (order r.id).rest) (marks_read-of_key r.id (taken ++ r ∷ later) ∙ ap marks_read (of_key-between (λ r. r.id) taken r later) ∙ marks_read-between (of_key (λ r. r.id) r.id taken) r (of_key (λ r. r.id) r.id later))
       ∙ append_assoc (marks_read (of_key (λ r. r.id) r.id taken)) (mark_of_reply (read_reply r) ∷ marks_read (of_key (λ r. r.id) r.id later)) (order r.id).rest
 
   read_step : (length (marks_read (of_key (λ r. r.id) r.id taken)) < sum (map (λ (a : Addr). a.len + 1) (of_key id_of_address r.id addresses)))
@@ -159,8 +159,8 @@ module _ (addresses : List Addr) (beats : List WBeat) (taken : List BBeat) (b : 
         ap length (of_key-map id_of_reply write_reply b.id (taken ++ b ∷ later)),
         length-map (of_key (λ b. b.id) b.id (taken ++ b ∷ later)) write_reply,
         length-marks (of_key id_of_asked b.id (map write_asked (completed addresses (map mark_of_data beats)))),
-        ap beats_of (of_key-map id_of_asked write_asked b.id (completed addresses (map mark_of_data beats))),
-        beats_of-writes (of_key id_of_address b.id (completed addresses (map mark_of_data beats))),
+        ap beats_due (of_key-map id_of_asked write_asked b.id (completed addresses (map mark_of_data beats))),
+        beats_due-writes (of_key id_of_address b.id (completed addresses (map mark_of_data beats))),
       )
 
   -- rule 11

@@ -15,7 +15,7 @@ use Rattle.axi_trail.specs.Trail.{Beats}
 use Rattle.axi_trail.specs.Words.{Asked, Mark, Reply, announced_marks, burst_asked, burst_marks, data_marks, mark_of_data, marks, marks_of, number_of_data, read_replies, write_replies}
 use Rattle.manager_end.specs.Beats.{data_beat, data_beats, item_request}
 use Rattle.manager_end.specs.ManagerOrder.{IsAt, note_at}
-use Rattle.manager_end.specs.ManagerState.{ManagerState, issued_of, of_direction, writes_of}
+use Rattle.manager_end.specs.ManagerState.{ManagerState, issued_of, of_direction, script_writes}
 use Rattle.manager_end.specs.ManagerTrail.{HasItem, IsScheduleOf, ManagerAsks, ManagerKeeps, first_data, shares_of}
 use Rattle.manager_end.specs.Script.{ScriptItem}
 use Rattle.manager_end.proofs.AskedLemmas.{ids-asked, lone-numbers, lone-of_key, one-asked, parts-asked, whole-asked}
@@ -55,10 +55,10 @@ data-of_number bus t (p ∷ ps) =
     ]
 
 -- the data of a transaction is the schedule's
-data-asked : (schedule : Schedule) (bus : ℕ) (script : List ScriptItem) → IsScheduleOf schedule bus script → (t : ℕ) → IsPrefix (of_key number_of_data t (flat_map (λ (p : ℕ × ScriptItem). data_beats p.1 bus) (writes_of script))) (flat_map (λ beats. beats) (schedule.writes t).write_data)
+data-asked : (schedule : Schedule) (bus : ℕ) (script : List ScriptItem) → IsScheduleOf schedule bus script → (t : ℕ) → IsPrefix (of_key number_of_data t (flat_map (λ (p : ℕ × ScriptItem). data_beats p.1 bus) (script_writes script))) (flat_map (λ beats. beats) (schedule.writes t).write_data)
 data-asked schedule bus script scheduled t =
-    let own = data-of_number bus t (writes_of script)
-    in elim (lone-of_key number_of_item t (writes_of script) (lone-numbers schedule bus script scheduled true)) [
+    let own = data-of_number bus t (script_writes script)
+    in elim (lone-of_key number_of_item t (script_writes script) (lone-numbers schedule bus script scheduled true)) [
       | inl none ↦ prefix_same (own ∙ ap (flat_map (λ (p : ℕ × ScriptItem). data_beats p.1 bus)) none) (prefix_nil (flat_map (λ beats. beats) (schedule.writes t).write_data))
       | inr one ↦
           let place = direction-at true script one.0 one.1 one.2
@@ -125,20 +125,20 @@ module _ (schedule : Schedule) (now : Progress) (rounds : ℕ) (s : ManagerState
 
   sent-asked : (t : ℕ) → IsPrefix (of_key number_of_data t trail.w) (flat_map (λ beats. beats) (schedule.writes t).write_data)
   sent-asked t =
-      let own : IsPrefix (of_key number_of_data t trail.w) (of_key number_of_data t (flat_map (λ (p : ℕ × ScriptItem). data_beats p.1 s.bus) (writes_of s.script))) =
-      prefix_of_key number_of_data t (prefix_same keeps.passed.w (sent-prefix s.bus s.sent_writes s.sent_beats (writes_of s.script)))
+      let own : IsPrefix (of_key number_of_data t trail.w) (of_key number_of_data t (flat_map (λ (p : ℕ × ScriptItem). data_beats p.1 s.bus) (script_writes s.script))) =
+      prefix_of_key number_of_data t (prefix_same keeps.passed.w (sent-prefix s.bus s.sent_writes s.sent_beats (script_writes s.script)))
       in let due = data-asked schedule s.bus s.script keeps.scheduled t
       in record { rest = own.rest ++ due.rest; whole = due.whole ∙ ap (λ (ws : List WBeat). ws ++ due.rest) own.whole ∙ append_assoc (of_key number_of_data t trail.w) own.rest due.rest }
 
   marks-agree : Agree (data_marks trail) (announced_marks trail)
   marks-agree =
-      let sent : IsPrefix (data_marks trail) (marks (map (asked_by (λ a. a.len)) (writes_of s.script))) =
-      prefix_of_same (prefix_same (ap (map mark_of_data) keeps.passed.w) (prefix_map mark_of_data (sent-prefix s.bus s.sent_writes s.sent_beats (writes_of s.script)))) (marks-of_items s.bus (writes_of s.script))
-      in let announced : announced_marks trail ≡ marks (map (asked_by (λ a. a.len)) (take s.issued_writes (writes_of s.script))) =
-      ap (λ (asked : List Asked). marks asked) (ap (map burst_asked) keeps.passed.aw ∙ map-map burst_asked (λ (p : ℕ × ScriptItem). item_request p.1) (take s.issued_writes (writes_of s.script)))
-      in let front : IsPrefix (take s.issued_writes (writes_of s.script)) (writes_of s.script) = record { rest = drop s.issued_writes (writes_of s.script); whole = sym (take-append-drop s.issued_writes (writes_of s.script)) }
-      in let shown : IsPrefix (announced_marks trail) (marks (map (asked_by (λ a. a.len)) (writes_of s.script))) = prefix_same announced (prefix_flat_map marks_of (prefix_map (asked_by (λ a. a.len)) front))
-      in Agree_fronts sent shown (prefix_agree (prefix_itself (marks (map (asked_by (λ a. a.len)) (writes_of s.script)))))
+      let sent : IsPrefix (data_marks trail) (marks (map (asked_by (λ a. a.len)) (script_writes s.script))) =
+      prefix_of_same (prefix_same (ap (map mark_of_data) keeps.passed.w) (prefix_map mark_of_data (sent-prefix s.bus s.sent_writes s.sent_beats (script_writes s.script)))) (marks-of_items s.bus (script_writes s.script))
+      in let announced : announced_marks trail ≡ marks (map (asked_by (λ a. a.len)) (take s.issued_writes (script_writes s.script))) =
+      ap (λ (asked : List Asked). marks asked) (ap (map burst_asked) keeps.passed.aw ∙ map-map burst_asked (λ (p : ℕ × ScriptItem). item_request p.1) (take s.issued_writes (script_writes s.script)))
+      in let front : IsPrefix (take s.issued_writes (script_writes s.script)) (script_writes s.script) = record { rest = drop s.issued_writes (script_writes s.script); whole = sym (take-append-drop s.issued_writes (script_writes s.script)) }
+      in let shown : IsPrefix (announced_marks trail) (marks (map (asked_by (λ a. a.len)) (script_writes s.script))) = prefix_same announced (prefix_flat_map marks_of (prefix_map (asked_by (λ a. a.len)) front))
+      in Agree_fronts sent shown (prefix_agree (prefix_itself (marks (map (asked_by (λ a. a.len)) (script_writes s.script)))))
 
 -- a manager that keeps its invariant asks as it should
 pub manager-asks : ManagerAsks

@@ -5,8 +5,8 @@ use Rattle.std.proofs.lemmas.List.{map-append}
 use Rattle.std.proofs.lemmas.List.Elements.{All-cons, All-filter, All-head, All-map, All-tail}
 use Rattle.std.proofs.lemmas.Option.{same_Some}
 use Rattle.axi_beats.specs.declared.beat.Addr.{Addr}
-use Rattle.axi_trail.specs.Waiting.{Waiting, fresh, request_of, waiting_shown, beats_by, advanced, answered_once, answered_by, held}
-use Rattle.axi_trail.specs.Words.{Asked, Reply, InOrderOfId, held_asked, beats_of, id_of_asked, id_of_reply, id_of_waiting, len_of_asked, next_reply}
+use Rattle.axi_trail.specs.Waiting.{Waiting, fresh, waiting_request, waiting_shown, beats_by, advanced, answered_once, answered_by, held}
+use Rattle.axi_trail.specs.Words.{Asked, Reply, InOrderOfId, held_asked, beats_due, id_of_asked, id_of_reply, id_of_waiting, len_of_asked, next_reply}
 use Rattle.axi_trail.proofs.HeldFacts.{held-answer, held-request}
 use Rattle.axi_trail.proofs.StepFacts.{answer_keeps_order, answers_within, held-shown, later_requests_are_held, next_answer}
 use Rattle.manager_end.specs.Beats.{item_request}
@@ -24,7 +24,7 @@ id_held w = id_of_item w.request
 
 -- the entries of those that are held
 abbrev pub entries_held : List (Waiting (ℕ × ScriptItem)) → List Entry
-entries_held ws = map entry_of (map request_of ws)
+entries_held ws = map entry_of (map waiting_request ws)
 
 -- an entry that is found is that of the first held one of its ID
 pub find-held : (id : ℕ) (ws : List (Waiting (ℕ × ScriptItem))) (e : Entry) → find (λ (entry : Entry). entry.id == id) (entries_held ws) ≡ Some e → (w : Waiting (ℕ × ScriptItem)) × (others : List (Waiting (ℕ × ScriptItem))) × (of_key id_held id ws ≡ w ∷ others) × (entry_of w.request ≡ e)
@@ -76,8 +76,8 @@ module _ (len_of : Addr → ℕ) where
   pub held-more : (items : List (ℕ × ScriptItem)) (ids : List ℕ) (p : ℕ × ScriptItem) → count_of (id_of_item p) ids ≤ beats_by single_len (of_key id_of_item (id_of_item p) items) → entries_held (holding (items ++ p ∷ []) ids) ≡ entries_held (holding items ids) ++ entry_of p ∷ []
   held-more items ids p few =
       ap entries_held (held-request single_len id_of_item items ids p few)
-      ∙ ap (map entry_of) (map-append request_of (holding items ids) (fresh p ∷ []))
-      ∙ map-append entry_of (map request_of (holding items ids)) (p ∷ [])
+      ∙ ap (map entry_of) (map-append waiting_request (holding items ids) (fresh p ∷ []))
+      ∙ map-append entry_of (map waiting_request (holding items ids)) (p ∷ [])
 
   -- what holds of all requests holds of those that are held
   module _ (P : ℕ × ScriptItem → Type 0) where
@@ -137,7 +137,7 @@ module _ (len_of : Addr → ℕ) where
         head-same : (a b : Waiting Asked) (ws vs : List (Waiting Asked)) → a ∷ ws ≡ b ∷ vs → a ≡ b
         head-same a b ws vs same = cc
 
-    beats-same : (ps : List (ℕ × ScriptItem)) → beats_of (map asked_by ps) ≡ beats_by single_len ps
+    beats-same : (ps : List (ℕ × ScriptItem)) → beats_due (map asked_by ps) ≡ beats_by single_len ps
     beats-same [] = refl
     beats-same (p ∷ ps) = ap (λ (n : ℕ). suc (single_len p) + n) (beats-same ps)
 
@@ -145,5 +145,5 @@ module _ (len_of : Addr → ℕ) where
     pub answers-few : InOrderOfId (map asked_by items) replies → (id : ℕ) → count_of id (map id_of_reply replies) ≤ beats_by single_len (of_key id_of_item id items)
     answers-few order id =
         let most = answers_within (map asked_by items) replies order id
-        in let same : beats_of (of_key id_of_asked id (map asked_by items)) ≡ beats_by single_len (of_key id_of_item id items) = ap beats_of (of_key-map id_of_asked asked_by id items) ∙ beats-same (of_key id_of_item id items)
+        in let same : beats_due (of_key id_of_asked id (map asked_by items)) ≡ beats_by single_len (of_key id_of_item id items) = ap beats_due (of_key-map id_of_asked asked_by id items) ∙ beats-same (of_key id_of_item id items)
         in omega arith

@@ -18,8 +18,8 @@ use Rattle.burst_address.specs.Legal.{IsLegal}
 use Rattle.manager_end.specs.Answer.{AnswerView, answered_in, awaited_of, is_last, unanswered}
 use Rattle.manager_end.specs.Beats.{data_beat, bytes_on_valid_lanes, item_request}
 use Rattle.manager_end.specs.Laws.{DoneIsAnswered, ManagerBegins, ManagerMovesFit}
-use Rattle.manager_end.specs.ManagerState.{ManagerState, answered_one, is_answered, IsManager, IsDue, AreWaiting, AreDistinct, waiting, writes_of, reads_of, due_bytes, due_resps}
-use Rattle.manager_end.specs.ManagerTable.{below, answering, left_waiting, with_issued, more, note_write, note_read, note_issue, ready, fits, beats_after, ending, ends_data, read_in, manager_aw, manager_w, manager_ar, manager_b, manager_r, manager_r_last, manager_next}
+use Rattle.manager_end.specs.ManagerState.{ManagerState, answered_one, is_answered, IsManager, IsDue, AreWaiting, AreDistinct, waiting_places, script_writes, script_reads, due_bytes, due_resps}
+use Rattle.manager_end.specs.ManagerTable.{below, answering, left_waiting, with_issued, more, note_write, note_read, note_issue, ready, beats_after, ending, ends_data, read_in, manager_aw, manager_w, manager_ar, manager_b, manager_r, manager_r_last, manager_next}
 use Rattle.manager_end.specs.Script.{ScriptItem}
 use Rattle.manager_end.specs.declared.entry.Entry.{Entry}
 use Rattle.manager_end.proofs.DueLemmas.{answered-now, last-answers, read-is, read-more, write-last}
@@ -32,7 +32,7 @@ use Rattle.plain_lists.proofs.PlaceLemmas.{all-counted}
 use Rattle.plain_lists.proofs.PartLemmas.{All-middle}
 use Rattle.node_core.specs.Fits.{TakeFits, PutFits}
 use Rattle.axi_link.specs.LinkWords.{link_of, head_of, has_room}
-use Rattle.node_core.specs.Rows.{beat_where, put_of, take_of}
+use Rattle.node_core.specs.Rows.{beat_where, fits, put_of, take_of}
 
 -- B in a round
 kept-b : (script : List ScriptItem) (size round : ℕ) (answers : List AnswerView) (answered : ℕ) (entries : List Entry) (others own : List ℕ) (o : Option (Entry × BBeat)) → 0 < round → ((a : Entry × BBeat) → o ≡ Some a → find (λ (entry : Entry). entry.id == a.0.id) entries ≡ Some a.0) → AreKept script true false size answers answered (map (λ (entry : Entry). entry.place) entries ++ own) others → AreKept script true false size (note_write round o answers) (answered + more (is_some o)) (map (λ (entry : Entry). entry.place) (left_waiting o entries) ++ own) others
@@ -60,13 +60,13 @@ kept-r script size round bus answers answered entries others own (Some a) counts
     in go (is_last (get_or answers a.0.place (unanswered 0))) refl
 
 -- AW or AR in a round
-kept-a : (script : List ScriptItem) (n m : Bool) (size round : ℕ) (answers : List AnswerView) (answered : ℕ) (entries : List Entry) (issued : ℕ) (transactions : List (ℕ × ScriptItem)) (others : List ℕ) (o : Option (ℕ × ScriptItem)) → ((next : ℕ × ScriptItem) → o ≡ Some next → slice_get transactions issued ≡ Some next) → AreKept script n m size answers answered (waiting entries issued transactions) others → AreKept script n m size (note_issue round o answers) answered (waiting (with_issued o entries) (issued + more (is_some o)) transactions) others
+kept-a : (script : List ScriptItem) (n m : Bool) (size round : ℕ) (answers : List AnswerView) (answered : ℕ) (entries : List Entry) (issued : ℕ) (transactions : List (ℕ × ScriptItem)) (others : List ℕ) (o : Option (ℕ × ScriptItem)) → ((next : ℕ × ScriptItem) → o ≡ Some next → slice_get transactions issued ≡ Some next) → AreKept script n m size answers answered (waiting_places entries issued transactions) others → AreKept script n m size (note_issue round o answers) answered (waiting_places (with_issued o entries) (issued + more (is_some o)) transactions) others
 kept-a script n m size round answers answered entries issued transactions others None next kept = rw add-zero kept
 kept-a script n m size round answers answered entries issued transactions others (Some x) next kept =
     let is = next x refl
     in let within = All-middle (λ p. p < length answers) (map (λ (entry : Entry). entry.place) entries) x.0 (map (λ (p : ℕ × ScriptItem). p.0) (drop (issued + 1) transactions)) (subst (All (λ p. p < length answers)) (waiting-next entries issued transactions x is) kept.own_waiting.within)
     in subst (λ (places : List ℕ). AreKept script n m size (note_issue round (Some x) answers) answered places others) (sym (waiting-issued entries issued transactions x is))
-    (kept-issued script n m size round x.0 answers answered (waiting entries issued transactions) others within kept)
+    (kept-issued script n m size round x.0 answers answered (waiting_places entries issued transactions) others within kept)
 
 -- no more is issued than there is
 issued-most : (issued : ℕ) (transactions : List (ℕ × ScriptItem)) (o : Option (ℕ × ScriptItem)) → ((next : ℕ × ScriptItem) → o ≡ Some next → slice_get transactions issued ≡ Some next) → issued ≤ length transactions → issued + more (is_some o) ≤ length transactions
@@ -125,33 +125,33 @@ module _ {X : Type 0} where
       in omega (arith, waiting-most entries gone, one)
 
 module _ (links : List LinkView) (s : ManagerState) where
-  at-start : IsManager s → AreKept s.script true false (length s.script) s.answers s.answered (waiting s.write_entries s.issued_writes (writes_of s.script)) (waiting s.read_entries s.issued_reads (reads_of s.script))
+  at-start : IsManager s → AreKept s.script true false (length s.script) s.answers s.answered (waiting_places s.write_entries s.issued_writes (script_writes s.script)) (waiting_places s.read_entries s.issued_reads (script_reads s.script))
   at-start is = record { own_waiting = is.writes_waiting; other_waiting = is.reads_waiting; counted = is.counted; one_each = is.one_each }
 
   -- the answers and those that wait after B
-  pub after-b : (round : ℕ) → 0 < round → IsManager s → AreKept s.script true false (length s.script) (note_write round (manager_b links s) s.answers) (s.answered + more (is_some (manager_b links s))) (waiting (left_waiting (manager_b links s) s.write_entries) s.issued_writes (writes_of s.script)) (waiting s.read_entries s.issued_reads (reads_of s.script))
+  pub after-b : (round : ℕ) → 0 < round → IsManager s → AreKept s.script true false (length s.script) (note_write round (manager_b links s) s.answers) (s.answered + more (is_some (manager_b links s))) (waiting_places (left_waiting (manager_b links s) s.write_entries) s.issued_writes (script_writes s.script)) (waiting_places s.read_entries s.issued_reads (script_reads s.script))
   after-b round counts is = kept-b s.script (length s.script) round s.answers s.answered s.write_entries _ _ (manager_b links s) counts (answering-found (λ beat. beat.id) s.write_entries (head_of (below links s).b)) (at-start is)
 
   -- the answers and those that wait after B and R
-  pub after-r : (round : ℕ) → 0 < round → IsManager s → AreKept s.script false true (length s.script) (note_read round s.bus s.script (manager_r links s) (note_write round (manager_b links s) s.answers)) (s.answered + more (is_some (manager_b links s)) + more (is_some (manager_r_last links s))) (waiting (left_waiting (manager_r_last links s) s.read_entries) s.issued_reads (reads_of s.script)) (waiting (left_waiting (manager_b links s) s.write_entries) s.issued_writes (writes_of s.script))
+  pub after-r : (round : ℕ) → 0 < round → IsManager s → AreKept s.script false true (length s.script) (note_read round s.bus s.script (manager_r links s) (note_write round (manager_b links s) s.answers)) (s.answered + more (is_some (manager_b links s)) + more (is_some (manager_r_last links s))) (waiting_places (left_waiting (manager_r_last links s) s.read_entries) s.issued_reads (script_reads s.script)) (waiting_places (left_waiting (manager_b links s) s.write_entries) s.issued_writes (script_writes s.script))
   after-r round counts is =
-      subst (λ (o : Option (Entry × RBeat)). AreKept s.script false true (length s.script) (note_read round s.bus s.script (manager_r links s) (note_write round (manager_b links s) s.answers)) (s.answered + more (is_some (manager_b links s)) + more (is_some o)) (waiting (left_waiting o s.read_entries) s.issued_reads (reads_of s.script)) (waiting (left_waiting (manager_b links s) s.write_entries) s.issued_writes (writes_of s.script)))
+      subst (λ (o : Option (Entry × RBeat)). AreKept s.script false true (length s.script) (note_read round s.bus s.script (manager_r links s) (note_write round (manager_b links s) s.answers)) (s.answered + more (is_some (manager_b links s)) + more (is_some o)) (waiting_places (left_waiting o s.read_entries) s.issued_reads (script_reads s.script)) (waiting_places (left_waiting (manager_b links s) s.write_entries) s.issued_writes (script_writes s.script)))
       (ending-same links s is round)
       (kept-r s.script (length s.script) round s.bus _ _ s.read_entries _ _ (manager_r links s) counts is.bus_width is.legal (answering-found (λ beat. beat.id) s.read_entries (head_of (below links s).r)) (kept-turned s.script true false (length s.script) _ _ _ _ (after-b round counts is)))
 
   -- what holds of a manager holds after a round
   pub manager-stays : (round : ℕ) → 0 < round → IsManager s → IsManager (manager_next round links s)
   manager-stays round counts is =
-      let after_aw = kept-a s.script true false (length s.script) round _ _ (left_waiting (manager_b links s) s.write_entries) s.issued_writes (writes_of s.script) _ (manager_aw links s) (aw-next links s) (kept-turned s.script false true (length s.script) _ _ _ _ (after-r round counts is))
-      in let after_ar = kept-a s.script false true (length s.script) round _ _ (left_waiting (manager_r_last links s) s.read_entries) s.issued_reads (reads_of s.script) _ (manager_ar links s) (ar-next links s) (kept-turned s.script true false (length s.script) _ _ _ _ after_aw)
+      let after_aw = kept-a s.script true false (length s.script) round _ _ (left_waiting (manager_b links s) s.write_entries) s.issued_writes (script_writes s.script) _ (manager_aw links s) (aw-next links s) (kept-turned s.script false true (length s.script) _ _ _ _ (after-r round counts is))
+      in let after_ar = kept-a s.script false true (length s.script) round _ _ (left_waiting (manager_r_last links s) s.read_entries) s.issued_reads (script_reads s.script) _ (manager_ar links s) (ar-next links s) (kept-turned s.script true false (length s.script) _ _ _ _ after_aw)
       in record {
         is_script = is.is_script;
         bus_width = is.bus_width;
         legal = is.legal;
-        writes_issued = issued-most s.issued_writes (writes_of s.script) (manager_aw links s) (aw-next links s) is.writes_issued;
-        reads_issued = issued-most s.issued_reads (reads_of s.script) (manager_ar links s) (ar-next links s) is.reads_issued;
+        writes_issued = issued-most s.issued_writes (script_writes s.script) (manager_aw links s) (aw-next links s) is.writes_issued;
+        reads_issued = issued-most s.issued_reads (script_reads s.script) (manager_ar links s) (ar-next links s) is.reads_issued;
         writes_sent = sent-most s.sent_writes s.issued_writes (more (is_some (manager_aw links s))) s.sent_beats (manager_w links s) (w-issued links s) is.writes_sent;
-        beats_sent = beats-most s.sent_writes s.sent_beats (writes_of s.script) (manager_w links s) (w-next links s) is.beats_sent;
+        beats_sent = beats-most s.sent_writes s.sent_beats (script_writes s.script) (manager_w links s) (w-next links s) is.beats_sent;
         writes_fit = fit-most s.write_entries (manager_aw links s) (manager_b links s) (aw-fits links s) is.writes_fit;
         reads_fit = fit-most s.read_entries (manager_ar links s) (manager_r_last links s) (ar-fits links s) is.reads_fit;
         one_each = after_ar.one_each;
@@ -207,7 +207,7 @@ none-came-at write script p at directed =
     })
 
 -- the transactions of one direction wait
-waits-first : (write : Bool) (test : ℕ × ScriptItem → Bool) (script : List ScriptItem) → ((p : ℕ × ScriptItem) → test p ≡ true → p.1.txn.write ≡ write) → AreWaiting script write (map new-answer script) (waiting [] 0 (filter test (enumerate_from 0 script)))
+waits-first : (write : Bool) (test : ℕ × ScriptItem → Bool) (script : List ScriptItem) → ((p : ℕ × ScriptItem) → test p ≡ true → p.1.txn.write ≡ write) → AreWaiting script write (map new-answer script) (waiting_places [] 0 (filter test (enumerate_from 0 script)))
 waits-first write test script directed =
     let numbered = All-filter test (λ (p : ℕ × ScriptItem). (p.0 < length script) × ((d : ScriptItem) → get_or script p.0 d ≡ p.1)) (enumerate_from 0 script) (numbered-at script)
     in let passed = filter_passes test (enumerate_from 0 script)
@@ -226,7 +226,7 @@ manager-begins script lower bus is_script wide legal = record {
   writes_issued = omega arith;
   reads_issued = omega arith;
   writes_sent = omega arith;
-  beats_sent = none-sent (slice_get (writes_of script) 0);
+  beats_sent = none-sent (slice_get (script_writes script) 0);
   writes_fit = omega arith;
   reads_fit = omega arith;
   one_each = length-map script new-answer;
@@ -265,13 +265,13 @@ module _ (links : List LinkView) (number : ℕ) where
 pub manager-fits : ManagerMovesFit
 manager-fits links s = record {
   aw_take = tt;
-  aw_put = put-fits links s.lower (λ l. l.aw) (option_map (λ next. item_request next.1) (manager_aw links s)) (beat_where-room links s.lower (λ l. l.aw) (λ next. item_request next.1) (fits s.write_entries) (ready s.answered (slice_get (writes_of s.script) s.issued_writes)) (below links s).depth (below links s).aw);
+  aw_put = put-fits links s.lower (λ l. l.aw) (option_map (λ next. item_request next.1) (manager_aw links s)) (beat_where-room links s.lower (λ l. l.aw) (λ next. item_request next.1) (fits s.write_entries) (ready s.answered (slice_get (script_writes s.script) s.issued_writes)) (below links s).depth (below links s).aw);
   w_take = tt;
-  w_put = put-fits links s.lower (λ l. l.w) (option_map (λ next. data_beat next.1 s.bus s.sent_beats) (manager_w links s)) (beat_where-room links s.lower (λ l. l.w) (λ next. data_beat next.1 s.bus s.sent_beats) (nat_lt s.sent_writes s.issued_writes) (slice_get (writes_of s.script) s.sent_writes) (below links s).depth (below links s).w);
+  w_put = put-fits links s.lower (λ l. l.w) (option_map (λ next. data_beat next.1 s.bus s.sent_beats) (manager_w links s)) (beat_where-room links s.lower (λ l. l.w) (λ next. data_beat next.1 s.bus s.sent_beats) (nat_lt s.sent_writes s.issued_writes) (slice_get (script_writes s.script) s.sent_writes) (below links s).depth (below links s).w);
   b_take = take-fits links s.lower (λ l. l.b) (is_some (manager_b links s)) (answering-head links s.lower (λ l. l.b) (λ beat. beat.id) s.write_entries (below links s).b);
   b_put = tt;
   ar_take = tt;
-  ar_put = put-fits links s.lower (λ l. l.ar) (option_map (λ next. item_request next.1) (manager_ar links s)) (beat_where-room links s.lower (λ l. l.ar) (λ next. item_request next.1) (fits s.read_entries) (ready s.answered (slice_get (reads_of s.script) s.issued_reads)) (below links s).depth (below links s).ar);
+  ar_put = put-fits links s.lower (λ l. l.ar) (option_map (λ next. item_request next.1) (manager_ar links s)) (beat_where-room links s.lower (λ l. l.ar) (λ next. item_request next.1) (fits s.read_entries) (ready s.answered (slice_get (script_reads s.script) s.issued_reads)) (below links s).depth (below links s).ar);
   r_take = take-fits links s.lower (λ l. l.r) (is_some (manager_r links s)) (answering-head links s.lower (λ l. l.r) (λ beat. beat.id) s.read_entries (below links s).r);
   r_put = tt;
 }

@@ -10,7 +10,7 @@ use Rattle.axi_link.specs.LinkView.{LinkView}
 use Rattle.manager_end.specs.Answer.{AnswerView, unanswered, is_last, issued_in, answered_in}
 use Rattle.manager_end.specs.Beats.{bytes_on_valid_lanes}
 use Rattle.manager_end.specs.ManagerOrder.{note_at}
-use Rattle.manager_end.specs.ManagerState.{ManagerState, IsDue, IsManager, AreWaiting, waiting, entries_of, issued_of, of_direction}
+use Rattle.manager_end.specs.ManagerState.{ManagerState, IsDue, IsManager, AreWaiting, waiting_places, entries_of, issued_of, of_direction}
 use Rattle.manager_end.specs.ManagerTable.{manager_aw, manager_ar, manager_b, manager_r, manager_next, ending, read_in, note_write, note_read, note_issue}
 use Rattle.manager_end.specs.Script.{ScriptItem}
 use Rattle.manager_end.specs.declared.entry.Entry.{Entry}
@@ -71,7 +71,7 @@ module _ (round : ℕ) (answers : List AnswerView) where
       ∙ get_or-set_same answers p.0 (issued_in round (get_or answers p.0 (unanswered 0))) (unanswered 0) within
 
 -- the transactions of a direction that wait
-pub wait-of : (s : ManagerState) (write : Bool) → IsManager s → AreWaiting s.script write s.answers (waiting (entries_of write s) (issued_of write s) (of_direction write s.script))
+pub wait-of : (s : ManagerState) (write : Bool) → IsManager s → AreWaiting s.script write s.answers (waiting_places (entries_of write s) (issued_of write s) (of_direction write s.script))
 wait-of s true is = is.writes_waiting
 wait-of s false is = is.reads_waiting
 
@@ -107,10 +107,10 @@ module _ (links : List LinkView) (s : ManagerState) where
   next-after false p is = ar-after links s p is
 
   -- what holds of the places of those that wait holds of an entry that is answered, and of one that is issued
-  pub taken-place : (write : Bool) (e : Entry) (P : ℕ → Type 0) → taken_of write ≡ Some e → All P (waiting (entries_of write s) (issued_of write s) (of_direction write s.script)) → P e.place
+  pub taken-place : (write : Bool) (e : Entry) (P : ℕ → Type 0) → taken_of write ≡ Some e → All P (waiting_places (entries_of write s) (issued_of write s) (of_direction write s.script)) → P e.place
   taken-place write e P is all = All-oldest P e.id (entries_of write s) (map (λ (p : ℕ × ScriptItem). p.0) (drop (issued_of write s) (of_direction write s.script))) e (taken-found write e is) all
 
-  pub next-place : (write : Bool) (p : ℕ × ScriptItem) (P : ℕ → Type 0) → next_of write ≡ Some p → All P (waiting (entries_of write s) (issued_of write s) (of_direction write s.script)) → P p.0
+  pub next-place : (write : Bool) (p : ℕ × ScriptItem) (P : ℕ → Type 0) → next_of write ≡ Some p → All P (waiting_places (entries_of write s) (issued_of write s) (of_direction write s.script)) → P p.0
   next-place write p P is all =
       All-middle P (map (λ (entry : Entry). entry.place) (entries_of write s)) p.0 (map (λ (p : ℕ × ScriptItem). p.0) (drop (issued_of write s + 1) (of_direction write s.script)))
       (subst (All P) (waiting-next (entries_of write s) (issued_of write s) (of_direction write s.script) p (next-found write p is)) all)

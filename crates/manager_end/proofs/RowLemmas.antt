@@ -6,13 +6,13 @@ use Rattle.std.proofs.lemmas.Bool.{ltb-true, leb-true, and_parts}
 use Rattle.axi_beats.specs.declared.beat.BBeat.{BBeat}
 use Rattle.axi_beats.specs.declared.beat.RBeat.{RBeat}
 use Rattle.axi_link.specs.LinkView.{LinkView}
-use Rattle.manager_end.specs.ManagerState.{ManagerState, writes_of, reads_of}
-use Rattle.manager_end.specs.ManagerTable.{below, answering, ready, fits, manager_aw, manager_w, manager_ar, manager_b, manager_r}
+use Rattle.manager_end.specs.ManagerState.{ManagerState, script_writes, script_reads}
+use Rattle.manager_end.specs.ManagerTable.{below, answering, ready, manager_aw, manager_w, manager_ar, manager_b, manager_r}
 use Rattle.manager_end.specs.Script.{ScriptItem}
 use Rattle.manager_end.specs.declared.entry.Entry.{Entry}
 use Rattle.manager_end.proofs.WaitingLemmas.{oldest-id}
 use Rattle.axi_link.specs.LinkWords.{head_of}
-use Rattle.node_core.specs.Rows.{beat_where}
+use Rattle.node_core.specs.Rows.{beat_where, fits}
 
 module _ {X : Type 0} where
   -- what passes is there, and its condition holds
@@ -48,29 +48,29 @@ ready-after answered (Some x) next is =
     in subst (λ (p : ℕ × ScriptItem). p.1.txn.after ≤ answered) same (leb-true x.1.txn.after answered both.0)
 
 module _ (links : List LinkView) (s : ManagerState) where
-  pub aw-next : (next : ℕ × ScriptItem) → manager_aw links s ≡ Some next → slice_get (writes_of s.script) s.issued_writes ≡ Some next
-  aw-next next is = ready-some s.answered (slice_get (writes_of s.script) s.issued_writes) next (beat_where-some _ (ready s.answered (slice_get (writes_of s.script) s.issued_writes)) next is).1
+  pub aw-next : (next : ℕ × ScriptItem) → manager_aw links s ≡ Some next → slice_get (script_writes s.script) s.issued_writes ≡ Some next
+  aw-next next is = ready-some s.answered (slice_get (script_writes s.script) s.issued_writes) next (beat_where-some _ (ready s.answered (slice_get (script_writes s.script) s.issued_writes)) next is).1
 
   pub aw-fits : (next : ℕ × ScriptItem) → manager_aw links s ≡ Some next → length s.write_entries < 16
-  aw-fits next is = ltb-true (length s.write_entries) 16 (and_parts (fits s.write_entries) _ (beat_where-some _ (ready s.answered (slice_get (writes_of s.script) s.issued_writes)) next is).0).0
+  aw-fits next is = ltb-true (length s.write_entries) 16 (and_parts (fits s.write_entries) _ (beat_where-some _ (ready s.answered (slice_get (script_writes s.script) s.issued_writes)) next is).0).0
 
-  pub ar-next : (next : ℕ × ScriptItem) → manager_ar links s ≡ Some next → slice_get (reads_of s.script) s.issued_reads ≡ Some next
-  ar-next next is = ready-some s.answered (slice_get (reads_of s.script) s.issued_reads) next (beat_where-some _ (ready s.answered (slice_get (reads_of s.script) s.issued_reads)) next is).1
+  pub ar-next : (next : ℕ × ScriptItem) → manager_ar links s ≡ Some next → slice_get (script_reads s.script) s.issued_reads ≡ Some next
+  ar-next next is = ready-some s.answered (slice_get (script_reads s.script) s.issued_reads) next (beat_where-some _ (ready s.answered (slice_get (script_reads s.script) s.issued_reads)) next is).1
 
   pub ar-fits : (next : ℕ × ScriptItem) → manager_ar links s ≡ Some next → length s.read_entries < 16
-  ar-fits next is = ltb-true (length s.read_entries) 16 (and_parts (fits s.read_entries) _ (beat_where-some _ (ready s.answered (slice_get (reads_of s.script) s.issued_reads)) next is).0).0
+  ar-fits next is = ltb-true (length s.read_entries) 16 (and_parts (fits s.read_entries) _ (beat_where-some _ (ready s.answered (slice_get (script_reads s.script) s.issued_reads)) next is).0).0
 
   pub w-issued : (next : ℕ × ScriptItem) → manager_w links s ≡ Some next → s.sent_writes < s.issued_writes
-  w-issued next is = ltb-true s.sent_writes s.issued_writes (and_parts (nat_lt s.sent_writes s.issued_writes) _ (beat_where-some _ (slice_get (writes_of s.script) s.sent_writes) next is).0).0
+  w-issued next is = ltb-true s.sent_writes s.issued_writes (and_parts (nat_lt s.sent_writes s.issued_writes) _ (beat_where-some _ (slice_get (script_writes s.script) s.sent_writes) next is).0).0
 
   pub aw-after : (next : ℕ × ScriptItem) → manager_aw links s ≡ Some next → next.1.txn.after ≤ s.answered
-  aw-after next is = ready-after s.answered (slice_get (writes_of s.script) s.issued_writes) next (beat_where-some _ (ready s.answered (slice_get (writes_of s.script) s.issued_writes)) next is).1
+  aw-after next is = ready-after s.answered (slice_get (script_writes s.script) s.issued_writes) next (beat_where-some _ (ready s.answered (slice_get (script_writes s.script) s.issued_writes)) next is).1
 
   pub ar-after : (next : ℕ × ScriptItem) → manager_ar links s ≡ Some next → next.1.txn.after ≤ s.answered
-  ar-after next is = ready-after s.answered (slice_get (reads_of s.script) s.issued_reads) next (beat_where-some _ (ready s.answered (slice_get (reads_of s.script) s.issued_reads)) next is).1
+  ar-after next is = ready-after s.answered (slice_get (script_reads s.script) s.issued_reads) next (beat_where-some _ (ready s.answered (slice_get (script_reads s.script) s.issued_reads)) next is).1
 
-  pub w-next : (next : ℕ × ScriptItem) → manager_w links s ≡ Some next → slice_get (writes_of s.script) s.sent_writes ≡ Some next
-  w-next next is = (beat_where-some _ (slice_get (writes_of s.script) s.sent_writes) next is).1
+  pub w-next : (next : ℕ × ScriptItem) → manager_w links s ≡ Some next → slice_get (script_writes s.script) s.sent_writes ≡ Some next
+  w-next next is = (beat_where-some _ (slice_get (script_writes s.script) s.sent_writes) next is).1
 
   -- an answer that is taken is one of the oldest entry of its ID
   pub b-found : (answer : Entry × BBeat) → manager_b links s ≡ Some answer → find (λ (entry : Entry). entry.id == answer.0.id) s.write_entries ≡ Some answer.0

@@ -18,8 +18,8 @@ use Rattle.axi_link.specs.LinkView.{LinkView}
 use Rattle.burst_address.specs.Bytes.{beat_bytes, bytes_before}
 use Rattle.manager_end.specs.Answer.{AnswerView, is_last, unanswered}
 use Rattle.manager_end.specs.ManagerInside.{IsWithin, sent_after}
-use Rattle.manager_end.specs.ManagerState.{ManagerState, IsDue, IsManager, is_answered, is_directed, of_direction, writes_of, reads_of}
-use Rattle.manager_end.specs.ManagerTable.{answering, beats_after, below, ending, ends_data, fits, ready, more, left_waiting, note_write, note_read, manager_aw, manager_w, manager_ar, manager_b, manager_r, manager_r_last}
+use Rattle.manager_end.specs.ManagerState.{ManagerState, IsDue, IsManager, is_answered, is_directed, of_direction, script_writes, script_reads}
+use Rattle.manager_end.specs.ManagerTable.{answering, beats_after, below, ending, ends_data, ready, more, left_waiting, note_write, note_read, manager_aw, manager_w, manager_ar, manager_b, manager_r, manager_r_last}
 use Rattle.manager_end.specs.Placed.{placed}
 use Rattle.manager_end.specs.Script.{ScriptItem}
 use Rattle.manager_end.specs.declared.entry.Entry.{Entry}
@@ -34,7 +34,7 @@ use Rattle.manager_end.proofs.WaitingLemmas.{All-entries}
 use Rattle.plain_lists.proofs.PrefixLemmas.{length-filter_le}
 use Rattle.node_core.specs.Acted.{Acted}
 use Rattle.axi_link.specs.LinkWords.{has_room}
-use Rattle.node_core.specs.Rows.{beat_where}
+use Rattle.node_core.specs.Rows.{beat_where, fits}
 
 module _ (write : Bool) (script : List ScriptItem) (places : List ℕ) (same : places ≡ map (λ (p : ℕ × ScriptItem). p.0) (of_direction write script)) where
   numbered : All (λ (p : ℕ × ScriptItem). (p.0 < length script) × ((d : ScriptItem) → get_or script p.0 d ≡ p.1)) (of_direction write script)
@@ -58,24 +58,24 @@ module _ (write : Bool) (script : List ScriptItem) (places : List ℕ) (same : p
       in ap (placed script) (ap (λ (ps : List ℕ). slice_get ps k) same ∙ slice_get-map (λ (p : ℕ × ScriptItem). p.0) (of_direction write script) k) ∙ go (slice_get (of_direction write script) k) refl
 
 -- the data place at the start of the next write
-pub sending-first : (script : List ScriptItem) (k n : ℕ) → IfSome (slice_get (writes_of script) k) (λ (next : ℕ × ScriptItem). IsWithin (record { writes = n; beats = 0; bytes = 0 }) next.1)
+pub sending-first : (script : List ScriptItem) (k n : ℕ) → IfSome (slice_get (script_writes script) k) (λ (next : ℕ × ScriptItem). IsWithin (record { writes = n; beats = 0; bytes = 0 }) next.1)
 sending-first script k n =
-    let go : (o : Option (ℕ × ScriptItem)) → slice_get (writes_of script) k ≡ o → IfSome o (λ (next : ℕ × ScriptItem). IsWithin (record { writes = n; beats = 0; bytes = 0 }) next.1) =
+    let go : (o : Option (ℕ × ScriptItem)) → slice_get (script_writes script) k ≡ o → IfSome o (λ (next : ℕ × ScriptItem). IsWithin (record { writes = n; beats = 0; bytes = 0 }) next.1) =
     elim [
       | None ↦ λ at. tt
       | Some p ↦ λ at. record { write = (direction-at true script k p at).1; beats = omega arith; bytes = refl }
     ]
-    in go (slice_get (writes_of script) k) refl
+    in go (slice_get (script_writes script) k) refl
 
 -- and after a data beat
-pub sending-next : (script : List ScriptItem) (sending : Sending) (o : Option (ℕ × ScriptItem)) → ((next : ℕ × ScriptItem) → o ≡ Some next → slice_get (writes_of script) sending.writes ≡ Some next) →
-    IfSome (slice_get (writes_of script) sending.writes) (λ (next : ℕ × ScriptItem). IsWithin sending next.1) → IfSome (slice_get (writes_of script) (sent_after o sending).writes) (λ (next : ℕ × ScriptItem). IsWithin (sent_after o sending) next.1)
+pub sending-next : (script : List ScriptItem) (sending : Sending) (o : Option (ℕ × ScriptItem)) → ((next : ℕ × ScriptItem) → o ≡ Some next → slice_get (script_writes script) sending.writes ≡ Some next) →
+    IfSome (slice_get (script_writes script) sending.writes) (λ (next : ℕ × ScriptItem). IsWithin sending next.1) → IfSome (slice_get (script_writes script) (sent_after o sending).writes) (λ (next : ℕ × ScriptItem). IsWithin (sent_after o sending) next.1)
 sending-next script sending None next within = within
 sending-next script sending (Some x) next within =
     let at = next x refl
     in let own : IsWithin sending x.1 = subst (λ (o : Option (ℕ × ScriptItem)). IfSome o (λ (next : ℕ × ScriptItem). IsWithin sending next.1)) at within
     in let after : Bool → Sending = λ b. cond b (record { writes = sending.writes + 1; beats = 0; bytes = 0 }) (record { writes = sending.writes; beats = sending.beats + 1; bytes = sending.bytes + length (beat_bytes x.1.txn.request sending.beats) })
-    in let go : (b : Bool) → (sending.beats == x.1.txn.request.len) ≡ b → IfSome (slice_get (writes_of script) (after b).writes) (λ (next : ℕ × ScriptItem). IsWithin (after b) next.1) =
+    in let go : (b : Bool) → (sending.beats == x.1.txn.request.len) ≡ b → IfSome (slice_get (script_writes script) (after b).writes) (λ (next : ℕ × ScriptItem). IsWithin (after b) next.1) =
     elim [
       | true ↦ λ last. sending-first script (sending.writes + 1) (sending.writes + 1)
       | false ↦ λ some. subst (λ (o : Option (ℕ × ScriptItem)). IfSome o (λ (next : ℕ × ScriptItem). IsWithin (after false) next.1)) (sym at) (record {
@@ -107,17 +107,17 @@ byte-more true = refl
 byte-more false = refl
 
 module _ (links : List LinkView) (s : ManagerState) where
-  pub aw-is : (link : LinkView) (places : List ℕ) (room : Bool) (o : Option (ℕ × ScriptItem)) → places ≡ map (λ (p : ℕ × ScriptItem). p.0) (writes_of s.script) → link ≡ below links s → room ≡ has_room link.depth link.aw → o ≡ beat_where (fits s.write_entries && room) (ready s.answered (placed s.script (slice_get places s.issued_writes))) → o ≡ manager_aw links s
+  pub aw-is : (link : LinkView) (places : List ℕ) (room : Bool) (o : Option (ℕ × ScriptItem)) → places ≡ map (λ (p : ℕ × ScriptItem). p.0) (script_writes s.script) → link ≡ below links s → room ≡ has_room link.depth link.aw → o ≡ beat_where (fits s.write_entries && room) (ready s.answered (placed s.script (slice_get places s.issued_writes))) → o ≡ manager_aw links s
   aw-is link places room o same under has is =
       is ∙ ap (λ (r : Bool). beat_where (fits s.write_entries && r) (ready s.answered (placed s.script (slice_get places s.issued_writes)))) (has ∙ ap (λ (l : LinkView). has_room l.depth l.aw) under)
       ∙ ap (λ (next : Option (ℕ × ScriptItem)). beat_where (fits s.write_entries && has_room (below links s).depth (below links s).aw) (ready s.answered next)) (placed-next true s.script places same s.issued_writes)
 
-  pub ar-is : (link : LinkView) (places : List ℕ) (room : Bool) (o : Option (ℕ × ScriptItem)) → places ≡ map (λ (p : ℕ × ScriptItem). p.0) (reads_of s.script) → link ≡ below links s → room ≡ has_room link.depth link.ar → o ≡ beat_where (fits s.read_entries && room) (ready s.answered (placed s.script (slice_get places s.issued_reads))) → o ≡ manager_ar links s
+  pub ar-is : (link : LinkView) (places : List ℕ) (room : Bool) (o : Option (ℕ × ScriptItem)) → places ≡ map (λ (p : ℕ × ScriptItem). p.0) (script_reads s.script) → link ≡ below links s → room ≡ has_room link.depth link.ar → o ≡ beat_where (fits s.read_entries && room) (ready s.answered (placed s.script (slice_get places s.issued_reads))) → o ≡ manager_ar links s
   ar-is link places room o same under has is =
       is ∙ ap (λ (r : Bool). beat_where (fits s.read_entries && r) (ready s.answered (placed s.script (slice_get places s.issued_reads)))) (has ∙ ap (λ (l : LinkView). has_room l.depth l.ar) under)
       ∙ ap (λ (next : Option (ℕ × ScriptItem)). beat_where (fits s.read_entries && has_room (below links s).depth (below links s).ar) (ready s.answered next)) (placed-next false s.script places same s.issued_reads)
 
-  pub w-is : (link : LinkView) (places : List ℕ) (room : Bool) (o : Option ℕ) → places ≡ map (λ (p : ℕ × ScriptItem). p.0) (writes_of s.script) → link ≡ below links s → room ≡ has_room link.depth link.w → o ≡ beat_where (nat_lt s.sent_writes s.issued_writes && room) (slice_get places s.sent_writes) → placed s.script o ≡ manager_w links s
+  pub w-is : (link : LinkView) (places : List ℕ) (room : Bool) (o : Option ℕ) → places ≡ map (λ (p : ℕ × ScriptItem). p.0) (script_writes s.script) → link ≡ below links s → room ≡ has_room link.depth link.w → o ≡ beat_where (nat_lt s.sent_writes s.issued_writes && room) (slice_get places s.sent_writes) → placed s.script o ≡ manager_w links s
   w-is link places room o same under has is =
       ap (placed s.script) is ∙ placed-beat_where s.script (nat_lt s.sent_writes s.issued_writes && room) (slice_get places s.sent_writes)
       ∙ ap (λ (r : Bool). beat_where (nat_lt s.sent_writes s.issued_writes && r) (placed s.script (slice_get places s.sent_writes))) (has ∙ ap (λ (l : LinkView). has_room l.depth l.w) under)
@@ -174,7 +174,7 @@ pub acted-same : (s s' : ManagerState) (out out' : Out) → s ≡ s' → out ≡
 acted-same s s' out out' a b = cc
 
 -- the data place of a new manager
-pub sending-begins : (script : List ScriptItem) → IfSome (slice_get (writes_of script) 0) (λ (next : ℕ × ScriptItem). IsWithin (record { writes = 0; beats = 0; bytes = 0 }) next.1)
+pub sending-begins : (script : List ScriptItem) → IfSome (slice_get (script_writes script) 0) (λ (next : ℕ × ScriptItem). IsWithin (record { writes = 0; beats = 0; bytes = 0 }) next.1)
 sending-begins script = sending-first script 0 0
 
 -- the writes whose data is sent are few
@@ -187,11 +187,11 @@ sent-small s is =
 
 -- the data place within the next write
 pub next-within : (links : List LinkView) (s : ManagerState) (sending : Sending) (o : Option (ℕ × ScriptItem)) → o ≡ manager_w links s → sending.writes ≡ s.sent_writes →
-    IfSome (slice_get (writes_of s.script) sending.writes) (λ (next : ℕ × ScriptItem). IsWithin sending next.1) → IfSome o (λ (next : ℕ × ScriptItem). IsWithin sending next.1)
+    IfSome (slice_get (script_writes s.script) sending.writes) (λ (next : ℕ × ScriptItem). IsWithin sending next.1) → IfSome o (λ (next : ℕ × ScriptItem). IsWithin sending next.1)
 next-within links s sending None is same within = tt
 next-within links s sending (Some x) is same within =
     let at = w-next links s x (sym is)
-    in subst (λ (o : Option (ℕ × ScriptItem)). IfSome o (λ (next : ℕ × ScriptItem). IsWithin sending next.1)) (ap (slice_get (writes_of s.script)) same ∙ at) within
+    in subst (λ (o : Option (ℕ × ScriptItem)). IfSome o (λ (next : ℕ × ScriptItem). IsWithin sending next.1)) (ap (slice_get (script_writes s.script)) same ∙ at) within
 
 -- the data place after a round, as the table has it
 pub sent-writes : (sending : Sending) (o : Option (ℕ × ScriptItem)) → (sent_after o sending).writes ≡ sending.writes + more (ends_data sending.beats o)

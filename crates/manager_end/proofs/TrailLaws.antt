@@ -18,7 +18,7 @@ use Rattle.axi_trail.specs.Words.{number_of_response, number_of_read_data}
 use Rattle.manager_end.specs.Answer.{AnswerView, answered_in, is_last}
 use Rattle.manager_end.specs.Beats.{bytes_on_valid_lanes}
 use Rattle.manager_end.specs.ManagerOrder.{IsAt, note_at}
-use Rattle.manager_end.specs.ManagerState.{ManagerState, IsDue, IsManager, due_resps, new_manager, of_direction, writes_of}
+use Rattle.manager_end.specs.ManagerState.{ManagerState, IsDue, IsManager, due_resps, new_manager, of_direction, script_writes}
 use Rattle.manager_end.specs.ManagerTable.{manager_b, manager_r, manager_next, read_in}
 use Rattle.manager_end.specs.ManagerTrail.{HasItem, HasPassed, IsReadNote, IsWriteNote, ManagerKeeps, ManagerOpens, ManagerSteps, first_data, manager_trail, spans_of}
 use Rattle.manager_end.specs.Script.{ScriptItem}
@@ -222,7 +222,7 @@ manager-opens schedule script lower bus is wide words scheduled =
       in_order = order-begins script lower bus;
       passed = record {
         aw = refl;
-        w = sym (none-sent (slice_get (writes_of script) 0));
+        w = sym (none-sent (slice_get (script_writes script) 0));
         ar = refl;
         write_entries = refl;
         read_entries = refl;

@@ -11,18 +11,18 @@ use Rattle.axi_beats.specs.declared.beat.BBeat.{BBeat}
 use Rattle.axi_beats.specs.declared.beat.RBeat.{RBeat}
 use Rattle.axi_beats.specs.declared.beat.WBeat.{WBeat}
 use Rattle.axi_link.specs.LinkView.{LinkView}
-use Rattle.axi_trail.proofs.HeldFacts.{held-of_id}
+use Rattle.axi_trail.proofs.HeldFacts.{held-of_key}
 use Rattle.axi_trail.proofs.PlaceFacts.{oldest_held_is_next_of_its_own}
 use Rattle.axi_trail.proofs.StepFacts.{pending-lacks}
 use Rattle.axi_trail.specs.LinkContracts.{Answers}
 use Rattle.axi_trail.specs.Schedule.{Schedule, Progress}
 use Rattle.axi_trail.specs.Trail.{Beats}
 use Rattle.axi_trail.specs.Waiting.{Waiting, pending, waiting_shown}
-use Rattle.axi_trail.specs.Words.{Asked, InOrderOfId, Reply, beats_of, burst_asked, id_of_reply, number_of_asked, number_of_reply, number_of_response, number_of_read_data, read_reply, read_replies, write_asked, write_reply, write_replies}
+use Rattle.axi_trail.specs.Words.{Asked, InOrderOfId, Reply, beats_due, burst_asked, id_of_reply, number_of_asked, number_of_reply, number_of_response, number_of_read_data, read_reply, read_replies, write_asked, write_reply, write_replies}
 use Rattle.manager_end.specs.Answer.{is_last}
 use Rattle.manager_end.specs.Beats.{data_beat, item_request}
 use Rattle.manager_end.specs.ManagerOrder.{IsAt, note_at}
-use Rattle.manager_end.specs.ManagerState.{ManagerState, due_resps, entry_of, of_direction, writes_of, reads_of}
+use Rattle.manager_end.specs.ManagerState.{ManagerState, due_resps, entry_of, of_direction, script_writes, script_reads}
 use Rattle.manager_end.specs.ManagerTable.{below, ending, manager_aw, manager_w, manager_ar, manager_b, manager_r, manager_r_last, manager_next}
 use Rattle.manager_end.specs.ManagerTrail.{IsScheduleOf, ManagerKeeps, held_items, manager_trail, sent_data, shares_of}
 use Rattle.manager_end.specs.Script.{ScriptItem}
@@ -74,7 +74,7 @@ done-is schedule bus n script write len_of replies id w others scheduled order f
     in let other : (p : ℕ × ScriptItem) × (slice_get items k ≡ Some p) × (asked_by len_of p ≡ b) = map-from (asked_by len_of) items k b at_b
     in lone j k from.0 other.0 from.1 other.1 (ap (λ (x : Asked). x.number) from.2 ∙ same ∙ sym (ap (λ (x : Asked). x.number) other.2))
     in let none = lone-before number_of_asked (map (asked_by len_of) items) next.0 (asked_by len_of w.request) next.1 alone next.2
-    in let counted : length (of_key number_of_reply w.request.1.txn.number replies) ≡ 0 + w.done = next.3 ∙ ap (λ (asked : List Asked). beats_of asked + w.done) none
+    in let counted : length (of_key number_of_reply w.request.1.txn.number replies) ≡ 0 + w.done = next.3 ∙ ap (λ (asked : List Asked). beats_due asked + w.done) none
     in omega (arith, counted)
 
 -- an answer that is taken has the number of the transaction at its entry's place
@@ -109,17 +109,17 @@ next-equal a b = elim (cases_eq a b) [
 
 module _ (schedule : Schedule) (now : Progress) (rounds : ℕ) (links : List LinkView) (s : ManagerState) (trail : Beats) (keeps : ManagerKeeps schedule rounds s trail) (answers : Answers schedule now (manager_trail links s trail)) where
   -- what has been put after the round
-  pub aw-after : (manager_trail links s trail).aw ≡ map (λ (p : ℕ × ScriptItem). item_request p.1) (take (manager_next (suc rounds) links s).issued_writes (writes_of s.script))
-  aw-after = put-grows (λ (p : ℕ × ScriptItem). item_request p.1) (writes_of s.script) s.issued_writes (manager_aw links s) trail.aw _ (aw-next links s) (aw-moved links s) keeps.passed.aw
+  pub aw-after : (manager_trail links s trail).aw ≡ map (λ (p : ℕ × ScriptItem). item_request p.1) (take (manager_next (suc rounds) links s).issued_writes (script_writes s.script))
+  aw-after = put-grows (λ (p : ℕ × ScriptItem). item_request p.1) (script_writes s.script) s.issued_writes (manager_aw links s) trail.aw _ (aw-next links s) (aw-moved links s) keeps.passed.aw
 
-  pub ar-after : (manager_trail links s trail).ar ≡ map (λ (p : ℕ × ScriptItem). item_request p.1) (take (manager_next (suc rounds) links s).issued_reads (reads_of s.script))
-  ar-after = put-grows (λ (p : ℕ × ScriptItem). item_request p.1) (reads_of s.script) s.issued_reads (manager_ar links s) trail.ar _ (ar-next links s) (ar-moved links s) keeps.passed.ar
+  pub ar-after : (manager_trail links s trail).ar ≡ map (λ (p : ℕ × ScriptItem). item_request p.1) (take (manager_next (suc rounds) links s).issued_reads (script_reads s.script))
+  ar-after = put-grows (λ (p : ℕ × ScriptItem). item_request p.1) (script_reads s.script) s.issued_reads (manager_ar links s) trail.ar _ (ar-next links s) (ar-moved links s) keeps.passed.ar
 
   pub w-after : (manager_trail links s trail).w ≡ sent_data (manager_next (suc rounds) links s)
   w-after =
       ap (λ (ws : List WBeat). trail.w ++ ws) (w-moved links s)
       ∙ ap (λ (ws : List WBeat). ws ++ option_to_list (option_map (λ (next : ℕ × ScriptItem). data_beat next.1 s.bus s.sent_beats) (manager_w links s))) keeps.passed.w
-      ∙ sent-grows s.bus (writes_of s.script) s.sent_writes s.sent_beats (manager_w links s) (w-next links s) keeps.is_manager.beats_sent
+      ∙ sent-grows s.bus (script_writes s.script) s.sent_writes s.sent_beats (manager_w links s) (w-next links s) keeps.is_manager.beats_sent
 
   pub b-after : (manager_trail links s trail).b ≡ trail.b ++ option_to_list (option_map (λ answer. answer.1) (manager_b links s))
   b-after = ap (λ (bs : List BBeat). trail.b ++ bs) (b-moved links s)
@@ -128,14 +128,14 @@ module _ (schedule : Schedule) (now : Progress) (rounds : ℕ) (links : List Lin
   r-after = ap (λ (rs : List RBeat). trail.r ++ rs) (r-moved links s)
 
   -- writes
-  writes-before : InOrderOfId (map (asked_by (λ a. 0)) (take s.issued_writes (writes_of s.script))) (map write_reply trail.b)
-  writes-before = subst (λ (asked : List Asked). InOrderOfId asked (map write_reply trail.b)) (ap (map write_asked) keeps.passed.aw ∙ map-map write_asked (λ (p : ℕ × ScriptItem). item_request p.1) (take s.issued_writes (writes_of s.script))) keeps.passed.writes_in_order
+  writes-before : InOrderOfId (map (asked_by (λ a. 0)) (take s.issued_writes (script_writes s.script))) (map write_reply trail.b)
+  writes-before = subst (λ (asked : List Asked). InOrderOfId asked (map write_reply trail.b)) (ap (map write_asked) keeps.passed.aw ∙ map-map write_asked (λ (p : ℕ × ScriptItem). item_request p.1) (take s.issued_writes (script_writes s.script))) keeps.passed.writes_in_order
 
-  writes-after : InOrderOfId (map (asked_by (λ a. 0)) (take s.issued_writes (writes_of s.script) ++ option_to_list (manager_aw links s))) (map write_reply (trail.b ++ option_to_list (option_map (λ answer. answer.1) (manager_b links s))))
+  writes-after : InOrderOfId (map (asked_by (λ a. 0)) (take s.issued_writes (script_writes s.script) ++ option_to_list (manager_aw links s))) (map write_reply (trail.b ++ option_to_list (option_map (λ answer. answer.1) (manager_b links s))))
   writes-after =
-      subst (λ (bs : List BBeat). InOrderOfId (map (asked_by (λ a. 0)) (take s.issued_writes (writes_of s.script) ++ option_to_list (manager_aw links s))) (map write_reply bs)) b-after
+      subst (λ (bs : List BBeat). InOrderOfId (map (asked_by (λ a. 0)) (take s.issued_writes (script_writes s.script) ++ option_to_list (manager_aw links s))) (map write_reply bs)) b-after
       (subst (λ (asked : List Asked). InOrderOfId asked (write_replies (manager_trail links s trail)))
-      (ap (map write_asked) aw-after ∙ map-map write_asked (λ (p : ℕ × ScriptItem). item_request p.1) (take (manager_next (suc rounds) links s).issued_writes (writes_of s.script)) ∙ ap (map (asked_by (λ a. 0))) (take-next (writes_of s.script) s.issued_writes (manager_aw links s) (aw-next links s)))
+      (ap (map write_asked) aw-after ∙ map-map write_asked (λ (p : ℕ × ScriptItem). item_request p.1) (take (manager_next (suc rounds) links s).issued_writes (script_writes s.script)) ∙ ap (map (asked_by (λ a. 0))) (take-next (script_writes s.script) s.issued_writes (manager_aw links s) (aw-next links s)))
       answers.answers_in_order_of_id)
 
   b-own : (x : Entry × BBeat) → manager_b links s ≡ Some x → find (λ (entry : Entry). entry.id == x.1.id) s.write_entries ≡ Some x.0
@@ -144,32 +144,32 @@ module _ (schedule : Schedule) (now : Progress) (rounds : ℕ) (links : List Lin
   pub b-number : (x : Entry × BBeat) → manager_b links s ≡ Some x → (item : ScriptItem) × (IsAt s x.0.place item) × (x.1.tag.txn ≡ item.txn.number)
   b-number x is =
       taken-number number_of_response (λ beat. beat.id) (λ beat. true) (λ a. 0) true s.issued_writes s.script (manager_aw links s) s.write_entries trail.b keeps.passed.write_entries writes-before x (b-own x is)
-      (subst (λ (o : Option (Entry × BBeat)). InOrderOfId (map (asked_by (λ a. 0)) (take s.issued_writes (writes_of s.script) ++ option_to_list (manager_aw links s))) (map write_reply (trail.b ++ option_to_list (option_map (λ answer. answer.1) o)))) is writes-after)
+      (subst (λ (o : Option (Entry × BBeat)). InOrderOfId (map (asked_by (λ a. 0)) (take s.issued_writes (script_writes s.script) ++ option_to_list (manager_aw links s))) (map write_reply (trail.b ++ option_to_list (option_map (λ answer. answer.1) o)))) is writes-after)
 
   -- a response is the last answer to its write
-  b-leaving : (x : Entry × BBeat) (w : Waiting (ℕ × ScriptItem)) (others : List (Waiting (ℕ × ScriptItem))) → manager_b links s ≡ Some x → of_key id_held x.1.id (holding (λ a. 0) (take s.issued_writes (writes_of s.script)) (map (λ b. b.id) trail.b)) ≡ w ∷ others → entry_of w.request ≡ x.0 →
+  b-leaving : (x : Entry × BBeat) (w : Waiting (ℕ × ScriptItem)) (others : List (Waiting (ℕ × ScriptItem))) → manager_b links s ≡ Some x → of_key id_held x.1.id (holding (λ a. 0) (take s.issued_writes (script_writes s.script)) (map (λ b. b.id) trail.b)) ≡ w ∷ others → entry_of w.request ≡ x.0 →
       manager_b links s ≡ beat_where (w.done == 0) (Some x)
   b-leaving x w others taken first same =
-      let pending_first : pending (single_len (λ a. 0)) (count_of x.1.id (map (λ b. b.id) trail.b)) (of_key id_of_item x.1.id (take s.issued_writes (writes_of s.script))) ≡ w ∷ others =
-      sym (held-of_id (single_len (λ a. 0)) id_of_item (take s.issued_writes (writes_of s.script)) (map (λ b. b.id) trail.b) x.1.id) ∙ first
-      in let least = pending-lacks (single_len (λ a. 0)) (count_of x.1.id (map (λ b. b.id) trail.b)) (of_key id_of_item x.1.id (take s.issued_writes (writes_of s.script))) w others pending_first
+      let pending_first : pending (single_len (λ a. 0)) (count_of x.1.id (map (λ b. b.id) trail.b)) (of_key id_of_item x.1.id (take s.issued_writes (script_writes s.script))) ≡ w ∷ others =
+      sym (held-of_key (single_len (λ a. 0)) id_of_item (take s.issued_writes (script_writes s.script)) (map (λ b. b.id) trail.b) x.1.id) ∙ first
+      in let least = pending-lacks (single_len (λ a. 0)) (count_of x.1.id (map (λ b. b.id) trail.b)) (of_key id_of_item x.1.id (take s.issued_writes (script_writes s.script))) w others pending_first
       in taken ∙ ap (λ (b : Bool). beat_where b (Some x)) (sym (eq-eqb w.done 0 (omega (arith, least))))
 
-  pub write-entries-after : (manager_next (suc rounds) links s).write_entries ≡ map entry_of (held_items true (take (manager_next (suc rounds) links s).issued_writes (writes_of s.script)) (map (λ b. b.id) (manager_trail links s trail).b))
+  pub write-entries-after : (manager_next (suc rounds) links s).write_entries ≡ map entry_of (held_items true (take (manager_next (suc rounds) links s).issued_writes (script_writes s.script)) (map (λ b. b.id) (manager_trail links s trail).b))
   write-entries-after =
-      waits-next number_of_response (λ beat. beat.id) (λ beat. true) (λ a. 0) (take s.issued_writes (writes_of s.script)) (manager_aw links s) s.write_entries trail.b keeps.passed.write_entries writes-before (manager_b links s) (manager_b links s) b-own (λ none. none) b-leaving writes-after
-      ∙ ap (λ (ps : List (ℕ × ScriptItem)). entries_held (holding (λ a. 0) ps (map (λ b. b.id) (trail.b ++ option_to_list (option_map (λ answer. answer.1) (manager_b links s)))))) (sym (take-next (writes_of s.script) s.issued_writes (manager_aw links s) (aw-next links s)))
-      ∙ ap (λ (bs : List BBeat). entries_held (holding (λ a. 0) (take (manager_next (suc rounds) links s).issued_writes (writes_of s.script)) (map (λ b. b.id) bs))) (sym b-after)
+      waits-next number_of_response (λ beat. beat.id) (λ beat. true) (λ a. 0) (take s.issued_writes (script_writes s.script)) (manager_aw links s) s.write_entries trail.b keeps.passed.write_entries writes-before (manager_b links s) (manager_b links s) b-own (λ none. none) b-leaving writes-after
+      ∙ ap (λ (ps : List (ℕ × ScriptItem)). entries_held (holding (λ a. 0) ps (map (λ b. b.id) (trail.b ++ option_to_list (option_map (λ answer. answer.1) (manager_b links s)))))) (sym (take-next (script_writes s.script) s.issued_writes (manager_aw links s) (aw-next links s)))
+      ∙ ap (λ (bs : List BBeat). entries_held (holding (λ a. 0) (take (manager_next (suc rounds) links s).issued_writes (script_writes s.script)) (map (λ b. b.id) bs))) (sym b-after)
 
   -- reads
-  reads-before : InOrderOfId (map (asked_by (λ a. a.len)) (take s.issued_reads (reads_of s.script))) (map read_reply trail.r)
-  reads-before = subst (λ (asked : List Asked). InOrderOfId asked (map read_reply trail.r)) (ap (map burst_asked) keeps.passed.ar ∙ map-map burst_asked (λ (p : ℕ × ScriptItem). item_request p.1) (take s.issued_reads (reads_of s.script))) keeps.passed.reads_in_order
+  reads-before : InOrderOfId (map (asked_by (λ a. a.len)) (take s.issued_reads (script_reads s.script))) (map read_reply trail.r)
+  reads-before = subst (λ (asked : List Asked). InOrderOfId asked (map read_reply trail.r)) (ap (map burst_asked) keeps.passed.ar ∙ map-map burst_asked (λ (p : ℕ × ScriptItem). item_request p.1) (take s.issued_reads (script_reads s.script))) keeps.passed.reads_in_order
 
-  reads-after : InOrderOfId (map (asked_by (λ a. a.len)) (take s.issued_reads (reads_of s.script) ++ option_to_list (manager_ar links s))) (map read_reply (trail.r ++ option_to_list (option_map (λ answer. answer.1) (manager_r links s))))
+  reads-after : InOrderOfId (map (asked_by (λ a. a.len)) (take s.issued_reads (script_reads s.script) ++ option_to_list (manager_ar links s))) (map read_reply (trail.r ++ option_to_list (option_map (λ answer. answer.1) (manager_r links s))))
   reads-after =
-      subst (λ (rs : List RBeat). InOrderOfId (map (asked_by (λ a. a.len)) (take s.issued_reads (reads_of s.script) ++ option_to_list (manager_ar links s))) (map read_reply rs)) r-after
+      subst (λ (rs : List RBeat). InOrderOfId (map (asked_by (λ a. a.len)) (take s.issued_reads (script_reads s.script) ++ option_to_list (manager_ar links s))) (map read_reply rs)) r-after
       (subst (λ (asked : List Asked). InOrderOfId asked (read_replies (manager_trail links s trail)))
-      (ap (map burst_asked) ar-after ∙ map-map burst_asked (λ (p : ℕ × ScriptItem). item_request p.1) (take (manager_next (suc rounds) links s).issued_reads (reads_of s.script)) ∙ ap (map (asked_by (λ a. a.len))) (take-next (reads_of s.script) s.issued_reads (manager_ar links s) (ar-next links s)))
+      (ap (map burst_asked) ar-after ∙ map-map burst_asked (λ (p : ℕ × ScriptItem). item_request p.1) (take (manager_next (suc rounds) links s).issued_reads (script_reads s.script)) ∙ ap (map (asked_by (λ a. a.len))) (take-next (script_reads s.script) s.issued_reads (manager_ar links s) (ar-next links s)))
       answers.reads_in_order_of_id)
 
   r-own : (x : Entry × RBeat) → manager_r links s ≡ Some x → find (λ (entry : Entry). entry.id == x.1.id) s.read_entries ≡ Some x.0
@@ -178,17 +178,17 @@ module _ (schedule : Schedule) (now : Progress) (rounds : ℕ) (links : List Lin
   pub r-number : (x : Entry × RBeat) → manager_r links s ≡ Some x → (item : ScriptItem) × (IsAt s x.0.place item) × (x.1.tag.txn ≡ item.txn.number)
   r-number x is =
       taken-number number_of_read_data (λ beat. beat.id) (λ beat. beat.last) (λ a. a.len) false s.issued_reads s.script (manager_ar links s) s.read_entries trail.r keeps.passed.read_entries reads-before x (r-own x is)
-      (subst (λ (o : Option (Entry × RBeat)). InOrderOfId (map (asked_by (λ a. a.len)) (take s.issued_reads (reads_of s.script) ++ option_to_list (manager_ar links s))) (map read_reply (trail.r ++ option_to_list (option_map (λ answer. answer.1) o)))) is reads-after)
+      (subst (λ (o : Option (Entry × RBeat)). InOrderOfId (map (asked_by (λ a. a.len)) (take s.issued_reads (script_reads s.script) ++ option_to_list (manager_ar links s))) (map read_reply (trail.r ++ option_to_list (option_map (λ answer. answer.1) o)))) is reads-after)
 
   -- the answer beats that came for a held read
-  r-done : (x : Entry × RBeat) (w : Waiting (ℕ × ScriptItem)) (others : List (Waiting (ℕ × ScriptItem))) → of_key id_held x.1.id (holding (λ a. a.len) (take s.issued_reads (reads_of s.script)) (map (λ r. r.id) trail.r)) ≡ w ∷ others → entry_of w.request ≡ x.0 → w.request.1.txn.write ≡ false →
+  r-done : (x : Entry × RBeat) (w : Waiting (ℕ × ScriptItem)) (others : List (Waiting (ℕ × ScriptItem))) → of_key id_held x.1.id (holding (λ a. a.len) (take s.issued_reads (script_reads s.script)) (map (λ r. r.id) trail.r)) ≡ w ∷ others → entry_of w.request ≡ x.0 → w.request.1.txn.write ≡ false →
       length (note_at s x.0.place).resps ≡ w.done
   r-done x w others first same read =
       let at = held-at false s.issued_reads s.script (λ a. a.len) (map (λ r. r.id) trail.r) x.1.id w others x.0 first same
       in let note = keeps.passed.read_notes x.0.place w.request.1 at read
       in let replies : of_key number_of_reply w.request.1.txn.number (map read_reply trail.r) ≡ map read_reply (of_key number_of_read_data w.request.1.txn.number trail.r) = of_key-map number_of_reply read_reply w.request.1.txn.number trail.r
-      in let shown : of_key id_held x.1.id (holding (λ a. a.len) (take s.issued_reads (reads_of s.script)) (map id_of_reply (map read_reply trail.r))) ≡ w ∷ others =
-      ap (λ (ids : List ℕ). of_key id_held x.1.id (holding (λ a. a.len) (take s.issued_reads (reads_of s.script)) ids)) (map-map id_of_reply read_reply trail.r) ∙ first
+      in let shown : of_key id_held x.1.id (holding (λ a. a.len) (take s.issued_reads (script_reads s.script)) (map id_of_reply (map read_reply trail.r))) ≡ w ∷ others =
+      ap (λ (ids : List ℕ). of_key id_held x.1.id (holding (λ a. a.len) (take s.issued_reads (script_reads s.script)) ids)) (map-map id_of_reply read_reply trail.r) ∙ first
       in let done = done-is schedule s.bus s.issued_reads s.script false (λ a. a.len) (map read_reply trail.r) x.1.id w others keeps.scheduled reads-before shown
       in ap length note.responses
       ∙ length-map (of_key number_of_read_data w.request.1.txn.number trail.r) (λ r. r.resp)
@@ -196,7 +196,7 @@ module _ (schedule : Schedule) (now : Progress) (rounds : ℕ) (links : List Lin
       ∙ ap length (sym replies) ∙ done
 
   -- a beat is the last one of its read where as many came as come after the first one
-  r-leaving-is : (x : Entry × RBeat) (w : Waiting (ℕ × ScriptItem)) (others : List (Waiting (ℕ × ScriptItem))) → manager_r links s ≡ Some x → of_key id_held x.1.id (holding (λ a. a.len) (take s.issued_reads (reads_of s.script)) (map (λ r. r.id) trail.r)) ≡ w ∷ others → entry_of w.request ≡ x.0 →
+  r-leaving-is : (x : Entry × RBeat) (w : Waiting (ℕ × ScriptItem)) (others : List (Waiting (ℕ × ScriptItem))) → manager_r links s ≡ Some x → of_key id_held x.1.id (holding (λ a. a.len) (take s.issued_reads (script_reads s.script)) (map (λ r. r.id) trail.r)) ≡ w ∷ others → entry_of w.request ≡ x.0 →
       manager_r_last links s ≡ beat_where (w.done == w.request.1.txn.request.len) (Some x)
   r-leaving-is x w others taken first same =
       let due = taken-waits links s keeps.is_manager false x.0 (r-taken links s keeps.is_manager x taken)
@@ -210,8 +210,8 @@ module _ (schedule : Schedule) (now : Progress) (rounds : ℕ) (links : List Lin
       ap (λ (k : ℕ). k + 1 == (note_at s x.0.place).due_resps) done ∙ ap (λ (k : ℕ). w.done + 1 == k) whole ∙ next-equal w.done w.request.1.txn.request.len
       in ap (ending s.answers) taken ∙ ap (λ (b : Bool). beat_where b (Some x)) last
 
-  pub read-entries-after : (manager_next (suc rounds) links s).read_entries ≡ map entry_of (held_items false (take (manager_next (suc rounds) links s).issued_reads (reads_of s.script)) (map (λ r. r.id) (manager_trail links s trail).r))
+  pub read-entries-after : (manager_next (suc rounds) links s).read_entries ≡ map entry_of (held_items false (take (manager_next (suc rounds) links s).issued_reads (script_reads s.script)) (map (λ r. r.id) (manager_trail links s trail).r))
   read-entries-after =
-      waits-next number_of_read_data (λ beat. beat.id) (λ beat. beat.last) (λ a. a.len) (take s.issued_reads (reads_of s.script)) (manager_ar links s) s.read_entries trail.r keeps.passed.read_entries reads-before (manager_r links s) (manager_r_last links s) r-own (λ none. ap (ending s.answers) none) r-leaving-is reads-after
-      ∙ ap (λ (ps : List (ℕ × ScriptItem)). entries_held (holding (λ a. a.len) ps (map (λ r. r.id) (trail.r ++ option_to_list (option_map (λ answer. answer.1) (manager_r links s)))))) (sym (take-next (reads_of s.script) s.issued_reads (manager_ar links s) (ar-next links s)))
-      ∙ ap (λ (rs : List RBeat). entries_held (holding (λ a. a.len) (take (manager_next (suc rounds) links s).issued_reads (reads_of s.script)) (map (λ r. r.id) rs))) (sym r-after)
+      waits-next number_of_read_data (λ beat. beat.id) (λ beat. beat.last) (λ a. a.len) (take s.issued_reads (script_reads s.script)) (manager_ar links s) s.read_entries trail.r keeps.passed.read_entries reads-before (manager_r links s) (manager_r_last links s) r-own (λ none. ap (ending s.answers) none) r-leaving-is reads-after
+      ∙ ap (λ (ps : List (ℕ × ScriptItem)). entries_held (holding (λ a. a.len) ps (map (λ r. r.id) (trail.r ++ option_to_list (option_map (λ answer. answer.1) (manager_r links s)))))) (sym (take-next (script_reads s.script) s.issued_reads (manager_ar links s) (ar-next links s)))
+      ∙ ap (λ (rs : List RBeat). entries_held (holding (λ a. a.len) (take (manager_next (suc rounds) links s).issued_reads (script_reads s.script)) (map (λ r. r.id) rs))) (sym r-after)

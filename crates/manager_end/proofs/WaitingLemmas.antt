@@ -11,7 +11,7 @@ use Rattle.axi_beats.specs.declared.beat.RBeat.{RBeat}
 use Rattle.flight.specs.Entries.{place_of}
 use Rattle.flight.proofs.EntryFacts.{some-inner}
 use Rattle.manager_end.specs.Answer.{AnswerView, is_last, unanswered, issued_in, noted}
-use Rattle.manager_end.specs.ManagerState.{IsDue, AreWaiting, AreDistinct, waiting, is_answered}
+use Rattle.manager_end.specs.ManagerState.{IsDue, AreWaiting, AreDistinct, waiting_places, is_answered}
 use Rattle.manager_end.specs.ManagerTable.{answering, ending, left_waiting, with_issued}
 use Rattle.manager_end.specs.Script.{ScriptItem}
 use Rattle.manager_end.specs.declared.direction.Direction.{Direction}
@@ -76,7 +76,7 @@ oldest-id id (x ∷ xs) e found =
     in go (x.id == id) refl found
 
 -- the next one to be issued waits, as the first of those that wait for their issue
-pub waiting-next : (entries : List Entry) (issued : ℕ) (transactions : List (ℕ × ScriptItem)) (next : ℕ × ScriptItem) → slice_get transactions issued ≡ Some next → waiting entries issued transactions ≡ map (λ (entry : Entry). entry.place) entries ++ next.0 ∷ map (λ (p : ℕ × ScriptItem). p.0) (drop (issued + 1) transactions)
+pub waiting-next : (entries : List Entry) (issued : ℕ) (transactions : List (ℕ × ScriptItem)) (next : ℕ × ScriptItem) → slice_get transactions issued ≡ Some next → waiting_places entries issued transactions ≡ map (λ (entry : Entry). entry.place) entries ++ next.0 ∷ map (λ (p : ℕ × ScriptItem). p.0) (drop (issued + 1) transactions)
 waiting-next entries issued transactions next is =
     let within = slice_get_within transactions issued next is
     in let cut : drop issued transactions ≡ next ∷ drop (suc issued) transactions = drop-cons transactions issued next within ∙ ap (λ (x : ℕ × ScriptItem). x ∷ drop (suc issued) transactions) (get_or_from_slice_get transactions issued next next is)
@@ -85,7 +85,7 @@ waiting-next entries issued transactions next is =
     in ap (λ (back : List ℕ). map (λ (entry : Entry). entry.place) entries ++ back) tail
 
 -- one that is issued waits from then on for its answer
-pub waiting-issued : (entries : List Entry) (issued : ℕ) (transactions : List (ℕ × ScriptItem)) (next : ℕ × ScriptItem) → slice_get transactions issued ≡ Some next → waiting (with_issued (Some next) entries) (issued + 1) transactions ≡ waiting entries issued transactions
+pub waiting-issued : (entries : List Entry) (issued : ℕ) (transactions : List (ℕ × ScriptItem)) (next : ℕ × ScriptItem) → slice_get transactions issued ≡ Some next → waiting_places (with_issued (Some next) entries) (issued + 1) transactions ≡ waiting_places entries issued transactions
 waiting-issued entries issued transactions next is =
     ap (λ (front : List ℕ). front ++ map (λ (p : ℕ × ScriptItem). p.0) (drop (issued + 1) transactions)) (map-append (λ (entry : Entry). entry.place) entries (record { place = next.0; id = next.1.txn.request.id } ∷ []))
     ∙ append_assoc (map (λ (entry : Entry). entry.place) entries) (next.0 ∷ []) (map (λ (p : ℕ × ScriptItem). p.0) (drop (issued + 1) transactions))

@@ -3,7 +3,7 @@ use Rattle.std.specs.Prelude.{◌≡◌, ◌≤◌, ◌+◌, ◌==◌, ℕ, true
 use Rattle.node_core.specs.Acted.{Acted}
 use Rattle.axi_link.specs.declared.out.Out.{Out}
 use Rattle.burst_address.specs.Bytes.{beat_bytes, bytes_before}
-use Rattle.manager_end.specs.ManagerState.{ManagerState, IsManager, writes_of, reads_of}
+use Rattle.manager_end.specs.ManagerState.{ManagerState, IsManager, script_writes, script_reads}
 use Rattle.manager_end.specs.Script.{ScriptItem}
 use Rattle.manager_end.specs.declared.manager.Manager.TheInside.{Inside}
 use Rattle.manager_end.specs.declared.sending.Sending.{Sending}
@@ -54,7 +54,7 @@ pub record IsAbove (out : Out) : Type 0 where
 -- next write, and nothing is put or taken that is not for a manager.
 pub record IsManagerInside (m : Inside) : Type 0 where
   pub state : IsManager (manager_state m)
-  pub write_places : m.writes.places.items ≡ map (λ p. p.0) (writes_of m.script)
-  pub read_places : m.reads.places.items ≡ map (λ p. p.0) (reads_of m.script)
-  pub sending : IfSome (slice_get (writes_of m.script) m.sending.writes) (λ next. IsWithin m.sending next.1)
+  pub write_places : m.writes.places.items ≡ map (λ p. p.0) (script_writes m.script)
+  pub read_places : m.reads.places.items ≡ map (λ p. p.0) (script_reads m.script)
+  pub sending : IfSome (slice_get (script_writes m.script) m.sending.writes) (λ next. IsWithin m.sending next.1)
   pub above : IsAbove m.out

@@ -36,11 +36,11 @@ abbrev pub of_direction : Bool → List ScriptItem → List (ℕ × ScriptItem)
 of_direction write script = filter (λ (p : ℕ × ScriptItem). is_directed write p.1.txn) (enumerate_from 0 script)
 
 -- the writes of a script, and its reads
-abbrev pub writes_of : List ScriptItem → List (ℕ × ScriptItem)
-writes_of script = of_direction true script
+abbrev pub script_writes : List ScriptItem → List (ℕ × ScriptItem)
+script_writes script = of_direction true script
 
-abbrev pub reads_of : List ScriptItem → List (ℕ × ScriptItem)
-reads_of script = of_direction false script
+abbrev pub script_reads : List ScriptItem → List (ℕ × ScriptItem)
+script_reads script = of_direction false script
 
 -- how many responses answer a transaction: one a write, and one for each beat a read
 abbrev pub due_resps : Txn → ℕ
@@ -120,8 +120,8 @@ pub record IsDue (script : List ScriptItem) (write : Bool) (place : ℕ) (a : An
 
 -- the places of the transactions of one direction that wait for their answers, and then of those that wait for
 -- their issue
-abbrev pub waiting : List Entry → ℕ → List (ℕ × ScriptItem) → List ℕ
-waiting entries issued transactions = map (λ (entry : Entry). entry.place) entries ++ map (λ (p : ℕ × ScriptItem). p.0) (drop issued transactions)
+abbrev pub waiting_places : List Entry → ℕ → List (ℕ × ScriptItem) → List ℕ
+waiting_places entries issued transactions = map (λ (entry : Entry). entry.place) entries ++ map (λ (p : ℕ × ScriptItem). p.0) (drop issued transactions)
 
 -- each of these places is another one
 abbrev pub AreDistinct : List ℕ → Type 0
@@ -147,14 +147,14 @@ pub record IsManager (s : ManagerState) : Type 0 where
   pub is_script : IsScript s.script
   pub bus_width : IsBusWidth s.bus
   pub legal : All (λ (item : ScriptItem). IsLegal item.txn.request s.bus) s.script
-  pub writes_issued : s.issued_writes ≤ length (writes_of s.script)
-  pub reads_issued : s.issued_reads ≤ length (reads_of s.script)
+  pub writes_issued : s.issued_writes ≤ length (script_writes s.script)
+  pub reads_issued : s.issued_reads ≤ length (script_reads s.script)
   pub writes_sent : s.sent_writes ≤ s.issued_writes
-  pub beats_sent : IfSome (slice_get (writes_of s.script) s.sent_writes) (λ next. s.sent_beats ≤ next.1.txn.request.len)
+  pub beats_sent : IfSome (slice_get (script_writes s.script) s.sent_writes) (λ next. s.sent_beats ≤ next.1.txn.request.len)
   pub writes_fit : length s.write_entries ≤ 16
   pub reads_fit : length s.read_entries ≤ 16
   pub one_each : length s.answers ≡ length s.script
-  pub writes_waiting : AreWaiting s.script true s.answers (waiting s.write_entries s.issued_writes (writes_of s.script))
-  pub reads_waiting : AreWaiting s.script false s.answers (waiting s.read_entries s.issued_reads (reads_of s.script))
+  pub writes_waiting : AreWaiting s.script true s.answers (waiting_places s.write_entries s.issued_writes (script_writes s.script))
+  pub reads_waiting : AreWaiting s.script false s.answers (waiting_places s.read_entries s.issued_reads (script_reads s.script))
   pub counted : s.answered ≡ count_by is_answered s.answers
   pub issues : NotesIssues s

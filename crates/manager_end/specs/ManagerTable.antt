@@ -8,13 +8,13 @@ use Rattle.axi_link.specs.LinkView.{LinkView}
 use Rattle.axi_link.specs.declared.out.Out.{Out}
 use Rattle.manager_end.specs.Answer.{AnswerView, issued_in, is_last, answered_in, noted, unanswered}
 use Rattle.manager_end.specs.Beats.{data_beat, bytes_on_valid_lanes, item_request}
-use Rattle.manager_end.specs.ManagerState.{ManagerState, writes_of, reads_of}
+use Rattle.manager_end.specs.ManagerState.{ManagerState, script_writes, script_reads}
 use Rattle.manager_end.specs.Script.{ScriptItem}
 use Rattle.manager_end.specs.declared.entry.Entry.{Entry}
 use Rattle.plain_lists.specs.Keys.{without_oldest}
 use Rattle.node_core.specs.Acted.{Acted}
 use Rattle.axi_link.specs.LinkWords.{link_of, head_of, has_room}
-use Rattle.node_core.specs.Rows.{beat_where, put_of, take_of}
+use Rattle.node_core.specs.Rows.{beat_where, fits, put_of, take_of}
 
 -- the link below as it stands
 abbrev pub below : List LinkView → ManagerState → LinkView
@@ -25,10 +25,6 @@ abbrev pub ready : ℕ → Option (ℕ × ScriptItem) → Option (ℕ × ScriptI
 ready answered None = None
 ready answered (Some next) = beat_where (nat_le next.1.txn.after answered) (Some next)
 
--- another transaction of the direction can wait for its answer: at most 16 do
-abbrev pub fits : List Entry → Bool
-fits entries = nat_lt (length entries) 16
-
 module _ {X : Type 0} where
   -- an answer that a link offers, with the oldest entry of its ID; none where no entry has its ID
   abbrev pub answering : (X → ℕ) → List Entry → Option X → Option (Entry × X)
@@ -38,17 +34,17 @@ module _ {X : Type 0} where
 -- AW: the next write is issued where it is ready, entries fit, and there is room below
 abbrev pub manager_aw : List LinkView → ManagerState → Option (ℕ × ScriptItem)
 manager_aw links s =
-    beat_where (fits s.write_entries && has_room (below links s).depth (below links s).aw) (ready s.answered (slice_get (writes_of s.script) s.issued_writes))
+    beat_where (fits s.write_entries && has_room (below links s).depth (below links s).aw) (ready s.answered (slice_get (script_writes s.script) s.issued_writes))
 
 -- W: the next data beat of the oldest write that is issued and whose data isn't all sent goes where there is room below
 abbrev pub manager_w : List LinkView → ManagerState → Option (ℕ × ScriptItem)
 manager_w links s =
-    beat_where (nat_lt s.sent_writes s.issued_writes && has_room (below links s).depth (below links s).w) (slice_get (writes_of s.script) s.sent_writes)
+    beat_where (nat_lt s.sent_writes s.issued_writes && has_room (below links s).depth (below links s).w) (slice_get (script_writes s.script) s.sent_writes)
 
 -- AR: the next read is issued where it is ready, entries fit, and there is room below
 abbrev pub manager_ar : List LinkView → ManagerState → Option (ℕ × ScriptItem)
 manager_ar links s =
-    beat_where (fits s.read_entries && has_room (below links s).depth (below links s).ar) (ready s.answered (slice_get (reads_of s.script) s.issued_reads))
+    beat_where (fits s.read_entries && has_room (below links s).depth (below links s).ar) (ready s.answered (slice_get (script_reads s.script) s.issued_reads))
 
 -- B: a response is taken that answers a write, the oldest one of its ID
 abbrev pub manager_b : List LinkView → ManagerState → Option (Entry × BBeat)

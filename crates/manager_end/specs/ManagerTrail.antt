@@ -8,13 +8,13 @@ use Rattle.axi_link.specs.LinkView.{LinkView}
 use Rattle.axi_trail.specs.LinkContracts.{Asks, Answers, without_id}
 use Rattle.axi_trail.specs.Schedule.{Schedule, Share, Progress, SameChain, bytes_on}
 use Rattle.axi_trail.specs.Trail.{Beats, no_beats, joined, moved_above}
-use Rattle.axi_trail.specs.Waiting.{held, request_of}
+use Rattle.axi_trail.specs.Waiting.{held, waiting_request}
 use Rattle.axi_trail.specs.Words.{InOrderOfId, number_of_address, number_of_response, number_of_read_data, reads_asked, read_replies, writes_asked, write_replies}
 use Rattle.burst_address.specs.Formulas.{beats_of}
 use Rattle.burst_address.specs.Legal.{IsLegal}
 use Rattle.manager_end.specs.Beats.{data_beats, item_request}
 use Rattle.manager_end.specs.ManagerOrder.{AreInOrder, IsAt, note_at}
-use Rattle.manager_end.specs.ManagerState.{ManagerState, IsManager, entry_of, new_manager, writes_of, reads_of}
+use Rattle.manager_end.specs.ManagerState.{ManagerState, IsManager, entry_of, new_manager, script_writes, script_reads}
 use Rattle.manager_end.specs.ManagerTable.{manager_next, manager_out}
 use Rattle.manager_end.specs.Script.{ScriptItem, IsScript}
 use Rattle.plain_lists.specs.Keys.{of_key}
@@ -60,7 +60,7 @@ later_answers write p = if write then 0 else p.1.txn.request.len
 
 -- the requests of a direction that are held, where these were issued and answers with these IDs have come
 abbrev pub held_items : Bool → List (ℕ × ScriptItem) → List ℕ → List (ℕ × ScriptItem)
-held_items write issued ids = map request_of (held (later_answers write) (λ (p : ℕ × ScriptItem). p.1.txn.request.id) issued ids)
+held_items write issued ids = map waiting_request (held (later_answers write) (λ (p : ℕ × ScriptItem). p.1.txn.request.id) issued ids)
 
 -- the first data beats of a write; none where there is no write
 abbrev pub first_data : ℕ → ℕ → Option (ℕ × ScriptItem) → List WBeat
@@ -70,8 +70,8 @@ first_data bus beats (Some next) = take beats (data_beats next.1 bus)
 -- the data that was sent: all of the first writes, and the first beats of the next one
 abbrev pub sent_data : ManagerState → List WBeat
 sent_data s =
-    flat_map (λ (p : ℕ × ScriptItem). data_beats p.1 s.bus) (take s.sent_writes (writes_of s.script))
-    ++ first_data s.bus s.sent_beats (slice_get (writes_of s.script) s.sent_writes)
+    flat_map (λ (p : ℕ × ScriptItem). data_beats p.1 s.bus) (take s.sent_writes (script_writes s.script))
+    ++ first_data s.bus s.sent_beats (slice_get (script_writes s.script) s.sent_writes)
 
 -- What is noted of a write: the responses that came for it, and nothing else.
 pub record IsWriteNote (s : ManagerState) (trail : Beats) (place : ℕ) (item : ScriptItem) : Type 0 where
@@ -91,12 +91,12 @@ pub record IsReadNote (schedule : Schedule) (s : ManagerState) (trail : Beats) (
 -- What a manager's state has to do with its trail.
 pub record HasPassed (schedule : Schedule) (s : ManagerState) (trail : Beats) : Type 0 where
   -- it has put the first requests of each direction, and the data of the first writes
-  pub aw : trail.aw ≡ map (λ (p : ℕ × ScriptItem). item_request p.1) (take s.issued_writes (writes_of s.script))
+  pub aw : trail.aw ≡ map (λ (p : ℕ × ScriptItem). item_request p.1) (take s.issued_writes (script_writes s.script))
   pub w : trail.w ≡ sent_data s
-  pub ar : trail.ar ≡ map (λ (p : ℕ × ScriptItem). item_request p.1) (take s.issued_reads (reads_of s.script))
+  pub ar : trail.ar ≡ map (λ (p : ℕ × ScriptItem). item_request p.1) (take s.issued_reads (script_reads s.script))
   -- those wait that are held
-  pub write_entries : s.write_entries ≡ map entry_of (held_items true (take s.issued_writes (writes_of s.script)) (map (λ b. b.id) trail.b))
-  pub read_entries : s.read_entries ≡ map entry_of (held_items false (take s.issued_reads (reads_of s.script)) (map (λ r. r.id) trail.r))
+  pub write_entries : s.write_entries ≡ map entry_of (held_items true (take s.issued_writes (script_writes s.script)) (map (λ b. b.id) trail.b))
+  pub read_entries : s.read_entries ≡ map entry_of (held_items false (take s.issued_reads (script_reads s.script)) (map (λ r. r.id) trail.r))
   -- what came, came in order
   pub writes_in_order : InOrderOfId (writes_asked trail) (write_replies trail)
   pub reads_in_order : InOrderOfId (reads_asked trail) (read_replies trail)

@@ -3,10 +3,10 @@
 ghost use Rattle.std.specs.Prelude.{◌≡◌, ◌==◌, ◌<◌, ◌+◌, ◌&&◌, ◌++◌, ◌∷◌, [], All, Some, find, length, map, nat_lt, slice_get, vec_len, if◌then◌else◌, IfOk, IfSome, IsSome, OnOk};
 ghost use Rattle.std.specs.Option.{option_map};
 ghost use Rattle.manager_end.specs.ManagerState.{is_directed, of_direction};
-ghost use Rattle.manager_end.specs.ManagerTable.{fits, ready, with_issued};
+ghost use Rattle.manager_end.specs.ManagerTable.{ready, with_issued};
 ghost use Rattle.manager_end.specs.Placed.{placed};
 ghost use Rattle.plain_lists.specs.Keys.{without_oldest};
-ghost use Rattle.node_core.specs.Rows.{beat_where};
+ghost use Rattle.node_core.specs.Rows.{beat_where, fits};
 
 use crate::entry::Entry;
 use crate::script::{Script, Txn};

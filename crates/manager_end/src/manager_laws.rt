@@ -5,7 +5,7 @@ ghost use Rattle.manager_end.specs.BurstLaws.{DataWritesItsBytes};
 ghost use Rattle.manager_end.specs.Laws.{DoneIsAnswered, ManagerBegins, ManagerMovesFit, ManagerStays};
 ghost use Rattle.manager_end.specs.ManagerOrder.{NotesStay};
 ghost use Rattle.manager_end.specs.ManagerTrail.{ManagerAsks, ManagerOpens, ManagerSteps};
-ghost use Rattle.manager_end.specs.RowLaws.{RowsAreDone};
+ghost use Rattle.manager_end.specs.RowLaws.{ManagerRowsAreDone};
 
 /// The laws of the manager's decision table.
 pub fn laws()
@@ -20,7 +20,7 @@ pub fn laws()
     ensures done { DoneIsAnswered }
 
     // What a row of its table can do in a round is done in that round.
-    ensures rows { RowsAreDone }
+    ensures rows { ManagerRowsAreDone }
 {}
 
 /// The law of the rounds that a manager notes, whatever its link brings.

@@ -5,9 +5,9 @@ use Rattle.std.proofs.lemmas.Bool.{ltb-true}
 use Rattle.axi_link.specs.LinkView.{LinkView}
 use Rattle.node_core.specs.Fits.{TakeFits, PutFits}
 use Rattle.axi_link.specs.LinkWords.{link_of, head_of, has_room}
-use Rattle.node_core.specs.Rows.{beat_where, put_of, take_of}
+use Rattle.node_core.specs.Rows.{beat_where, fits, put_of, take_of}
 use Rattle.memory_end.specs.Laws.{MovesAlwaysFit}
-use Rattle.memory_end.specs.MemoryTable.{answer_to, fits, lacks_data, next_beat, oldest_lacking}
+use Rattle.memory_end.specs.MemoryTable.{answer_to, lacks_data, next_beat, oldest_lacking}
 
 module _ {X : Type 0} (queue_of : LinkView → List X) (links : List LinkView) (number : ℕ) where
   -- a head is taken only where there is one

@@ -9,11 +9,11 @@ use Rattle.axi_link.specs.LinkView.{LinkView}
 use Rattle.axi_link.specs.Moves.{appended, takes_from}
 use Rattle.axi_trail.specs.Trail.{Beats, beat_taken}
 use Rattle.memory_end.specs.MemoryState.{MemoryState}
-use Rattle.memory_end.specs.MemoryTable.{fits, memory_ar, memory_aw, memory_b, memory_link, memory_r, memory_w, oldest_lacking}
+use Rattle.memory_end.specs.MemoryTable.{memory_ar, memory_aw, memory_b, memory_link, memory_r, memory_w, oldest_lacking}
 use Rattle.memory_end.specs.MemoryTrail.{memory_trail}
 use Rattle.memory_end.proofs.WriteTracks.{one_of}
 use Rattle.axi_link.specs.LinkWords.{head_of}
-use Rattle.node_core.specs.Rows.{beat_where, put_of, take_of}
+use Rattle.node_core.specs.Rows.{beat_where, fits, put_of, take_of}
 
 -- the head that is taken
 taken-one : {X : Type 0} (number : ℕ) (may : Bool) (queue : List X) → beat_taken (takes_from number (take_of number (is_some (beat_where may (head_of queue))))) queue ≡ one_of (beat_where may (head_of queue))

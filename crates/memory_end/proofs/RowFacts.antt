@@ -1,8 +1,8 @@
 -- What a row of the memory's table can do, it does.
 use Rattle.std.proofs.Common.{refl}
-use Rattle.memory_end.specs.RowLaws.{RowsAreDone}
+use Rattle.memory_end.specs.RowLaws.{MemoryRowsAreDone}
 
-pub rows-are_done : RowsAreDone
+pub rows-are_done : MemoryRowsAreDone
 rows-are_done links state = record {
   write_address = λ request head room. rw (head, room) refl;
   read_address = λ request head room. rw (head, room) refl;

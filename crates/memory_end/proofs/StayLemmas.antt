@@ -17,10 +17,10 @@ use Rattle.memory_end.specs.declared.entry.ReadEntry.{ReadEntry}
 use Rattle.memory_end.specs.Beats.{with_bytes, stored_bytes}
 use Rattle.memory_end.specs.Laws.{KeepsArguments, NewIsMemory, StaysMemory}
 use Rattle.memory_end.specs.MemoryState.{AreLinesAmong, IsReadEntry, IsRequest, IsWriteEntry}
-use Rattle.memory_end.specs.MemoryTable.{after_aw, after_ar, after_b, after_r, after_w, fits, lacks_data, memory_link, memory_aw, memory_ar, memory_b, memory_r, memory_w, next_beat, oldest_lacking, put_read, store_after, store_with, with_beat, with_data}
+use Rattle.memory_end.specs.MemoryTable.{after_aw, after_ar, after_b, after_r, after_w, lacks_data, memory_link, memory_aw, memory_ar, memory_b, memory_r, memory_w, next_beat, oldest_lacking, put_read, store_after, store_with, with_beat, with_data}
 use Rattle.memory_end.specs.Store.{Store, IsStore, byte_place, with_byte, with_byte_at}
 use Rattle.axi_link.specs.LinkWords.{head_of, has_room}
-use Rattle.node_core.specs.Rows.{beat_where}
+use Rattle.node_core.specs.Rows.{beat_where, fits}
 use Rattle.node_core.proofs.RowLemmas.{beat_where-has}
 
 -- bytes are written over, and nothing else changes

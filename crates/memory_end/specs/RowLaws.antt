@@ -5,7 +5,8 @@ use Rattle.axi_beats.specs.declared.beat.WBeat.{WBeat}
 use Rattle.axi_link.specs.LinkView.{LinkView}
 use Rattle.axi_link.specs.LinkWords.{has_room, head_of}
 use Rattle.memory_end.specs.MemoryState.{MemoryState}
-use Rattle.memory_end.specs.MemoryTable.{answer_to, fits, lacks_data, memory_link, memory_out, next_beat, oldest_lacking}
+use Rattle.node_core.specs.Rows.{fits}
+use Rattle.memory_end.specs.MemoryTable.{answer_to, lacks_data, memory_link, memory_out, next_beat, oldest_lacking}
 use Rattle.memory_end.specs.declared.entry.ReadEntry.{ReadEntry}
 use Rattle.memory_end.specs.declared.entry.WriteEntry.{WriteEntry}
 
@@ -26,5 +27,5 @@ pub record DoesItsRows (links : List LinkView) (state : MemoryState) : Type 0 wh
       (memory_out links state).r_put ≡ Some (state.upper, next_beat state.config state.store entry)
 
 -- so it is of every memory and all links
-abbrev pub RowsAreDone : Type 0
-RowsAreDone = (links : List LinkView) (state : MemoryState) → DoesItsRows links state
+abbrev pub MemoryRowsAreDone : Type 0
+MemoryRowsAreDone = (links : List LinkView) (state : MemoryState) → DoesItsRows links state

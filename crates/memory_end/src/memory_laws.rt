@@ -5,7 +5,7 @@ ghost use Rattle.memory_end.specs.BurstBytes.{LinesAreOfBurst, ReadsBurstBytes};
 ghost use Rattle.memory_end.specs.BurstBytes.{WritesBeatBytes};
 ghost use Rattle.memory_end.specs.BurstBytes.{WritesBurstBytes};
 ghost use Rattle.memory_end.specs.Laws.{KeepsArguments, MovesAlwaysFit, NewIsMemory, StaysMemory};
-ghost use Rattle.memory_end.specs.RowLaws.{RowsAreDone};
+ghost use Rattle.memory_end.specs.RowLaws.{MemoryRowsAreDone};
 ghost use Rattle.memory_end.specs.Store.{ReadsOthers, ReadsWritten};
 
 /// The laws of a memory's bytes and of its table.
@@ -21,7 +21,7 @@ pub fn laws()
     ensures keeps { KeepsArguments }
 
     // What a row of its table can do in a round is done in that round.
-    ensures rows { RowsAreDone }
+    ensures rows { MemoryRowsAreDone }
 
     // Its beats are those of legal bursts: their lines, and the bytes of them that it reads and writes.
     ensures burst_lines { LinesAreOfBurst }

@@ -4,7 +4,8 @@ use Rattle.std.specs.Prelude.{All, map}
 use Rattle.std.proofs.lemmas.List.{get_or-map, length-map, map-append}
 use Rattle.std.proofs.lemmas.List.Elements.{All-append, All-contains_itself, All-cons, All-head, All-map, All-nil, All-tail, All-weaker}
 use Rattle.std.proofs.lemmas.Option.{get_or_from_slice_get, slice_get_within}
-use Rattle.axi_history.specs.Delivered.{Delivered, IsBeginningOf, IsOf, is_write_at, HasAnswer, access_made, access_due}
+use Rattle.plain_lists.specs.Prefixes.{IsPrefix}
+use Rattle.axi_history.specs.Delivered.{Delivered, IsOf, is_write_at, HasAnswer, access_made, access_due}
 use Rattle.axi_history.specs.Records.{Answer, Event, Transaction, events_of, bytes_due}
 use Rattle.manager_end.specs.Script.{ScriptItem}
 use Rattle.burst_address.specs.Accesses.{value_after}
@@ -75,7 +76,7 @@ module _ (script : List ScriptItem) (facts : RunFacts script) where
   run-delivered : (n : ℕ) → Delivered (transactions_of script) (run_events script n) (run_answers script n)
   run-delivered n = record {
     belongs = run-belongs n;
-    in_burst_order = All-map (λ (t : Transaction). IsBeginningOf (map access_made (events_of t.number (run_events script n))) (map access_due (bytes_due t))) transaction script
+    in_burst_order = All-map (λ (t : Transaction). IsPrefix (map access_made (events_of t.number (run_events script n))) (map access_due (bytes_due t))) transaction script
         (λ k d lt. item-begins script facts n (get_or script k d) (All-contains_itself script k d lt));
     whole = All-map (λ (t : Transaction). HasAnswer t (run_answers script n) → map access_made (events_of t.number (run_events script n)) ≡ map access_due (bytes_due t)) transaction script
         (λ k d lt. item-answered script facts n (get_or script k d) (All-contains_itself script k d lt));

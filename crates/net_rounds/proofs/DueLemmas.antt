@@ -10,7 +10,8 @@ use Rattle.std.proofs.lemmas.Simd.{map-map}
 use Rattle.axi_beats.specs.declared.beat.WBeat.{WBeat}
 use Rattle.axi_beats.specs.declared.response.Resp.{Resp}
 use Rattle.axi_beats.specs.declared.response.Resp.TheVariants.{DecErr, Okay}
-use Rattle.axi_history.specs.Delivered.{IsBeginningOf, access_due}
+use Rattle.plain_lists.specs.Prefixes.{IsPrefix}
+use Rattle.axi_history.specs.Delivered.{access_due}
 use Rattle.axi_history.specs.Records.{NamedByte, bytes_due}
 use Rattle.axi_trail.specs.Schedule.{Share}
 use Rattle.burst_address.specs.Bytes.{beat_bytes, burst_bytes, bytes_before, Byte}
@@ -41,13 +42,14 @@ use Rattle.burst_address.proofs.Statuses.{valid-status}
 
 module _ {X Y Z : Type 0} where
   -- what the first elements give is the beginning of what all give
-  pub flat-begins : (g : Y → Z) (f : X → List Y) (count : ℕ) (xs : List X) → IsBeginningOf (map g (flat_map f (take count xs))) (map g (flat_map f xs))
-  flat-begins g f count xs = (
-    map g (flat_map f (drop count xs)),
-    ap (λ all. map g (flat_map f all)) (sym (take-append-drop count xs))
+  pub flat-begins : (g : Y → Z) (f : X → List Y) (count : ℕ) (xs : List X) → IsPrefix (map g (flat_map f (take count xs))) (map g (flat_map f xs))
+  flat-begins g f count xs = record {
+    rest = map g (flat_map f (drop count xs));
+    whole =
+        ap (λ all. map g (flat_map f all)) (sym (take-append-drop count xs))
         ∙ ap (map g) (flat_map-append f (take count xs) (drop count xs))
-        ∙ map-append g (flat_map f (take count xs)) (flat_map f (drop count xs)),
-  )
+        ∙ map-append g (flat_map f (take count xs)) (flat_map f (drop count xs));
+  }
 
   -- a test between two maps
   filter-between : (test : Y → Bool) (g : Y → Z) (f : X → Y) (xs : List X) → map g (filter test (map f xs)) ≡ map (λ x. g (f x)) (filter (λ x. test (f x)) xs)
@@ -121,10 +123,10 @@ module _ (item : ScriptItem) (known : IsTrafficItem item) where
       ∙ sym (ap (λ all. map access_due (filter is_allowed all)) (read-bytes direction) ∙ filter-between is_allowed access_due read_byte bytes)
 
   -- the first beats of a read read the first bytes that are due, and all beats read all
-  pub reads-begin : item.txn.write ≡ false → (count : ℕ) → IsBeginningOf (map shown_read (due_reads ram (read_share item) count)) (map access_due (bytes_due (transaction_of ram 0 1 item)))
+  pub reads-begin : item.txn.write ≡ false → (count : ℕ) → IsPrefix (map shown_read (due_reads ram (read_share item) count)) (map access_due (bytes_due (transaction_of ram 0 1 item)))
   reads-begin direction count =
-      let front = flat-begins shown_read (read_addresses ram) count (beats_of_parts (read_share item).parts) in
-      (front.0, sym (all-reads direction) ∙ front.1)
+      let front : IsPrefix _ _ = flat-begins shown_read (read_addresses ram) count (beats_of_parts (read_share item).parts) in
+      record { rest = front.rest; whole = sym (all-reads direction) ∙ front.whole }
 
   pub reads-whole : item.txn.write ≡ false → (count : ℕ) → length (beats_of_parts (read_share item).parts) ≤ count → map shown_read (due_reads ram (read_share item) count) ≡ map access_due (bytes_due (transaction_of ram 0 1 item))
   reads-whole direction count all =
@@ -182,10 +184,10 @@ module _ (laws : NodeLaws) (item : ScriptItem) (known : IsTrafficItem item) (dir
       ∙ sym (ap (λ all. map access_due (filter is_allowed all)) write-bytes ∙ filter-between is_allowed access_due write_byte bytes)
 
   -- the first data beats write the first bytes that are due, and all beats write all
-  pub writes-begin : (count : ℕ) → IsBeginningOf (map shown_write (due_writes ram (write_share item) count)) (map access_due (bytes_due (transaction_of ram 0 1 item)))
+  pub writes-begin : (count : ℕ) → IsPrefix (map shown_write (due_writes ram (write_share item) count)) (map access_due (bytes_due (transaction_of ram 0 1 item)))
   writes-begin count =
-      let front = flat-begins shown_write beat_writes count (beats_with_data (write_share item)) in
-      (front.0, sym all-writes ∙ front.1)
+      let front : IsPrefix _ _ = flat-begins shown_write beat_writes count (beats_with_data (write_share item)) in
+      record { rest = front.rest; whole = sym all-writes ∙ front.whole }
 
   pub writes-whole : (count : ℕ) → length (beats_of_parts (write_share item).parts) ≤ count → map shown_write (due_writes ram (write_share item) count) ≡ map access_due (bytes_due (transaction_of ram 0 1 item))
   writes-whole count all = ap (λ beats. map shown_write (flat_map beat_writes beats)) (take_all count (beats_with_data (write_share item)) (omega (arith, all, few-data))) ∙ all-writes

@@ -5,7 +5,8 @@ use Rattle.std.proofs.lemmas.Bool.{cases_Bool, eqb-true}
 use Rattle.std.proofs.lemmas.List.Elements.{All-contains}
 use Rattle.axi_beats.specs.declared.beat.RBeat.{RBeat}
 use Rattle.axi_history.specs.Answered.{values_of}
-use Rattle.axi_history.specs.Delivered.{IsBeginningOf, HasAnswer, access_made, access_due}
+use Rattle.plain_lists.specs.Prefixes.{IsPrefix}
+use Rattle.axi_history.specs.Delivered.{HasAnswer, access_made, access_due}
 use Rattle.axi_history.specs.Records.{Answer, events_of, bytes_due}
 use Rattle.axi_trail.specs.Schedule.{Share}
 use Rattle.axi_trail.specs.Words.{number_of_data, number_of_read_data, number_of_response}
@@ -87,9 +88,9 @@ module _ (script : List ScriptItem) (facts : RunFacts script) (n : ℕ) where
         ∙ ap (map shown_read) (read item.txn.number ∙ ap (λ (share : Share). due_reads ram share (read_beats item.txn.number)) (share-own script facts.traffic item among false direction))
 
     -- which are the first of those that are due
-    pub item-begins : IsBeginningOf (map access_made (events_of item.txn.number (run_events script n))) (map access_due (bytes_due (transaction_of ram 0 1 item)))
+    pub item-begins : IsPrefix (map access_made (events_of item.txn.number (run_events script n))) (map access_due (bytes_due (transaction_of ram 0 1 item)))
     item-begins =
-        let Begins : List (ℕ × Option ℕ) → Type 0 = λ front. IsBeginningOf front (map access_due (bytes_due (transaction_of ram 0 1 item))) in
+        let Begins : List (ℕ × Option ℕ) → Type 0 = λ front. IsPrefix front (map access_due (bytes_due (transaction_of ram 0 1 item))) in
         elim (cases_Bool item.txn.write) [
           | inl direction ↦ subst Begins (sym (item-writes direction)) (writes-begin facts.laws item known direction (written_beats item.txn.number))
           | inr direction ↦ subst Begins (sym (item-reads direction)) (reads-begin item known direction (read_beats item.txn.number))

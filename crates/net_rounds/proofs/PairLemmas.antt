@@ -15,7 +15,7 @@ use Rattle.manager_end.proofs.ManagerLaws.{manager-stays}
 use Rattle.manager_end.proofs.ScriptLemmas.{script-item}
 use Rattle.manager_end.specs.Beats.{data_beat, item_request}
 use Rattle.manager_end.specs.BurstLaws.{SendsItsBytes}
-use Rattle.manager_end.specs.ManagerState.{ManagerState, IsManager, CanManager, of_direction, writes_of, reads_of}
+use Rattle.manager_end.specs.ManagerState.{ManagerState, IsManager, CanManager, of_direction, script_writes, script_reads}
 use Rattle.manager_end.specs.ManagerTable.{manager_aw, manager_ar, manager_w, manager_out, ready}
 use Rattle.manager_end.specs.Script.{ScriptItem, sent_bytes}
 use Rattle.memory_end.proofs.StayLemmas.{memory-stays}
@@ -80,31 +80,31 @@ strobe-small script bus n item wide chosen some =
 
 -- what the manager puts has what its script has
 pub aw-puts :
-    (P : Addr → Type 0) (links : List LinkView) (s : ManagerState) → All (λ (p : ℕ × ScriptItem). P (item_request p.1)) (writes_of s.script) →
+    (P : Addr → Type 0) (links : List LinkView) (s : ManagerState) → All (λ (p : ℕ × ScriptItem). P (item_request p.1)) (script_writes s.script) →
     IfSome (manager_out links s).aw_put (λ (p : ℕ × Addr). P p.1)
 aw-puts P links s all =
     let Has : ℕ × ScriptItem → Type 0 = λ p. P (item_request p.1) in
     put-has P s.lower _ (IfSome-map (λ (next : ℕ × ScriptItem). item_request next.1) P (manager_aw links s)
-    (beat_where-has Has _ _ (ready-has Has s.answered _ (All-slice_get Has (writes_of s.script) s.issued_writes all))))
+    (beat_where-has Has _ _ (ready-has Has s.answered _ (All-slice_get Has (script_writes s.script) s.issued_writes all))))
 
 pub ar-puts :
-    (P : Addr → Type 0) (links : List LinkView) (s : ManagerState) → All (λ (p : ℕ × ScriptItem). P (item_request p.1)) (reads_of s.script) →
+    (P : Addr → Type 0) (links : List LinkView) (s : ManagerState) → All (λ (p : ℕ × ScriptItem). P (item_request p.1)) (script_reads s.script) →
     IfSome (manager_out links s).ar_put (λ (p : ℕ × Addr). P p.1)
 ar-puts P links s all =
     let Has : ℕ × ScriptItem → Type 0 = λ p. P (item_request p.1) in
     put-has P s.lower _ (IfSome-map (λ (next : ℕ × ScriptItem). item_request next.1) P (manager_ar links s)
-    (beat_where-has Has _ _ (ready-has Has s.answered _ (All-slice_get Has (reads_of s.script) s.issued_reads all))))
+    (beat_where-has Has _ _ (ready-has Has s.answered _ (All-slice_get Has (script_reads s.script) s.issued_reads all))))
 
 pub w-puts :
     (P : WBeat → Type 0) (links : List LinkView) (s : ManagerState) → IsManager s →
-    All (λ (p : ℕ × ScriptItem). (n : ℕ) → n ≤ p.1.txn.request.len → P (data_beat p.1 s.bus n)) (writes_of s.script) →
+    All (λ (p : ℕ × ScriptItem). (n : ℕ) → n ≤ p.1.txn.request.len → P (data_beat p.1 s.bus n)) (script_writes s.script) →
     IfSome (manager_out links s).w_put (λ (p : ℕ × WBeat). P p.1)
 w-puts P links s m all =
     let Has : ℕ × ScriptItem → Type 0 = λ p. P (data_beat p.1 s.bus s.sent_beats) in
     let Some_left : ℕ × ScriptItem → Type 0 = λ p. s.sent_beats ≤ p.1.txn.request.len in
     let Each : ℕ × ScriptItem → Type 0 = λ p. (n : ℕ) → n ≤ p.1.txn.request.len → P (data_beat p.1 s.bus n) in
     put-has P s.lower _ (IfSome-map (λ (next : ℕ × ScriptItem). data_beat next.1 s.bus s.sent_beats) P (manager_w links s)
-    (beat_where-has Has _ _ (IfSome-both Some_left Each Has (λ p few each. each s.sent_beats few) _ m.beats_sent (All-slice_get Each (writes_of s.script) s.sent_writes all))))
+    (beat_where-has Has _ _ (IfSome-both Some_left Each Has (λ p few each. each s.sent_beats few) _ m.beats_sent (All-slice_get Each (script_writes s.script) s.sent_writes all))))
 
 -- what every beat on the link is: requests that the memory can do, writes on lines that it keeps, strobes on lanes of
 -- the bus
@@ -116,7 +116,7 @@ pub record LinkHolds (config : MemoryConfig) (lines : List ℕ) (l : LinkView) :
 
 -- the memory keeps the lines of each write of the script
 pub record KeepsLines (config : MemoryConfig) (lines : List ℕ) (script : List ScriptItem) : Type 0 where
-  pub kept : All (λ (p : ℕ × ScriptItem). AreLinesAmong config lines (item_request p.1)) (writes_of script)
+  pub kept : All (λ (p : ℕ × ScriptItem). AreLinesAmong config lines (item_request p.1)) (script_writes script)
 
 -- what holds of the pair after every round
 pub record PairHolds (p : Pair) : Type 0 where
@@ -165,16 +165,16 @@ link-keeps p n holds =
     record {
       aw = All-moved Request 0 takes.aw_take puts.aw_put p.link.aw holds.link.aw
           (aw-puts Request links s (λ k d lt.
-          let item = (get_or (writes_of s.script) k d).1 in
+          let item = (get_or (script_writes s.script) k d).1 in
           subst (λ (bus : ℕ). IsRequest bus (item_request item)) holds.bus (tagged-request s.bus item (writes k d lt).request)));
       aw_lines = All-moved (AreLinesAmong config lines) 0 takes.aw_take puts.aw_put p.link.aw holds.link.aw_lines (aw-puts (AreLinesAmong config lines) links s holds.lines.kept);
       ar = All-moved Request 0 takes.ar_take puts.ar_put p.link.ar holds.link.ar
           (ar-puts Request links s (λ k d lt.
-          let item = (get_or (reads_of s.script) k d).1 in
+          let item = (get_or (script_reads s.script) k d).1 in
           subst (λ (bus : ℕ). IsRequest bus (item_request item)) holds.bus (tagged-request s.bus item (reads k d lt).request)));
       w = All-moved Strobe 0 takes.w_take puts.w_put p.link.w holds.link.w
           (w-puts Strobe links s holds.manager (λ k d lt n some.
-          let item = (get_or (writes_of s.script) k d).1 in
+          let item = (get_or (script_writes s.script) k d).1 in
           subst (λ (bus : ℕ). (data_beat item s.bus n).strobe < 2 ^ bus) holds.bus (strobe-small s.script s.bus n item holds.manager.bus_width (writes k d lt) some)));
     }
 

@@ -11,11 +11,12 @@ use Rattle.axi_link.specs.LinkWords.{head_of}
 use Rattle.axi_link.specs.declared.out.Out.{Out}
 use Rattle.link_ports.specs.PortView.{port_of, seen_address, seen_itself, seen_read_beat, seen_response, channel_seen}
 use Rattle.manager_end.specs.Beats.{data_beat, item_request}
-use Rattle.manager_end.specs.ManagerState.{reads_of, writes_of}
+use Rattle.manager_end.specs.ManagerState.{script_reads, script_writes}
 use Rattle.manager_end.specs.ManagerTable.{manager_out}
 use Rattle.manager_end.specs.Script.{ScriptItem}
 use Rattle.manager_end.specs.declared.script.WriteByte.{WriteByte}
-use Rattle.memory_end.specs.MemoryTable.{fits, memory_ar, memory_aw, memory_b, memory_link, memory_out, memory_r, memory_w}
+use Rattle.node_core.specs.Rows.{fits}
+use Rattle.memory_end.specs.MemoryTable.{memory_ar, memory_aw, memory_b, memory_link, memory_out, memory_r, memory_w}
 use Rattle.memory_end.specs.declared.config.MemoryConfig.{MemoryConfig}
 use Rattle.memory_end.specs.declared.entry.ReadEntry.{ReadEntry}
 use Rattle.memory_end.specs.declared.entry.WriteEntry.{WriteEntry}
@@ -80,13 +81,13 @@ module _ (p : Pair) (n : ℕ) (holds : PairHolds p) (range : PairInRange p) wher
   link-in_range : LinkInRange bus (moved (decided (suc n) p)).link
   link-in_range = record {
     aw = All-moved IsAddressInRange 0 answers.aw_take puts.aw_put p.link.aw range.link.aw
-        (aw-puts IsAddressInRange links p.manager.state (λ k d lt. chosen-request true (get_or (writes_of script) k d).1 (chosen-of p.manager.state holds.manager true k d lt)));
+        (aw-puts IsAddressInRange links p.manager.state (λ k d lt. chosen-request true (get_or (script_writes script) k d).1 (chosen-of p.manager.state holds.manager true k d lt)));
     w = All-moved (IsTraceWriteData bus) 0 answers.w_take puts.w_put p.link.w range.link.w
-        (w-puts (IsTraceWriteData bus) links p.manager.state holds.manager (λ k d lt. chosen-data (get_or (writes_of script) k d).1 (chosen-of p.manager.state holds.manager true k d lt)));
+        (w-puts (IsTraceWriteData bus) links p.manager.state holds.manager (λ k d lt. chosen-data (get_or (script_writes script) k d).1 (chosen-of p.manager.state holds.manager true k d lt)));
     b = All-moved IsResponseInRange 0 puts.b_take answers.b_put p.link.b range.link.b
         (put-has IsResponseInRange p.memory.state.upper (memory_b links p.memory.state) (response-in_range (memory_link links p.memory.state) p.memory.state.write_entries range.memory.writes));
     ar = All-moved IsAddressInRange 0 answers.ar_take puts.ar_put p.link.ar range.link.ar
-        (ar-puts IsAddressInRange links p.manager.state (λ k d lt. chosen-request false (get_or (reads_of script) k d).1 (chosen-of p.manager.state holds.manager false k d lt)));
+        (ar-puts IsAddressInRange links p.manager.state (λ k d lt. chosen-request false (get_or (script_reads script) k d).1 (chosen-of p.manager.state holds.manager false k d lt)));
     r = All-moved (IsReadDataInRange bus) 0 puts.r_take answers.r_put p.link.r range.link.r
         (put-has (IsReadDataInRange bus) p.memory.state.upper (memory_r links p.memory.state)
         (read-in_range p.memory.state.config holds.memory.config.bus p.memory.state.store range.memory.bytes (subst (λ (fill : ℕ). fill < 256) (sym holds.memory.fill) range.memory.fill) (memory_link links p.memory.state) p.memory.state.read_entries range.memory.reads));

@@ -10,7 +10,7 @@ use Rattle.axi_trail.specs.Words.{number_of_address}
 use Rattle.manager_end.specs.Answer.{AnswerView}
 use Rattle.manager_end.specs.Beats.{item_request}
 use Rattle.manager_end.specs.ManagerOrder.{Notes, note_at}
-use Rattle.manager_end.specs.ManagerState.{of_direction, reads_of, writes_of}
+use Rattle.manager_end.specs.ManagerState.{of_direction, script_reads, script_writes}
 use Rattle.manager_end.specs.Script.{ScriptItem}
 use Rattle.memory_end.specs.Events.{Access}
 use Rattle.net_rounds.proofs.BuiltInSchedule.{accesses_at, links_at, lower_out, lower_trail, pair_at, schedule_of, progress_at, upper_out, upper_trail}
@@ -94,7 +94,7 @@ module _ (laws : NodeLaws) (script : List ScriptItem) (traffic : IsNumberedTraff
       (subst (λ (numbers : List ℕ). Contains numbers a.number) (sym (map-append number_of_address (lower_trail script n).aw (pair_at script n).link.aw))
       (Contains-append_left (map number_of_address (lower_trail script n).aw) (map number_of_address (pair_at script n).link.aw) a.number among)) in
       let put = put-of script true (pair_at script n).manager.state.issued_writes (upper_trail script n).aw a.number
-      ((keeps-of n).manager.passed.aw ∙ ap (λ (items : List ScriptItem). map (λ (p : ℕ × ScriptItem). item_request p.1) (take (pair_at script n).manager.state.issued_writes (writes_of items))) (script-at n)) upper in
+      ((keeps-of n).manager.passed.aw ∙ ap (λ (items : List ScriptItem). map (λ (p : ℕ × ScriptItem). item_request p.1) (take (pair_at script n).manager.state.issued_writes (script_writes items))) (script-at n)) upper in
       record {
         place = put.place;
         item = put.item;
@@ -113,7 +113,7 @@ module _ (laws : NodeLaws) (script : List ScriptItem) (traffic : IsNumberedTraff
       (subst (λ (numbers : List ℕ). Contains numbers a.number) (sym (map-append number_of_address (lower_trail script n).ar (pair_at script n).link.ar))
       (Contains-append_left (map number_of_address (lower_trail script n).ar) (map number_of_address (pair_at script n).link.ar) a.number among)) in
       let put = put-of script false (pair_at script n).manager.state.issued_reads (upper_trail script n).ar a.number
-      ((keeps-of n).manager.passed.ar ∙ ap (λ (items : List ScriptItem). map (λ (p : ℕ × ScriptItem). item_request p.1) (take (pair_at script n).manager.state.issued_reads (reads_of items))) (script-at n)) upper in
+      ((keeps-of n).manager.passed.ar ∙ ap (λ (items : List ScriptItem). map (λ (p : ℕ × ScriptItem). item_request p.1) (take (pair_at script n).manager.state.issued_reads (script_reads items))) (script-at n)) upper in
       record {
         place = put.place;
         item = put.item;

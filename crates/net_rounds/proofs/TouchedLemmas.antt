@@ -9,7 +9,7 @@ use Rattle.std.proofs.lemmas.List.Kept.{AllPairs-filter}
 use Rattle.axi_beats.specs.declared.beat.Addr.{Addr}
 use Rattle.burst_address.specs.Formulas.{beat_at, beats_of}
 use Rattle.manager_end.specs.Beats.{item_request}
-use Rattle.manager_end.specs.ManagerState.{ManagerState, IsManager, writes_of}
+use Rattle.manager_end.specs.ManagerState.{ManagerState, IsManager, script_writes}
 use Rattle.manager_end.specs.Script.{ScriptItem}
 use Rattle.memory_end.specs.MemoryState.{AreLinesAmong}
 use Rattle.memory_end.specs.Store.{line_number}
@@ -68,7 +68,7 @@ pub touched-kept : (s : ManagerState) → IsManager s → KeepsLines ram (touche
 touched-kept s m = record {
   kept = λ k d lt.
       let chosen = chosen-of s m true k d lt in
-      touched-item s.script (get_or (writes_of s.script) k d).1 chosen.among chosen.direction;
+      touched-item s.script (get_or (script_writes s.script) k d).1 chosen.among chosen.direction;
 }
 
 pub touched-ascending : (script : List ScriptItem) → AllPairs (λ i j. i < j) (touched_lines script)

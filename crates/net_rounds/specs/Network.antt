@@ -23,19 +23,19 @@ abbrev pub ends_of : List Ends → ℕ → Ends
 ends_of ends number = slice_index_or ends number (record { upper = 0; lower = 0 })
 
 -- the moves that a node chose
-abbrev pub out_of : List Node → ℕ → Out
-out_of nodes number = option_map_or node_out (slice_get nodes number) no_moves
+abbrev pub moves_of : List Node → ℕ → Out
+moves_of nodes number = option_map_or node_out (slice_get nodes number) no_moves
 
 -- a link after the moves of its two nodes
 unfoldable pub link_moved : List Ends → List Node → ℕ → LinkView → LinkView
-link_moved ends nodes number link = link_after number link (out_of nodes (ends_of ends number).upper) (out_of nodes (ends_of ends number).lower)
+link_moved ends nodes number link = link_after number link (moves_of nodes (ends_of ends number).upper) (moves_of nodes (ends_of ends number).lower)
 
 -- a link has its two nodes, and their moves on it can be made
 pub record CanLink (ends : List Ends) (nodes : List Node) (number : ℕ) (link : LinkView) : Type 0 where
   pub known : number < length ends
   pub upper : (ends_of ends number).upper < length nodes
   pub lower : (ends_of ends number).lower < length nodes
-  pub moves : CanMove number link (out_of nodes (ends_of ends number).upper) (out_of nodes (ends_of ends number).lower)
+  pub moves : CanMove number link (moves_of nodes (ends_of ends number).upper) (moves_of nodes (ends_of ends number).lower)
 
 -- phase one of a round: every node decides on the links as they stand
 unfoldable pub after_decide : ℕ → Network → Network

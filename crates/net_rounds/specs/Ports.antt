@@ -8,7 +8,7 @@ use Rattle.link_ports.specs.PortView.{port_of}
 use Rattle.manager_end.specs.Script.{ScriptItem}
 use Rattle.net_rounds.specs.BuiltIn.{built_in}
 use Rattle.net_rounds.specs.Due.{IsNumberedTraffic}
-use Rattle.net_rounds.specs.Network.{Network, after_decide, after_rounds, ends_of, out_of}
+use Rattle.net_rounds.specs.Network.{Network, after_decide, after_rounds, ends_of, moves_of}
 
 -- every link of the built-in network is an AXI4 port with a bus of 4 bytes
 abbrev pub link_kind : PortKind
@@ -17,7 +17,7 @@ link_kind = record { lite = false; bus = 4 }
 -- the port of a link in a round in which the nodes have decided
 abbrev pub port_at : ℕ → Network → ℕ → PortRound
 port_at round net number =
-    port_of round number link_kind (link_of net.links number) (out_of net.nodes (ends_of net.ends number).upper) (out_of net.nodes (ends_of net.ends number).lower)
+    port_of round number link_kind (link_of net.links number) (moves_of net.nodes (ends_of net.ends number).upper) (moves_of net.nodes (ends_of net.ends number).lower)
 
 -- the history of a link's port in the first rounds of a run
 abbrev pub history_of : ℕ → Network → ℕ → List PortRound

@@ -2,7 +2,7 @@
 use Rattle.std.proofs.Common.{◌≡◌, ◌<◌, ◌+◌, ℕ, zero, suc, Bool, true, false, cond, refl, sym, ◌∙◌, ap, arith}
 use Rattle.std.specs.Prelude.{nat_lt, not}
 use Rattle.std.proofs.lemmas.Bool.{ltb-true}
-use Rattle.node_core.specs.Pace.{PaceState, PacesLet, asked_for, delay_of, is_over, next_place, pace_onwards}
+use Rattle.node_core.specs.Pace.{PaceState, PacesLet, asked_for, current_delay, is_over, next_place, pace_onwards}
 
 not-over : (b : Bool) → not b ≡ false → b ≡ true
 not-over true is = refl
@@ -31,5 +31,5 @@ pub paces-let : PacesLet
 paces-let p most few none =
     let last = waited-for p most (λ j less. none j (omega (arith, less))) in
     let here : is_over (waited_more p most) ≡ false = ap is_over (sym last) ∙ none most (omega arith) in
-    let waits : nat_lt (p.waited + most) (delay_of p) ≡ true = not-over (nat_lt (p.waited + most) (delay_of p)) here in
-    absurd (omega (arith, few, ltb-true (p.waited + most) (delay_of p) waits))
+    let waits : nat_lt (p.waited + most) (current_delay p) ≡ true = not-over (nat_lt (p.waited + most) (current_delay p)) here in
+    absurd (omega (arith, few, ltb-true (p.waited + most) (current_delay p) waits))

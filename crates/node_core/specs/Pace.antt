@@ -11,12 +11,12 @@ abbrev pub new_pace : List ℕ → PaceState
 new_pace delays = record { delays = delays; place = 0; waited = 0 }
 
 -- the delay that holds
-abbrev pub delay_of : PaceState → ℕ
-delay_of p = slice_index_or p.delays p.place 0
+abbrev pub current_delay : PaceState → ℕ
+current_delay p = slice_index_or p.delays p.place 0
 
 -- so many rounds were waited as the delay says
 abbrev pub is_over : PaceState → Bool
-is_over p = not (nat_lt p.waited (delay_of p))
+is_over p = not (nat_lt p.waited (current_delay p))
 
 -- whether the row is done, where its condition is `possible`
 abbrev pub is_let : Bool → PaceState → Bool
@@ -50,4 +50,4 @@ asked_for (suc i) p = pace_onwards (asked_for i p)
 
 -- A row isn't held back in one round more than the longest delay, if its condition holds in all of them.
 abbrev pub PacesLet : Type 0
-PacesLet = (p : PaceState) (most : ℕ) → delay_of p ≤ most → ¬ ((i : ℕ) → i < suc most → is_over (asked_for i p) ≡ false)
+PacesLet = (p : PaceState) (most : ℕ) → current_delay p ≤ most → ¬ ((i : ℕ) → i < suc most → is_over (asked_for i p) ≡ false)

@@ -8,7 +8,7 @@ use Rattle.axi_link.specs.LinkView.{LinkView}
 use Rattle.axi_link.specs.LinkWords.{head_of, link_of}
 use Rattle.axi_link.specs.declared.out.Out.{Out}
 use Rattle.axi_trail.specs.Schedule.{Schedule}
-use Rattle.axi_trail.specs.Words.{beats_of, burst_asked}
+use Rattle.axi_trail.specs.Words.{beats_due, burst_asked}
 use Rattle.node_shape.specs.Kind.{Kind, Passed, next_of, out_of}
 use Rattle.node_shape.specs.Quiet.{HaveRoomB, HaveRoomR}
 
@@ -39,9 +39,9 @@ pub record Inside (S K : Type 0) : Type 0 where
 
 module _ {X : Type 0} (queue_of : LinkView → List X) (links : List LinkView) where
   -- the head that is taken, where one is
-  abbrev pub taken : Option ℕ → List X
-  taken None = []
-  taken (Some link) = take 1 (queue_of (link_of links link))
+  abbrev pub head_taken : Option ℕ → List X
+  head_taken None = []
+  head_taken (Some link) = take 1 (queue_of (link_of links link))
 
   -- each of these links has room on this channel
   abbrev pub HaveRoom : List ℕ → Type 0
@@ -95,7 +95,7 @@ module _ {S E K : Type 0} (kind : Kind S E) (inside : Inside S K) where
   abbrev pub SomeIsAwaited : Type 0
   SomeIsAwaited =
       (schedules : ℕ → Schedule) (rounds : ℕ) (s : S) (passed : Passed E) → kind.keeps schedules rounds s passed → (l : ℕ) → Contains (kind.lowers s) l →
-      length (passed.lowers l).w < beats_of (map burst_asked (passed.lowers l).aw) → (u : ℕ) × (inside.awaited s ≡ Some u) × Contains (kind.uppers s) u
+      length (passed.lowers l).w < beats_due (map burst_asked (passed.lowers l).aw) → (u : ℕ) × (inside.awaited s ≡ Some u) × Contains (kind.uppers s) u
 
   abbrev pub DataAwaited : Type 0
   DataAwaited = AwaitedGoesOn × NoOtherGoesOn × SomeIsAwaited
@@ -109,5 +109,5 @@ module _ {S E K : Type 0} (kind : Kind S E) (inside : Inside S K) where
   abbrev pub EntriesStay : Type 0
   EntriesStay =
       (round : ℕ) (links : List LinkView) (s : S) → kind.fact s → kind.can round links s →
-      EntriesStayIn round links s inside.writes (taken (λ l. l.aw) links (out_of kind round links s).aw_take)
-      × EntriesStayIn round links s inside.reads (taken (λ l. l.ar) links (out_of kind round links s).ar_take)
+      EntriesStayIn round links s inside.writes (head_taken (λ l. l.aw) links (out_of kind round links s).aw_take)
+      × EntriesStayIn round links s inside.reads (head_taken (λ l. l.ar) links (out_of kind round links s).ar_take)

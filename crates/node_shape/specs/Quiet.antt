@@ -3,7 +3,7 @@ use Rattle.std.specs.Prelude.{◌≡◌, ◌<◌, [], ℕ, List, Bool, All, Cont
 use Rattle.axi_link.specs.LinkView.{LinkView}
 use Rattle.axi_link.specs.declared.out.Out.{Out}
 use Rattle.axi_trail.specs.Trail.{Beats, Trail}
-use Rattle.axi_trail.specs.Words.{beats_of, burst_asked, held_asked, read_replies, reads_asked, write_replies, writes_asked}
+use Rattle.axi_trail.specs.Words.{beats_due, burst_asked, held_asked, read_replies, reads_asked, write_replies, writes_asked}
 
 -- at this end of a link every read is answered, and no further one waits on the link
 pub record HasNoRead (link : LinkView) (trail : Beats) : Type 0 where
@@ -18,7 +18,7 @@ pub record HasNoWrite (link : LinkView) (trail : Beats) : Type 0 where
 -- at this end of a link some address lacks data, and none waits on the link
 pub record LacksData (link : LinkView) (trail : Beats) : Type 0 where
   pub none_waits : length link.w ≡ 0
-  pub lacks : length trail.w < beats_of (map burst_asked trail.aw)
+  pub lacks : length trail.w < beats_due (map burst_asked trail.aw)
 
 module _ (queues : ℕ → LinkView) where
   -- each of these links could hold a beat

@@ -11,7 +11,7 @@ use Rattle.node_graph.specs.Graph.{is_in, nodes_below, numbers}
 use Rattle.refusals.specs.declared.cause.Cause.{Cause}
 use Rattle.topology.specs.Accepted.{AcceptedIsAcyclic, AcceptedIsClean, LinksAreHandedDown}
 use Rattle.topology.specs.Document.{DocumentNode, graph_of, link_below, named, names_of, no_link, node_at, node_of_kind, targets_of}
-use Rattle.topology.specs.Refused.{checks, first_fault, has_bad_region, has_fan_in, has_id_overflow, has_lite_mismatch, has_width_mismatch, is_cyclic, is_duplicate, is_loose, is_too_large, names_unknown, or_else, regions_overlap}
+use Rattle.topology.specs.Refused.{checks, first_cause, has_bad_region, has_fan_in, has_id_overflow, has_lite_mismatch, has_width_mismatch, is_cyclic, is_duplicate, is_loose, is_too_large, names_unknown, or_cause, regions_overlap}
 use Rattle.topology.specs.declared.kind.Kind.TheVariants.{Slice}
 
 -- ---- no check holds of a node
@@ -19,7 +19,7 @@ use Rattle.topology.specs.declared.kind.Kind.TheVariants.{Slice}
 Some-None : {X : Type 0} (x : X) → Some x ≡ None → ⊥
 Some-None x e = true≢false (ap is_some e)
 
-or_else-none : (cause : Cause) (o : Option ℕ) (later : Option (Cause × ℕ)) → or_else cause o later ≡ None → (o ≡ None) × (later ≡ None)
+or_else-none : (cause : Cause) (o : Option ℕ) (later : Option (Cause × ℕ)) → or_cause cause o later ≡ None → (o ≡ None) × (later ≡ None)
 or_else-none cause None later e = (refl, e)
 or_else-none cause (Some place) later e = absurd (Some-None (cause, place) e)
 
@@ -28,12 +28,12 @@ NoneFinds : List DocumentNode → List (Cause × (List DocumentNode → ℕ → 
 NoneFinds nodes [] = Unit {0}
 NoneFinds nodes (check ∷ more) = (find (check.1 nodes) (numbers (length nodes)) ≡ None) × NoneFinds nodes more
 
-none-finds : (nodes : List DocumentNode) (list : List (Cause × (List DocumentNode → ℕ → Bool))) → first_fault nodes list ≡ None → NoneFinds nodes list
+none-finds : (nodes : List DocumentNode) (list : List (Cause × (List DocumentNode → ℕ → Bool))) → first_cause nodes list ≡ None → NoneFinds nodes list
 unfolding NoneFinds
 none-finds nodes [] e = tt
 none-finds nodes (check ∷ more) e =
-    let parts : (find (check.1 nodes) (numbers (length nodes)) ≡ None) × (first_fault nodes more ≡ None) =
-    or_else-none check.0 (find (check.1 nodes) (numbers (length nodes))) (first_fault nodes more) e in
+    let parts : (find (check.1 nodes) (numbers (length nodes)) ≡ None) × (first_cause nodes more ≡ None) =
+    or_else-none check.0 (find (check.1 nodes) (numbers (length nodes))) (first_cause nodes more) e in
     (parts.0, none-finds nodes more parts.1)
 
 cond-none : (b : Bool) (y : ℕ) (o : Option ℕ) → cond b (Some y) o ≡ None → (b ≡ false) × (o ≡ None)

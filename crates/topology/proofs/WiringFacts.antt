@@ -9,7 +9,7 @@ use Rattle.std.proofs.lemmas.List.FromFn.{get_or-map-range_with_len, length-map-
 use Rattle.std.proofs.lemmas.List.Sums.{position_or_len_is}
 use Rattle.address_map.specs.declared.region.Region.{Region}
 use Rattle.node_graph.specs.Graph.{numbers}
-use Rattle.topology.specs.Document.{DocumentNode, LinkKind, link_of, node_at, node_of_kind}
+use Rattle.topology.specs.Document.{DocumentNode, LinkKind, link_kind_of, node_at, node_of_kind}
 use Rattle.topology.specs.Node.{node_seen, nodes_seen}
 use Rattle.topology.specs.Refused.{IsAccepted}
 use Rattle.topology.specs.declared.node.Node.{Node}
@@ -30,14 +30,14 @@ few-nodes nodes accepted =
     ]
 
 -- the links and the regions of a node
-pub link-at : (nodes : List DocumentNode) (links : List LinkKind) (place : ℕ) (x : LinkKind) → links ≡ map (link_of nodes) (numbers (length nodes)) → place < length nodes → x ≡ get_or links place x → x ≡ link_of nodes place
+pub link-at : (nodes : List DocumentNode) (links : List LinkKind) (place : ℕ) (x : LinkKind) → links ≡ map (link_kind_of nodes) (numbers (length nodes)) → place < length nodes → x ≡ get_or links place x → x ≡ link_kind_of nodes place
 unfolding numbers
 link-at nodes links place x are less e =
-    e ∙ ap (λ (xs : List LinkKind). get_or xs place x) are ∙ get_or-map-range_with_len (link_of nodes) 0 (length nodes) place place x less (omega arith)
+    e ∙ ap (λ (xs : List LinkKind). get_or xs place x) are ∙ get_or-map-range_with_len (link_kind_of nodes) 0 (length nodes) place place x less (omega arith)
 
-pub links-long : (nodes : List DocumentNode) (links : List LinkKind) → links ≡ map (link_of nodes) (numbers (length nodes)) → length links ≡ length nodes
+pub links-long : (nodes : List DocumentNode) (links : List LinkKind) → links ≡ map (link_kind_of nodes) (numbers (length nodes)) → length links ≡ length nodes
 unfolding numbers
-links-long nodes links are = ap length are ∙ length-map-range_with_len (link_of nodes) 0 (length nodes)
+links-long nodes links are = ap length are ∙ length-map-range_with_len (link_kind_of nodes) 0 (length nodes)
 
 pub regions-at : (nodes : List DocumentNode) (regions : List (Vec Region Global)) (place : ℕ) (x : Vec Region Global) → map vec_items regions ≡ map (regions_of nodes) nodes → place < length nodes → x ≡ get_or regions place x → vec_items x ≡ regions_of nodes (node_at nodes place)
 regions-at nodes regions place x are less e =

@@ -123,15 +123,15 @@ digits_up_to (suc most) number = if number == 0 then 0 else suc (digits_up_to mo
 abbrev pub input_digits : ℕ → ℕ
 input_digits inputs = digits_up_to 32 (inputs - 1)
 
--- several links joined: the protocol and the bus of the first, and IDs that are widened by the number of the input
-abbrev pub joined : List LinkKind → LinkKind
-joined links = record (first_link links) { id_width = widest links + input_digits (length links) }
+-- several links merged_link: the protocol and the bus of the first, and IDs that are widened by the number of the input
+abbrev pub merged_link : List LinkKind → LinkKind
+merged_link links = record (first_link links) { id_width = widest links + input_digits (length links) }
 
 -- what the links below a node are, from what the links above it are
 abbrev pub link_below : Kind → DocumentNode → List LinkKind → LinkKind
 link_below Manager node links = record { lite = false; bus = node.bus; id_width = node.id_width }
-link_below Mux node links = joined links
-link_below Crossbar node links = joined links
+link_below Mux node links = merged_link links
+link_below Crossbar node links = merged_link links
 link_below Remap node links = record (first_link links) { id_width = node.id_width }
 link_below Up node links = record (first_link links) { bus = node.bus }
 link_below Down node links = record (first_link links) { bus = node.bus }
@@ -139,12 +139,12 @@ link_below Lite node links = record { lite = true; bus = (first_link links).bus;
 link_below other node links = first_link links
 
 -- what the links below the node of this number are, from the managers downwards
-abbrev pub link_of : List DocumentNode → ℕ → LinkKind
-link_of nodes = handed_down (λ place links. link_below (node_at nodes place).kind (node_at nodes place) links) no_link (graph_of nodes)
+abbrev pub link_kind_of : List DocumentNode → ℕ → LinkKind
+link_kind_of nodes = handed_down (λ place links. link_below (node_at nodes place).kind (node_at nodes place) links) no_link (graph_of nodes)
 
 -- what its inputs are: the links above it, in the order of its uppers
 abbrev pub inputs_of : List DocumentNode → ℕ → List LinkKind
-inputs_of nodes place = map (link_of nodes) (uppers_of nodes place)
+inputs_of nodes place = map (link_kind_of nodes) (uppers_of nodes place)
 
 -- ---- what a node becomes in the plan
 

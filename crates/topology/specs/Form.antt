@@ -45,8 +45,8 @@ passing = record no_keys { to = Required; depth = Optional }
 abbrev pub choosing : Form
 choosing = record no_keys { region = Required; depth = Optional }
 
-abbrev pub answering : Form
-answering = record no_keys {
+abbrev pub storing : Form
+storing = record no_keys {
   base = Required;
   size = Required;
   fill = Optional;
@@ -59,8 +59,8 @@ answering = record no_keys {
 -- the keys of each kind, besides its name and kind
 unfoldable pub table_form : Kind → Form
 table_form Manager = record passing { bus = Required; id_width = Required; accept = Optional; give = Optional }
-table_form Memory = record answering { bus = Required }
-table_form LiteMemory = answering
+table_form Memory = record storing { bus = Required }
+table_form LiteMemory = storing
 table_form Slice = passing
 table_form Mux = passing
 table_form Lite = passing

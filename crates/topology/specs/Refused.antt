@@ -6,7 +6,7 @@ use Rattle.address_map.specs.declared.region.Region.{Region}
 use Rattle.node_graph.specs.Graph.{is_on_cycle, numbers}
 use Rattle.refusals.specs.declared.cause.Cause.{Cause}
 use Rattle.refusals.specs.declared.cause.Cause.TheVariants.{DuplicateName, UnknownName, FanIn, Loose, Cycle, BadRegion, Overlap, WidthMismatch, IdOverflow, LiteMismatch, TooLarge}
-use Rattle.topology.specs.Document.{DocumentNode, LinkKind, NamedRegion, first_link, graph_of, inputs_of, is_manager, is_memory, joins_links, link_of, named, names_of, node_at, plan_links_at, plan_nodes_at, targets_of, uppers_of}
+use Rattle.topology.specs.Document.{DocumentNode, LinkKind, NamedRegion, first_link, graph_of, inputs_of, is_manager, is_memory, joins_links, link_kind_of, named, names_of, node_at, plan_links_at, plan_nodes_at, targets_of, uppers_of}
 use Rattle.topology.specs.declared.kind.Kind.{Kind}
 use Rattle.topology.specs.declared.kind.Kind.TheVariants.{Memory, LiteMemory, Slice, Mux, Crossbar, Up, Down, Lite}
 use Rattle.topology.specs.declared.kind.Span.{Span}
@@ -80,7 +80,7 @@ module _ (nodes : List DocumentNode) (place : ℕ) where
 
   -- it joins links, and the IDs below it have over 16 bits
   abbrev pub has_id_overflow : Bool
-  has_id_overflow = joins_links node.kind && nat_lt 16 (link_of nodes place).id_width
+  has_id_overflow = joins_links node.kind && nat_lt 16 (link_kind_of nodes place).id_width
 
   -- It leads to AXI4-Lite from a bus that AXI4-Lite doesn't have, it speaks AXI4-Lite and its input doesn't, or it speaks
   -- AXI4 and an input doesn't.
@@ -111,17 +111,17 @@ checks =
 
 -- The first cause that holds of a node, with the first node that it holds of. A cause is asked for only where none of the
 -- earlier ones holds of any node.
-abbrev pub or_else : Cause → Option ℕ → Option (Cause × ℕ) → Option (Cause × ℕ)
-or_else cause None later = later
-or_else cause (Some place) later = Some (cause, place)
+abbrev pub or_cause : Cause → Option ℕ → Option (Cause × ℕ) → Option (Cause × ℕ)
+or_cause cause None later = later
+or_cause cause (Some place) later = Some (cause, place)
 
-abbrev pub first_fault : List DocumentNode → List (Cause × (List DocumentNode → ℕ → Bool)) → Option (Cause × ℕ)
-first_fault nodes [] = None
-first_fault nodes (check ∷ more) = or_else check.0 (find (check.1 nodes) (numbers (length nodes))) (first_fault nodes more)
+abbrev pub first_cause : List DocumentNode → List (Cause × (List DocumentNode → ℕ → Bool)) → Option (Cause × ℕ)
+first_cause nodes [] = None
+first_cause nodes (check ∷ more) = or_cause check.0 (find (check.1 nodes) (numbers (length nodes))) (first_cause nodes more)
 
 -- why a list of nodes is refused, and at which node, counted from 0
 abbrev pub fault_of : List DocumentNode → Option (Cause × ℕ)
-fault_of nodes = first_fault nodes checks
+fault_of nodes = first_cause nodes checks
 
 abbrev pub IsAccepted : List DocumentNode → Type 0
 IsAccepted nodes = fault_of nodes ≡ None

@@ -94,10 +94,10 @@ is_name (first ∷ more) = is_small_letter first && nat_le (length more) 31 && l
 
 -- What stands at a key, where it may stand so: nothing may where the kind doesn't have the key, and something must where
 -- the kind requires it.
-abbrev pub standing : Presence → Option Data → Option (Option Data)
-standing Never (Some value) = None
-standing Required None = None
-standing presence value = Some value
+abbrev pub permitted : Presence → Option Data → Option (Option Data)
+permitted Never (Some value) = None
+permitted Required None = None
+permitted presence value = Some value
 
 -- The least and the greatest number that may stand at a key, and its default. The default of a key that the kind doesn't
 -- have is 0.
@@ -111,18 +111,18 @@ number_of presence limits (Some value) = natural_within limits.least limits.most
 
 unfoldable pub number_at : List ℕ → Presence → Limits → Members → Option ℕ
 number_at key presence limits members = do
-  value ← standing presence (get_member key members)
+  value ← permitted presence (get_member key members)
   number_of presence limits value
 
 -- a text, which is empty where none stands there
-abbrev pub text_of : Option Data → Option (List ℕ)
-text_of None = Some []
-text_of (Some value) = as_str value
+abbrev pub text_or_empty : Option Data → Option (List ℕ)
+text_or_empty None = Some []
+text_or_empty (Some value) = as_str value
 
 unfoldable pub text_at : List ℕ → Presence → Members → Option (List ℕ)
 text_at key presence members = do
-  value ← standing presence (get_member key members)
-  text_of value
+  value ← permitted presence (get_member key members)
+  text_or_empty value
 
 -- the elements of an array of so many at least and at most; none where no array stands there
 abbrev pub counted : ℕ → ℕ → List Data → Option (List Data)
@@ -137,7 +137,7 @@ list_of least most (Some value) = array_of least most value
 
 unfoldable pub list_at : List ℕ → Presence → ℕ → ℕ → Members → Option (List Data)
 list_at key presence least most members = do
-  value ← standing presence (get_member key members)
+  value ← permitted presence (get_member key members)
   list_of least most value
 
 -- ---- the elements of lists
@@ -192,8 +192,8 @@ pub record TableLists : Type 0 where
   pub accept : List Data
   pub give : List Data
 
-unfoldable pub lists_in : Form → Members → Option TableLists
-lists_in form members = do
+unfoldable pub table_lists : Form → Members → Option TableLists
+table_lists form members = do
   region ← list_at (codes "region") form.region 1 any_count members >>= all_read region_of
   read_only ← list_at (codes "read_only") form.read_only 0 any_count members >>= all_read range_of
   hole ← list_at (codes "hole") form.hole 0 any_count members >>= all_read range_of
@@ -217,7 +217,7 @@ row_in members = do
   name ← kept (is_name name_text) name_text
   to ← text_at (codes "to") (table_form kind).to members
   numbers ← numbers_in (table_form kind) members
-  lists ← lists_in (table_form kind) members
+  lists ← table_lists (table_form kind) members
   kept (has_keys_among node_keys members) (record { kind = kind; name = name; to = to; numbers = numbers; lists = lists })
 
 -- the delays of a node; where none are given, the default of a kind that has them is no delay

@@ -3,7 +3,7 @@ use Rattle.std.specs.Prelude.{◌≡◌, ◌&&◌, ℕ, List, Option, Vec, bytes
 use Rattle.std.specs.declared.alloc.Global.{Global}
 use Rattle.address_map.specs.declared.region.Region.{Region}
 use Rattle.node_graph.specs.Graph.{Graph, numbers}
-use Rattle.topology.specs.Document.{DocumentNode, LinkKind, NamedRegion, graph_of, is_manager, link_of, named}
+use Rattle.topology.specs.Document.{DocumentNode, LinkKind, NamedRegion, graph_of, is_manager, link_kind_of, named}
 use Rattle.topology.specs.Refused.{IsAccepted}
 
 -- the regions of a node, each with its target
@@ -22,5 +22,5 @@ region_lists vectors = map vec_items vectors
 pub record IsWired (nodes : List DocumentNode) (graph : Graph) (links : List LinkKind) (regions : List (List Region)) : Type 0 where
   pub accepted : IsAccepted nodes
   pub joined_so : graph ≡ graph_of nodes
-  pub links_are : links ≡ map (link_of nodes) (numbers (length nodes))
+  pub links_are : links ≡ map (link_kind_of nodes) (numbers (length nodes))
   pub regions_are : regions ≡ map (regions_of nodes) nodes

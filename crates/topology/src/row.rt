@@ -4,7 +4,7 @@ ghost use Rattle.std.specs.Prelude.{◌≡◌, ◌<◌, option_map};
 ghost use Rattle.std.specs.List.{list_all};
 ghost use Rattle.toml.specs.View.{table_view};
 ghost use Rattle.topology.specs.Seen.{lists_seen, row_seen};
-ghost use Rattle.topology.specs.Shape.{has_keys_among, is_name, is_name_code, is_small_letter, lists_in, node_keys, number_at, numbers_in, row_in};
+ghost use Rattle.topology.specs.Shape.{has_keys_among, is_name, is_name_code, is_small_letter, table_lists, node_keys, number_at, numbers_in, row_in};
 
 use crate::element::{all_delays, all_ranges, all_regions};
 use crate::form::{Form, Presence, kind_named};
@@ -85,7 +85,7 @@ pub(crate) fn row_in(table: &Table) -> Option<TextRow<'_>>
     let form = Form::of(kind);
     let to = text_at(table, "to", form.to)?;
     let numbers = numbers_in(table, &form)?;
-    let lists = lists_in(table, &form)?;
+    let lists = table_lists(table, &form)?;
     if !has_node_keys(table) {
         return None;
     }
@@ -153,9 +153,9 @@ fn small_at(table: &Table, key: &str, presence: Presence, limits: Limits) -> Opt
 }
 
 // The lists of a table of this form.
-#[tactic(auto, unfolding(crate::specs::Shape::lists_in))]
-fn lists_in<'a>(table: &'a Table, form: &Form) -> Option<TextLists<'a>>
-    ensures { option_map lists_seen result ≡ lists_in form.now (table_view table.now) }
+#[tactic(auto, unfolding(crate::specs::Shape::table_lists))]
+fn table_lists<'a>(table: &'a Table, form: &Form) -> Option<TextLists<'a>>
+    ensures { option_map lists_seen result ≡ table_lists form.now (table_view table.now) }
 {
     const ANY: usize = usize::MAX;
     Some(TextLists {

@@ -6,7 +6,7 @@ ghost use Rattle.std.specs.Map.{keys_of};
 ghost use Rattle.std.specs.Str.{bytes_eq};
 ghost use Rattle.toml.specs.Data.{as_array, get_member};
 ghost use Rattle.toml.specs.View.{table_view, view};
-ghost use Rattle.topology.specs.Shape.{array_of, default_of, elements, has_keys_among, list_at, natural, natural_within, number_at, standing, text_at};
+ghost use Rattle.topology.specs.Shape.{array_of, default_of, elements, has_keys_among, list_at, natural, natural_within, number_at, permitted, text_at};
 
 use crate::form::Presence;
 use toml::{Table, Value};
@@ -59,8 +59,8 @@ fn value_at<'a>(table: &'a Table, key: &str) -> Option<&'a Value>
 }
 
 // What stands at a key, where it may stand so: `Some(None)` is a key that is rightly left out.
-fn standing<'a>(table: &'a Table, key: &str, presence: Presence) -> Option<Option<&'a Value>>
-    ensures { option_map (option_map (λ value. view value.now)) result ≡ standing presence (get_member key.now (table_view table.now)) }
+fn permitted<'a>(table: &'a Table, key: &str, presence: Presence) -> Option<Option<&'a Value>>
+    ensures { option_map (option_map (λ value. view value.now)) result ≡ permitted presence (get_member key.now (table_view table.now)) }
 {
     match value_at(table, key) {
         Some(value) => match presence {
@@ -91,7 +91,7 @@ pub(crate) fn number_at(table: &Table, key: &str, presence: Presence, limits: Li
     ensures value { result ≡ number_at key.now presence limits (table_view table.now) }
     ensures most { IfSome result (λ number. number ≤ max limits.most limits.default) }
 {
-    match standing(table, key, presence)? {
+    match permitted(table, key, presence)? {
         Some(value) => natural_within(value, limits.least, limits.most),
         None => Some(default_of(presence, limits)),
     }
@@ -102,7 +102,7 @@ pub(crate) fn number_at(table: &Table, key: &str, presence: Presence, limits: Li
 pub(crate) fn text_at<'a>(table: &'a Table, key: &str, presence: Presence) -> Option<&'a str>
     ensures { option_copied result ≡ text_at key.now presence (table_view table.now) }
 {
-    match standing(table, key, presence)? {
+    match permitted(table, key, presence)? {
         Some(value) => value.as_str(),
         None => Some(""),
     }
@@ -120,7 +120,7 @@ pub(crate) fn list_at<'a>(
 ) -> Option<&'a [Value]>
     ensures { option_map (λ values. map view values.now) result ≡ list_at key.now presence least most (table_view table.now) }
 {
-    match standing(table, key, presence)? {
+    match permitted(table, key, presence)? {
         Some(value) => array_of(value, least, most),
         None => Some(&[]),
     }

@@ -1,7 +1,7 @@
 //! The nodes of an accepted document, by their numbers from 0. A clause sees a wiring as their list.
 
 ghost use Rattle.std.specs.Prelude.{◌≡◌, ◌<◌, ◌≤◌, Some, length, map, slice_get, string_bytes};
-ghost use Rattle.topology.specs.Document.{DocumentNode, link_of, node_at, targets_of, uppers_of};
+ghost use Rattle.topology.specs.Document.{DocumentNode, link_kind_of, node_at, targets_of, uppers_of};
 ghost use Rattle.topology.specs.Node.{nodes_seen, regions_seen};
 ghost use Rattle.topology.specs.Refused.{IsAccepted};
 ghost use Rattle.topology.specs.Wiring.{IsWired, manager_named, region_lists, regions_of};
@@ -189,7 +189,7 @@ impl Wiring {
     /// What each link below a node is.
     pub fn link(&self, node: u32) -> LinkKind
         requires { node < length self.now }
-        ensures { result ≡ link_of self.now node }
+        ensures { result ≡ link_kind_of self.now node }
     {
         self.links[node as usize]
     }

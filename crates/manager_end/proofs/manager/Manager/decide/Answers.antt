@@ -5,7 +5,7 @@ use Rattle.axi_link.specs.LinkView.{LinkView}
 use Rattle.axi_link.specs.declared.out.Out.{Out}
 use Rattle.manager_end.specs.Beats.{data_beat, item_request}
 use Rattle.manager_end.specs.ManagerInside.{IsWithin, manager_state, sent_after}
-use Rattle.manager_end.specs.ManagerState.{ManagerState, IsManager, writes_of}
+use Rattle.manager_end.specs.ManagerState.{ManagerState, IsManager, script_writes}
 use Rattle.manager_end.specs.ManagerTable.{answering, ending, left_waiting, with_issued, manager_aw, manager_w, manager_ar, manager_b, manager_r, manager_r_last, manager_next, manager_out, manager_table, more, note_write, note_read, note_issue}
 use Rattle.manager_end.specs.Placed.{placed}
 use Rattle.manager_end.specs.Script.{ScriptItem}
@@ -147,7 +147,7 @@ invariant_of-self c = record {
   read_places = ap (λ direction. direction.places.items) c.issue-2.ensures.direction ∙ ap (λ direction. direction.places.items) c.take_data-got.ensures.reads ∙ c.self.invariant.read_places;
   sending =
       let w = w-is c.args.links.now (manager_state c.self.inside) c.link_at-link.result.now c.self.inside.writes.places.items c.room_w.result c.next_data-data.result c.self.invariant.write_places c.link_at-link.ensures c.room_w.ensures c.next_data-data.ensures
-      in subst (λ (sending : Sending). IfSome (slice_get (writes_of c.self.inside.script) sending.writes) (λ (next : ℕ × ScriptItem). IsWithin sending next.1)) (sym (c.step.ensures ∙ ap (λ next. sent_after next c.self.inside.sending) w)) (sending-next c.self.inside.script c.self.inside.sending (manager_w c.args.links.now (manager_state c.self.inside)) (w-next c.args.links.now (manager_state c.self.inside)) c.self.invariant.sending);
+      in subst (λ (sending : Sending). IfSome (slice_get (script_writes c.self.inside.script) sending.writes) (λ (next : ℕ × ScriptItem). IsWithin sending next.1)) (sym (c.step.ensures ∙ ap (λ next. sent_after next c.self.inside.sending) w)) (sending-next c.self.inside.script c.self.inside.sending (manager_w c.args.links.now (manager_state c.self.inside)) (w-next c.args.links.now (manager_state c.self.inside)) c.self.invariant.sending);
   above = record { aw_take = c.self.invariant.above.aw_take; w_take = c.self.invariant.above.w_take; b_put = c.self.invariant.above.b_put; ar_take = c.self.invariant.above.ar_take; r_put = c.self.invariant.above.r_put };
 }
 

@@ -8,12 +8,12 @@ use Rattle.axi_beats.specs.declared.beat.WBeat.{WBeat}
 use Rattle.node_core.specs.Acted.{Acted}
 use Rattle.axi_link.specs.LinkView.{LinkView}
 use Rattle.axi_link.specs.LinkWords.{head_of}
-use Rattle.node_core.specs.Rows.{beat_where, put_of, take_of}
+use Rattle.node_core.specs.Rows.{beat_where, fits, put_of, take_of}
 use Rattle.axi_link.specs.declared.out.Out.{Out}
 use Rattle.memory_end.specs.declared.entry.WriteEntry.{WriteEntry}
 use Rattle.memory_end.specs.MemoryInside.{memory_state}
 use Rattle.memory_end.specs.MemoryState.{IsMemory, IsWriteEntry, MemoryState}
-use Rattle.memory_end.specs.MemoryTable.{CanMemory, after_aw, after_ar, after_b, after_r, after_w, fits, memory_aw, memory_ar, memory_b, memory_link, memory_next, memory_out, memory_r, memory_table, memory_w, oldest_lacking, put_read, put_response, store_after, taken_data}
+use Rattle.memory_end.specs.MemoryTable.{CanMemory, after_aw, after_ar, after_b, after_r, after_w, memory_aw, memory_ar, memory_b, memory_link, memory_next, memory_out, memory_r, memory_table, memory_w, oldest_lacking, put_read, put_response, store_after, taken_data}
 use Rattle.memory_end.proofs.MemoryLemmas.{fits-not_full, lt-not_full, length-after_b, length-after_w, oldest_lacking-after_b, out-is, state_with, state_with-same, store_after-same}
 use Rattle.memory_end.proofs.StayLemmas.{after_b-stays, memory-stays}
 use Rattle.memory_end.proofs.memory.Memory.decide.Goals as goal

@@ -10,7 +10,7 @@ use Rattle.net_nodes.specs.declared.node.Node.{Node}
 use Rattle.net_rounds.proofs.NetLemmas.{net-can-commit}
 use Rattle.net_rounds.specs.NetInside.{net_view}
 use Rattle.net_rounds.specs.NetView.{IsNet, NetView}
-use Rattle.net_rounds.specs.Network.{CanLink, ends_of, out_of}
+use Rattle.net_rounds.specs.Network.{CanLink, ends_of, moves_of}
 use Rattle.net_rounds.specs.Ports.{link_kind, port_at}
 use Rattle.net_rounds.specs.declared.ends.Ends.{Ends}
 use Rattle.net_rounds.specs.declared.net.Net.TheInside.{Inside}
@@ -39,7 +39,7 @@ ends-are : (ends : List Ends) (number : ℕ) (e : Ends) → number < length ends
 ends-are ends number e known is = get_or_default ends number (record { upper = 0; lower = 0 }) e known ∙ sym is
 
 -- the moves of a node
-moves-of : (nodes : List Node) (number : ℕ) (node : Node) → number < length nodes → node ≡ get_or nodes number node → out_of nodes number ≡ node_out node
+moves-of : (nodes : List Node) (number : ℕ) (node : Node) → number < length nodes → node ≡ get_or nodes number node → moves_of nodes number ≡ node_out node
 moves-of nodes number node known is = ap (λ (o : Option Node). option_map_or node_out o no_moves) (slice_get-get_or nodes number node known) ∙ ap node_out (sym is)
 
 link-is : (links : List LinkView) (number : ℕ) (link : LinkView) → number < length links → link ≡ get_or links number link → link_of links number ≡ link
@@ -81,14 +81,14 @@ returns c =
     let ask : Ask inside c.args.self.now number = record { is_net = c.self.invariant; same = c.self.view_is; begun = c.requires.decided; known = c.requires.known } in
     let e = c.index.result.now in
     let same = same-ends inside c.args.self.now number ask e c.index.ensures in
-    let above : out_of inside.nodes.items (ends_of inside.ends.items number).upper ≡ c.out-above.result.now =
-    ap (λ (e : Ends). out_of inside.nodes.items e.upper) same ∙ moves-of inside.nodes.items e.upper c.index-2.result.now (upper-within inside c.args.self.now number ask e c.index.ensures) c.index-2.ensures ∙ sym c.out-above.ensures in
-    let below : out_of inside.nodes.items (ends_of inside.ends.items number).lower ≡ c.out-below.result.now =
-    ap (λ (e : Ends). out_of inside.nodes.items e.lower) same ∙ moves-of inside.nodes.items e.lower c.index-3.result.now (lower-within inside c.args.self.now number ask e c.index.ensures) c.index-3.ensures ∙ sym c.out-below.ensures in
+    let above : moves_of inside.nodes.items (ends_of inside.ends.items number).upper ≡ c.out-above.result.now =
+    ap (λ (e : Ends). moves_of inside.nodes.items e.upper) same ∙ moves-of inside.nodes.items e.upper c.index-2.result.now (upper-within inside c.args.self.now number ask e c.index.ensures) c.index-2.ensures ∙ sym c.out-above.ensures in
+    let below : moves_of inside.nodes.items (ends_of inside.ends.items number).lower ≡ c.out-below.result.now =
+    ap (λ (e : Ends). moves_of inside.nodes.items e.lower) same ∙ moves-of inside.nodes.items e.lower c.index-3.result.now (lower-within inside c.args.self.now number ask e c.index.ensures) c.index-3.ensures ∙ sym c.out-below.ensures in
     let known : number < length inside.links.items = subst (λ (v : NetView). number < length v.network.links) (sym c.self.view_is) c.requires.known in
     let link = link-is inside.links.items number c.index-4.result.now known c.index-4.ensures in
     c.port_of.ensures
     ∙ ap (λ (o : Out). port_of (inside.rounds + 1) number link_kind c.index-4.result.now o c.out-below.result.now) (sym above)
-    ∙ ap (λ (o : Out). port_of (inside.rounds + 1) number link_kind c.index-4.result.now (out_of inside.nodes.items (ends_of inside.ends.items number).upper) o) (sym below)
-    ∙ ap (λ (l : LinkView). port_of (inside.rounds + 1) number link_kind l (out_of inside.nodes.items (ends_of inside.ends.items number).upper) (out_of inside.nodes.items (ends_of inside.ends.items number).lower)) (sym link)
+    ∙ ap (λ (o : Out). port_of (inside.rounds + 1) number link_kind c.index-4.result.now (moves_of inside.nodes.items (ends_of inside.ends.items number).upper) o) (sym below)
+    ∙ ap (λ (l : LinkView). port_of (inside.rounds + 1) number link_kind l (moves_of inside.nodes.items (ends_of inside.ends.items number).upper) (moves_of inside.nodes.items (ends_of inside.ends.items number).lower)) (sym link)
     ∙ ap (λ (v : NetView). port_at (v.rounds + 1) v.network number) c.self.view_is
