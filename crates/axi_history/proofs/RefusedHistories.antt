@@ -25,8 +25,8 @@ reads-in-order = record { manager = refl; id = refl; direction = refl; number = 
 
 pub not_delivered : UndeliveredHistories
 not_delivered = record {
-  written_three_times = λ d. let p = d.in_burst_order 0 fixed_write (omega arith) in let l : 2 ≡ suc (suc (suc (length p.0))) = ap length p.1 in absurd (omega (arith, l));
-  swapped = λ d. let p = d.in_burst_order 2 other_read (omega arith) in let l : 16 ≡ 17 = ap first_address p.1 in no refl l;
+  written_three_times = λ d. let p = d.in_burst_order 0 fixed_write (omega arith) in let l : 2 ≡ suc (suc (suc (length p.rest))) = ap length p.whole in absurd (omega (arith, l));
+  swapped = λ d. let p = d.in_burst_order 2 other_read (omega arith) in let l : 16 ≡ 17 = ap first_address p.whole in no refl l;
   misrouted = λ d. any-of (λ (t : Transaction). (t.number ≡ 3) × (t.write ≡ false) × (t.target ≡ 2)) ⊥ five_transactions
       (five (λ h. no refl h.0) (λ h. no refl h.0) (λ h. no refl h.2) (λ h. no refl h.0) (λ h. no refl h.0)) (d.belongs 3 (byte_read 3 4 2 17 4) (omega arith));
   of_nobody = λ d. any-of (λ (t : Transaction). (t.number ≡ 9) × (t.write ≡ false) × (t.target ≡ 3)) ⊥ five_transactions
@@ -34,7 +34,7 @@ not_delivered = record {
   byte_missing = λ d. let l : 1 ≡ 2 = ap length (d.whole 2 other_read (omega arith) (2, answer 3 6 Okay (4 ∷ 4 ∷ []), omega arith, refl, refl)) in no refl l;
   stale = λ d. let l : 7 ≡ 8 = d.reads_latest 1 read_over_the_end (omega arith) (byte_written 1 3 2 16 7 ∷ byte_written 1 4 2 16 8 ∷ byte_read 3 4 3 16 4 ∷ byte_read 3 4 3 17 4 ∷ []) (byte_read 4 9 2 16 8 ∷ []) (byte_read 2 8 2 16 7) refl refl refl in no refl l;
   seen_elsewhere = λ d. let l : 8 ≡ 4 = d.reads_latest 2 other_read (omega arith) (byte_written 1 3 2 16 7 ∷ byte_written 1 4 2 16 8 ∷ []) (byte_read 3 4 3 17 4 ∷ byte_read 2 8 2 16 8 ∷ byte_read 4 9 2 16 8 ∷ []) (byte_read 3 4 3 16 8) refl refl refl in no refl l;
-  accessed_outside = λ d. let p = d.in_burst_order 1 read_over_the_end (omega arith) in let l : 1 ≡ suc (suc (length p.0)) = ap length p.1 in absurd (omega (arith, l));
+  accessed_outside = λ d. let p = d.in_burst_order 1 read_over_the_end (omega arith) in let l : 1 ≡ suc (suc (length p.rest)) = ap length p.whole in absurd (omega (arith, l));
 }
 
 pub not_answered : UnansweredHistories
