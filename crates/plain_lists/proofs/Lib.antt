@@ -1,3 +1,4 @@
+pub mod CutLemmas
 pub mod KeyLemmas
 pub mod NumberedLemmas
 pub mod PartLemmas
@@ -5,3 +6,4 @@ pub mod PlaceLemmas
 pub mod PrefixLemmas
 pub mod RangeLemmas
 pub mod RoundLemmas
+pub mod SelectedLemmas
