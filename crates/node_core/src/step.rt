@@ -7,8 +7,8 @@ ghost use Rattle.node_core.specs.Fits.{MovesFit};
 
 use axi_link::{Link, Out};
 
-/// A node of a network. Its kind is its decision table: each member and each law below is what an
-/// implementation has to give.
+/// A node of a network. Its kind is its decision table: each member below is what an implementation has
+/// to give, and each clause of [`decide`](Step::decide) a law that it has to prove.
 pub trait Step {
     // When it may decide: the round's number and the links as they stand as the round begins.
     ghost can: { ℕ → List LinkView → Self → Type 0 };
@@ -23,18 +23,15 @@ pub trait Step {
     ghost fact: { Self → Type 0 };
 
     /// Phase one of round `round`, counted from 1: looks at the links as they stand, changes the node's
-    /// own state and sets its own moves, by the table of its kind.
+    /// own state and sets its own moves, by the table of its kind. Each take has its head and each put
+    /// its room, and what holds of the node between rounds holds again.
     fn decide(&mut self, round: u64, links: &[Link])
         requires { can round links.now self.old }
-        ensures { self.new ≡ table round links.now self.old };
+        ensures table { self.new ≡ table round links.now self.old }
+        ensures fit { MovesFit links.now (moves self.new) }
+        ensures fact { fact self.new };
 
     /// The moves that the node chose when it decided last; none before the first round.
     fn out(&self) -> &Out
         ensures { result.now ≡ moves self.now };
-
-    // Each take has its head and each put its room.
-    ghost fit: { (round : ℕ) (links : List LinkView) (node : Self) → MovesFit links (moves (table round links node)) };
-
-    // What holds of the node is kept.
-    ghost stays: { (round : ℕ) (links : List LinkView) (node : Self) → fact node → can round links node → fact (table round links node) };
 }
