@@ -9,6 +9,7 @@
 mod beat;
 mod core_laws;
 mod pace;
+mod paces;
 mod row;
 mod step;
 #[cfg(test)]
@@ -18,6 +19,7 @@ mod turn;
 pub use beat::Beat;
 pub use core_laws::laws;
 pub use pace::Pace;
+pub use paces::{EachRow, Paces};
 pub use row::{link_at, open_put, passed, set_put, set_take};
 pub use step::Step;
 pub use turn::Turn;
