@@ -6,9 +6,9 @@ use Rattle.std.proofs.lemmas.List.Elements.{All-cons, All-nil}
 use Rattle.axi_beats.specs.declared.beat.Addr.{Addr}
 use Rattle.axi_beats.specs.declared.beat.RBeat.{RBeat}
 use Rattle.axi_beats.specs.declared.response.Resp.TheVariants.{Okay}
-use Rattle.axi_trail.specs.Example.{read_address, write_address, first_read_data, last_read_data, write_data_beat, write_response, no_share, read_share, write_share, example_schedule, example_progress, example_upper, example_lower, ExampleKeepsContracts}
+use Rattle.axi_trail.specs.Example.{read_address, write_address, first_read_data, last_read_data, write_data_beat, write_response, read_share, write_share, example_schedule, example_progress, example_upper, example_lower, ExampleKeepsContracts}
 use Rattle.axi_trail.specs.LinkContracts.{Asks, Answers, Requests, WholeBeforeTheNext, without_id}
-use Rattle.axi_trail.specs.Schedule.{Share, bytes_on}
+use Rattle.axi_trail.specs.Schedule.{Share, bytes_on, no_share}
 use Rattle.axi_trail.specs.Words.{Asked, Reply, marks, write_asked, burst_asked, write_reply, read_reply, mark_of_data, mark_of_reply, id_of_asked, id_of_reply, number_of_address, number_of_data, number_of_response, number_of_read_data}
 use Rattle.plain_lists.specs.Keys.{of_key}
 use Rattle.plain_lists.specs.Prefixes.{IsPrefix}

@@ -2,12 +2,15 @@ pub mod DataFacts
 pub mod ExampleFacts
 pub mod FilterFacts
 pub mod HeldFacts
+pub mod IdFacts
 pub mod InductionFacts
 pub mod MarkFacts
 pub mod OrderFacts
 pub mod PlaceFacts
+pub mod SelectionFacts
 pub mod SlackFacts
 pub mod StepFacts
 pub mod StreamFacts
 pub mod TrailFacts
 pub mod WaitingFacts
+pub mod WholeFacts

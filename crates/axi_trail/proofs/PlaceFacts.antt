@@ -17,7 +17,7 @@ use Rattle.plain_lists.specs.Prefixes.{IsPrefix}
 use Rattle.plain_lists.proofs.KeyLemmas.{of_key-of_key, of_key-append, of_key-cons, of_key-skip, of_key-push, length-by_counts, count_of-append, count_of-replicate, count_of-replicate_other, place_in}
 
 -- how many beats of a transaction are among the first marks: all of its requests before one, and so many of it
-own_up_to : (t done : ℕ) (front : List Asked) (a : Asked) (rest : List Asked) (ms : List Mark) → IsPrefix ms (marks (front ++ a ∷ rest)) → length ms ≡ beats_due front + done → done ≤ a.len → a.number ≡ t →
+pub own_up_to : (t done : ℕ) (front : List Asked) (a : Asked) (rest : List Asked) (ms : List Mark) → IsPrefix ms (marks (front ++ a ∷ rest)) → length ms ≡ beats_due front + done → done ≤ a.len → a.number ≡ t →
     length (of_key number_of_mark t ms) ≡ beats_due (of_key number_of_asked t front) + done
 own_up_to t done front a rest ms p counted le e =
     let whole : ms ≡ marks front ++ take done (marks_of a ++ marks rest) =

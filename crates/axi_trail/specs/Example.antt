@@ -7,7 +7,7 @@ use Rattle.axi_beats.specs.declared.beat.BBeat.{BBeat}
 use Rattle.axi_beats.specs.declared.beat.RBeat.{RBeat}
 use Rattle.axi_beats.specs.declared.response.Resp.TheVariants.{Okay}
 use Rattle.axi_trail.specs.LinkContracts.{Asks, Answers}
-use Rattle.axi_trail.specs.Schedule.{Share, Schedule, Progress}
+use Rattle.axi_trail.specs.Schedule.{Share, Schedule, Progress, no_share}
 use Rattle.axi_trail.specs.Trail.{Beats, IsBehind}
 
 -- transaction 7 reads 8 bytes at 0x1000 with ID 3, in two beats
@@ -31,9 +31,6 @@ abbrev pub write_response : BBeat
 write_response = record { id = 2; resp = Okay; tag = record { txn = 8; low = 0; high = 0 } }
 
 -- what the link has to carry: chains begin with the manager's number, the ID, and 0 for a write or 1 for a read
-abbrev pub no_share : Share
-no_share = record { parts = []; write_data = []; lanes = []; responses = []; chain = [] }
-
 abbrev pub read_share : Share
 read_share = record {
   parts = record read_address { id = 0 } ∷ [];

@@ -1,8 +1,11 @@
 pub mod ContractLaws
+pub mod DataLaws
 pub mod Example
+pub mod IdLaws
 pub mod LinkContracts
 pub mod NetworkLaws
 pub mod Schedule
+pub mod SelectionLaws
 pub mod Trail
 pub mod TrailLaws
 pub mod Waiting

@@ -20,6 +20,10 @@ pub record Share : Type 0 where
   -- its chain: who issued it, with which ID and in which direction, and by which links it came here
   pub chain : List ℕ
 
+-- a transaction that doesn't come by
+abbrev pub no_share : Share
+no_share = record { parts = []; write_data = []; lanes = []; responses = []; chain = [] }
+
 -- one link: the width of its IDs in bits, and the shares of each transaction, by number
 pub record Schedule : Type 0 where
   pub id_width : ℕ

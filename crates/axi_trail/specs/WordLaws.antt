@@ -1,9 +1,9 @@
 -- What holds of requests, their write data and their answers, whatever a node does. Laws of lists of any type are
 -- stated here for lists of one type, such as numbers or addresses.
-use Rattle.std.specs.Prelude.{◌≡◌, ℕ, Bool, true, suc, ◌≤◌, ◌++◌, ◌∷◌, [], List, Contains, length, map, take, drop, flat_map}
+use Rattle.std.specs.Prelude.{◌≡◌, ℕ, Bool, true, suc, ◌+◌, ◌≤◌, ◌++◌, ◌∷◌, [], List, Contains, length, map, take, drop, flat_map}
 use Rattle.axi_beats.specs.declared.beat.Addr.{Addr}
 use Rattle.axi_trail.specs.Waiting.{Waiting, fresh, waiting_request, waiting_shown, beats_by, pending, complete, advanced, answered_once, held}
-use Rattle.axi_trail.specs.Words.{Mark, Asked, Reply, IsAnswered, InOrderOfId, EndsAtLast, owed_marks, next_mark, next_reply, held_asked, pending_asked, marks, marks_of, completed, number_of_mark, number_of_asked, number_of_reply, number_of_waiting, id_of_waiting, id_of_asked, len_of_asked}
+use Rattle.axi_trail.specs.Words.{Mark, Asked, Reply, IsAnswered, InOrderOfId, EndsAtLast, owed_marks, next_mark, next_reply, held_asked, pending_asked, beats_due, marks, marks_of, completed, number_of_mark, number_of_asked, number_of_reply, number_of_waiting, id_of_waiting, id_of_asked, len_of_asked}
 use Rattle.plain_lists.specs.Keys.{of_key, count_of, left_after, selected}
 use Rattle.plain_lists.specs.Prefixes.{IsPrefix, Agree}
 
@@ -87,6 +87,15 @@ abbrev pub BeatKeepsOrder : Type 0
 BeatKeepsOrder =
     (asked : List Asked) (passed : List Mark) (w : Waiting Asked) (others : List (Waiting Asked)) → IsPrefix passed (marks asked) →
     pending_asked (length passed) asked ≡ w ∷ others → IsPrefix (passed ++ next_mark w ∷ []) (marks asked)
+
+-- The first pending request stands behind complete ones, and of those behind it no beat has passed. Its next beat is the
+-- next one of its transaction, too.
+abbrev pub FirstPendingIsNextOfItsOwn : Type 0
+FirstPendingIsNextOfItsOwn =
+    (asked : List Asked) (passed : List Mark) (w : Waiting Asked) (others : List (Waiting Asked)) → IsPrefix passed (marks asked) →
+    pending_asked (length passed) asked ≡ w ∷ others →
+    (before : List Asked) × (after : List Asked) × (asked ≡ before ++ w.request ∷ after) × (others ≡ map fresh after) × (length passed ≡ beats_due before + w.done)
+    × (length (of_key number_of_mark w.request.number passed) ≡ beats_due (of_key number_of_asked w.request.number before) + w.done)
 
 -- Requests that lack answers, where the answers of each ID come in order of its requests.
 

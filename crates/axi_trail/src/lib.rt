@@ -8,11 +8,17 @@
 #![tactic(auto)]
 
 mod contract_laws;
+mod data_laws;
+mod id_laws;
 mod network_laws;
+mod selection_laws;
 mod trail_laws;
 mod word_laws;
 
 pub use contract_laws::{example_of_contracts, laws_of_contracts};
+pub use data_laws::laws_of_data;
+pub use id_laws::laws_of_ids;
 pub use network_laws::law_of_rounds;
+pub use selection_laws::laws_of_selections;
 pub use trail_laws::laws_of_trails;
 pub use word_laws::{laws_of_held, laws_of_marks, laws_of_pending};

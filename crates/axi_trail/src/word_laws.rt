@@ -1,7 +1,7 @@
 //! What holds of requests, their write data and their answers, whatever a node does.
 
 ghost use Rattle.axi_trail.specs.WordLaws.{OneMoreBurst, BeginningOfMarks, MarksOfSelected, BurstsEndAtLast};
-ghost use Rattle.axi_trail.specs.WordLaws.{BeatOfFirstPending, RequestIsPending, PendingAreLast, NonePending, PendingOweTheRest, PendingOfSelected, PendingOfShown, CompletedAreComplete, NextBeat, NextBeatOfSelected, BeatKeepsOrder};
+ghost use Rattle.axi_trail.specs.WordLaws.{BeatOfFirstPending, RequestIsPending, PendingAreLast, NonePending, PendingOweTheRest, PendingOfSelected, PendingOfShown, CompletedAreComplete, NextBeat, NextBeatOfSelected, BeatKeepsOrder, FirstPendingIsNextOfItsOwn};
 ghost use Rattle.axi_trail.specs.WordLaws.{AnswerOfOldestHeld, RequestIsHeld, HeldOfId, HeldOfSingles, HeldOfShown, HeldOfSelected, LaterRequestsAreHeld, NextAnswer, AnswerKeepsOrder, UnansweredIsHeld, NoneHeldIsAnswered};
 
 /// The laws of the marks of bursts. The mark of a beat is the number of its transaction, and whether
@@ -31,6 +31,7 @@ pub fn laws_of_pending()
     // Which beat is the next.
     ensures next { NextBeat }
     ensures next_of_selected { NextBeatOfSelected }
+    ensures next_of_its_own { FirstPendingIsNextOfItsOwn }
     ensures keeps { BeatKeepsOrder }
 {}
 
