@@ -23,7 +23,7 @@ use Rattle.axi_trail.specs.Words.{Asked, Reply, InOrderOfId, completed, mark_of_
 use Rattle.axi_trail.proofs.SlackFacts.{asked_through_link}
 use Rattle.axi_trail.proofs.TrailFacts.{links_are_queues}
 use Rattle.burst_address.specs.Legal.{IsLegal}
-use Rattle.link_ports.specs.LegalSchedule.{IsLegalSchedule}
+use Rattle.node_shape.specs.LegalSchedule.{IsLegalSchedule}
 use Rattle.link_ports.specs.PortLaws.{IsOffered, IsOfferedAgain, HasTransferred, HasOffered, WriteDataIsLegal, WriteAddressesAreLegal, WriteResponsesAreLegal, ReadAddressesAreLegal, ReadDataIsLegal}
 use Rattle.link_ports.specs.PortView.{seen_address, seen_itself, seen_response, seen_read_beat, channel_seen, port_round, port_history}
 use Rattle.link_ports.proofs.AddressFacts.{legal_kept, last_is_legal, never_exokay}

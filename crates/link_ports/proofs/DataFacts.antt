@@ -13,7 +13,7 @@ use Rattle.axi_trail.specs.LinkContracts.{without_id}
 use Rattle.axi_trail.specs.Schedule.{Share}
 use Rattle.axi_trail.specs.Words.{marks, burst_asked, burst_marks, mark_of_data, number_of_data, number_of_address}
 use Rattle.axi_trail.proofs.FilterFacts.{length-burst_marks}
-use Rattle.link_ports.specs.LegalSchedule.{IsDataOf}
+use Rattle.node_shape.specs.LegalSchedule.{IsDataOf}
 use Rattle.link_ports.specs.PortView.{seen_address}
 use Rattle.link_ports.proofs.AddressFacts.{seen_is_asked}
 use Rattle.link_ports.proofs.BurstFacts.{FirstBurst, first_burst, lasts_due, own_data, others_data}

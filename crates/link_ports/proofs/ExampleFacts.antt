@@ -14,7 +14,7 @@ use Rattle.axi_trail.specs.Words.{Asked, Reply, burst_asked}
 use Rattle.axi_trail.proofs.SlackFacts.{asking_goes_down, answering_goes_up}
 use Rattle.burst_address.specs.Legal.{IsLegal}
 use Rattle.link_ports.specs.Example.{ExamplePort, HastyPort, manager_moves, memory_moves, links_between, PortExampleKeepsContracts}
-use Rattle.link_ports.specs.LegalSchedule.{IsDataOf, IsLegalSchedule}
+use Rattle.node_shape.specs.LegalSchedule.{IsDataOf, IsLegalSchedule}
 use Rattle.link_ports.proofs.ChannelFacts.{grows_itself}
 use Rattle.plain_lists.specs.Prefixes.{IsPrefix}
 use Rattle.plain_lists.specs.Rounds.{over}

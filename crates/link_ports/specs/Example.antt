@@ -10,7 +10,7 @@ use Rattle.axi_link.specs.declared.out.Out.{Out}
 use Rattle.axi_trail.specs.Example.{write_address, write_data_beat, write_response, example_schedule, example_progress}
 use Rattle.axi_trail.specs.LinkContracts.{Asks, Answers}
 use Rattle.axi_trail.specs.Trail.{IsLinkRun, trail_above, trail_below}
-use Rattle.link_ports.specs.LegalSchedule.{IsLegalSchedule}
+use Rattle.node_shape.specs.LegalSchedule.{IsLegalSchedule}
 use Rattle.link_ports.specs.PortView.{seen_address, seen_response, port_history}
 
 abbrev pub bus_of_four : PortKind

@@ -1,4 +1,3 @@
 pub mod Example
-pub mod LegalSchedule
 pub mod PortLaws
 pub mod PortView

@@ -11,7 +11,7 @@ use Rattle.axi_link.specs.declared.out.Out.{Out}
 use Rattle.axi_trail.specs.LinkContracts.{Asks, Answers}
 use Rattle.axi_trail.specs.Schedule.{Schedule, Progress}
 use Rattle.axi_trail.specs.Trail.{Beats, IsLinkRun, trail_above, trail_below, seen_above, seen_below}
-use Rattle.link_ports.specs.LegalSchedule.{IsLegalSchedule}
+use Rattle.node_shape.specs.LegalSchedule.{IsLegalSchedule}
 use Rattle.link_ports.specs.PortView.{seen_address, seen_itself, seen_response, seen_read_beat, port_round, port_history}
 
 -- Ports and trails.

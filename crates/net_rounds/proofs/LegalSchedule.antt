@@ -13,7 +13,7 @@ use Rattle.axi_trail.specs.Schedule.{Share}
 use Rattle.burst_address.specs.Bytes.{burst_bytes}
 use Rattle.burst_address.specs.Formulas.{beats_of}
 use Rattle.burst_address.specs.Legal.{IsLegal}
-use Rattle.link_ports.specs.LegalSchedule.{IsDataOf}
+use Rattle.node_shape.specs.LegalSchedule.{IsDataOf}
 use Rattle.burst_address.specs.Lanes.{last_lane, first_lane}
 use Rattle.manager_end.specs.Beats.{data_beat, data_beats, item_request}
 use Rattle.manager_end.specs.BurstLaws.{DataStrobesAreWithin, SendsItsBytes}

@@ -3,7 +3,7 @@ use Rattle.std.proofs.Common.{◌≡◌, ◌∷◌, [], ◌++◌, ℕ, zero, suc
 use Rattle.axi_history.specs.PortRules.{axi4_history_fault}
 use Rattle.axi_history.specs.declared.port.PortRound.{PortRound}
 use Rattle.link_ports.proofs.PortFacts.{links_are_legal}
-use Rattle.link_ports.specs.LegalSchedule.{IsLegalSchedule}
+use Rattle.node_shape.specs.LegalSchedule.{IsLegalSchedule}
 use Rattle.link_ports.specs.PortView.{port_history, port_of, port_round}
 use Rattle.manager_end.specs.Script.{ScriptItem}
 use Rattle.net_rounds.proofs.BuiltInSchedule.{links_at, lower_out, pair_at, schedule_of, progress_at, share_at, upper_out}

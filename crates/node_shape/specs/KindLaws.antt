@@ -6,7 +6,7 @@ use Rattle.axi_trail.specs.Schedule.{Progress, Schedule}
 use Rattle.axi_trail.specs.Trail.{seen_below}
 use Rattle.node_core.specs.Acted.{no_moves, opened}
 use Rattle.node_core.specs.Fits.{MovesFit}
-use Rattle.node_shape.specs.Kind.{AnsweredAt, Around, AskedAt, Kind, Passed, next_of, nothing_passed, out_of, passed_after}
+use Rattle.node_shape.specs.Kind.{AnsweredAt, Around, AskedAt, Kind, Passed, IsKnown, next_of, nothing_passed, out_of, passed_after}
 use Rattle.node_shape.specs.Quiet.{AreDeep, HoldsNothingBack, MovesOwn}
 
 module _ {S E : Type 0} (kind : Kind S E) where
@@ -52,27 +52,32 @@ module _ {S E : Type 0} (kind : Kind S E) where
   -- it may decide, where it was asked as it should be for all that it sees
   abbrev pub MayDecide : Type 0
   MayDecide =
-      (schedules : ℕ → Schedule) (now : Progress) (rounds : ℕ) (links : List LinkView) (s : S) (passed : Passed E) → kind.suits schedules s →
+      (schedules : ℕ → Schedule) (now : Progress) (rounds : ℕ) (links : List LinkView) (s : S) (passed : Passed E) → kind.fact s → kind.suits schedules s →
       All (λ link. link < length links) (kind.uppers s) → All (λ link. link < length links) (kind.lowers s) →
       AskedAt schedules now (λ link. seen_below (passed.uppers link) (link_of links link)) (kind.uppers s) → kind.can (suc rounds) links s
 
   -- it lasts: a round between links that ask and answer as they should keeps what the state has to do with what has passed
   abbrev pub Lasts : Type 0
   Lasts =
-      (schedules : ℕ → Schedule) (now : Progress) (rounds : ℕ) (links : List LinkView) (s : S) (passed : Passed E) → kind.keeps schedules rounds s passed → kind.can (suc rounds) links s →
-      Around kind schedules now (suc rounds) links s passed → kind.keeps schedules (suc rounds) (next_of kind (suc rounds) links s) (passed_after kind (suc rounds) links s passed)
+      (schedules : ℕ → Schedule) (now : Progress) (rounds : ℕ) (links : List LinkView) (s : S) (passed : Passed E) → kind.fact s →
+      kind.keeps schedules rounds s passed → kind.can (suc rounds) links s →
+      Around kind schedules now (suc rounds) links s passed →
+      kind.keeps schedules (suc rounds) (next_of kind (suc rounds) links s) (passed_after kind (suc rounds) links s passed)
 
   -- down: where it is asked as it should be above, it asks so below
   abbrev pub AsksBelow : Type 0
   AsksBelow =
-      (schedules : ℕ → Schedule) (now : Progress) (rounds : ℕ) (s : S) (passed : Passed E) → kind.keeps schedules rounds s passed → kind.tells schedules now s passed →
+      (schedules : ℕ → Schedule) (now : Progress) (rounds : ℕ) (s : S) (passed : Passed E) → kind.fact s → kind.keeps schedules rounds s passed →
+      IsKnown kind schedules now s passed →
       AskedAt schedules now passed.uppers (kind.uppers s) → AskedAt schedules now passed.lowers (kind.lowers s)
 
   -- up: where it is answered as it should be below, it answers so above
   abbrev pub AnswersAbove : Type 0
   AnswersAbove =
-      (schedules : ℕ → Schedule) (now : Progress) (rounds : ℕ) (s : S) (passed : Passed E) → kind.keeps schedules rounds s passed → kind.tells schedules now s passed →
-      AskedAt schedules now passed.uppers (kind.uppers s) → AskedAt schedules now passed.lowers (kind.lowers s) → AnsweredAt schedules now passed.lowers (kind.lowers s) →
+      (schedules : ℕ → Schedule) (now : Progress) (rounds : ℕ) (s : S) (passed : Passed E) → kind.fact s → kind.keeps schedules rounds s passed →
+      IsKnown kind schedules now s passed →
+      AskedAt schedules now passed.uppers (kind.uppers s) → AskedAt schedules now passed.lowers (kind.lowers s) →
+      AnsweredAt schedules now passed.lowers (kind.lowers s) →
       AnsweredAt schedules now passed.uppers (kind.uppers s)
 
   -- Progress. A row of an endpoint may wait, so one round without a move tells little: the links stay as they are for as
@@ -90,7 +95,8 @@ module _ {S E : Type 0} (kind : Kind S E) where
   -- a node that does nothing for as long as its patience holds nothing back
   abbrev pub IdleHoldsNothing : Type 0
   IdleHoldsNothing =
-      (schedules : ℕ → Schedule) (now : Progress) (rounds : ℕ) (links : List LinkView) (s : S) (passed : Passed E) → kind.keeps schedules rounds s passed →
+      (schedules : ℕ → Schedule) (now : Progress) (rounds : ℕ) (links : List LinkView) (s : S) (passed : Passed E) → kind.fact s →
+      kind.keeps schedules rounds s passed →
       Around kind schedules now (suc rounds) links s passed → AreDeep (link_of links) (kind.uppers s) → AreDeep (link_of links) (kind.lowers s) →
       IsIdle rounds links (kind.patience s) s →
       HoldsNothingBack (link_of links) passed.uppers passed.lowers (kind.uppers s) (kind.lowers s) (kind.is_done s)

@@ -1,6 +1,12 @@
 pub mod Carries
 pub mod Kind
+pub mod KindHolds
 pub mod KindLaws
+pub mod LegalSchedule
+pub mod LinkForm
 pub mod LocalLaws
 pub mod Paced
 pub mod Quiet
+pub mod Way
+pub mod WayLaws
+pub mod WaysAround

@@ -57,12 +57,14 @@ module _ {S E K : Type 0} (kind : Kind S E) (inside : Inside S K) where
   -- taken.
   abbrev pub ResponsesTaken : Type 0
   ResponsesTaken =
-      (round : ℕ) (links : List LinkView) (s : S) → kind.fact s → kind.can round links s → (l : ℕ) (b : BBeat) → Contains (kind.lowers s) l → head_of (link_of links l).b ≡ Some b →
+      (round : ℕ) (links : List LinkView) (s : S) → kind.fact s → kind.can round links s → (l : ℕ) (b : BBeat) → Contains (kind.lowers s) l →
+      head_of (link_of links l).b ≡ Some b →
       IsTrue (inside.places_response s b) → HaveRoomB (link_of links) (kind.uppers s) → IsSome (out_of kind round links s).b_take
 
   abbrev pub ReadDataTaken : Type 0
   ReadDataTaken =
-      (round : ℕ) (links : List LinkView) (s : S) → kind.fact s → kind.can round links s → (l : ℕ) (r : RBeat) → Contains (kind.lowers s) l → head_of (link_of links l).r ≡ Some r →
+      (round : ℕ) (links : List LinkView) (s : S) → kind.fact s → kind.can round links s → (l : ℕ) (r : RBeat) → Contains (kind.lowers s) l →
+      head_of (link_of links l).r ≡ Some r →
       IsTrue (inside.places_read_data s r) → HaveRoomR (link_of links) (kind.uppers s) → IsSome (out_of kind round links s).r_take
 
   abbrev pub AnswersTaken : Type 0
@@ -72,8 +74,10 @@ module _ {S E K : Type 0} (kind : Kind S E) (inside : Inside S K) where
   -- and all links below have room, whatever write data stands above.
   abbrev pub TakesAddresses : Entries S K → (LinkView → List Addr) → (Out → Option ℕ) → Type 0
   TakesAddresses direction queue_of take_of_out =
-      (round : ℕ) (links : List LinkView) (s : S) → kind.fact s → kind.can round links s → (u : ℕ) (a : Addr) → direction.entries s ≡ [] → direction.in_work s ≡ false →
-      Contains (kind.uppers s) u → head_of (queue_of (link_of links u)) ≡ Some a → HaveRoom queue_of links (kind.lowers s) → IsSome (take_of_out (out_of kind round links s))
+      (round : ℕ) (links : List LinkView) (s : S) → kind.fact s → kind.can round links s → (u : ℕ) (a : Addr) → direction.entries s ≡ [] →
+      direction.in_work s ≡ false →
+      Contains (kind.uppers s) u → head_of (queue_of (link_of links u)) ≡ Some a → HaveRoom queue_of links (kind.lowers s) →
+      IsSome (take_of_out (out_of kind round links s))
 
   abbrev pub AddressesTaken : Type 0
   AddressesTaken = TakesAddresses inside.writes (λ l. l.aw) (λ out. out.aw_take) × TakesAddresses inside.reads (λ l. l.ar) (λ out. out.ar_take)
@@ -83,7 +87,8 @@ module _ {S E K : Type 0} (kind : Kind S E) (inside : Inside S K) where
   -- awaited.
   abbrev pub AwaitedGoesOn : Type 0
   AwaitedGoesOn =
-      (round : ℕ) (links : List LinkView) (s : S) → kind.fact s → kind.can round links s → (u : ℕ) (w : WBeat) → inside.awaited s ≡ Some u → head_of (link_of links u).w ≡ Some w →
+      (round : ℕ) (links : List LinkView) (s : S) → kind.fact s → kind.can round links s → (u : ℕ) (w : WBeat) → inside.awaited s ≡ Some u →
+      head_of (link_of links u).w ≡ Some w →
       length (link_of links (inside.data_to s)).w < (link_of links (inside.data_to s)).depth →
       IsSome (out_of kind round links s).w_put × (IsTrue (inside.whole s) → (out_of kind round links s).w_take ≡ Some u)
 

@@ -17,6 +17,6 @@ module _ {S E : Type 0} (kind : Kind S E) where
     pub done : row.is_done (out_of kind round links s) ≡ is_let (row.wanted links s) (row.pace s)
     pub paced : row.pace (next_of kind round links s) ≡ pace_after (row.wanted links s) (row.pace s)
 
-  -- all rows of a table
+  -- all rows of a table, of every state and all links
   abbrev pub ArePaced : List (PacedRow S) → Type 0
-  ArePaced rows = (round : ℕ) (links : List LinkView) (s : S) → kind.fact s → kind.can round links s → All (IsPaced round links s) rows
+  ArePaced rows = (round : ℕ) (links : List LinkView) (s : S) → All (IsPaced round links s) rows
