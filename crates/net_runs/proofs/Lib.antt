@@ -1,0 +1,2 @@
+pub mod ContractFacts
+pub mod RoundLemmas
