@@ -1,8 +1,7 @@
 -- What the links around a node carry of the transactions of a network.
 use Rattle.std.specs.Prelude.{◌≡◌, ◌⊎◌, ◌∷◌, ℕ, Bool, true, false, List, All, Contains, None, Option, Some, slice_get, unwrap_or}
 use Rattle.axi_beats.specs.declared.response.Resp.{Resp}
-use Rattle.axi_trail.specs.Example.{no_share}
-use Rattle.axi_trail.specs.Schedule.{Schedule, Share}
+use Rattle.axi_trail.specs.Schedule.{Schedule, Share, no_share}
 use Rattle.node_shape.specs.LinkForm.{ArePartsOf, FitsLink, LinkForm}
 use Rattle.node_shape.specs.Way.{IsSentOn, Origin, Way, with_responses}
 
