@@ -6,9 +6,9 @@ use Rattle.axi_beats.specs.declared.beat.Addr.{Addr}
 use Rattle.axi_beats.specs.declared.beat.RBeat.{RBeat}
 use Rattle.axi_history.specs.PortRules.{strobes_within}
 use Rattle.axi_link.specs.Moves.{appended}
-use Rattle.axi_trail.specs.Example.{read_address, write_address, write_data_beat, write_response, no_share, read_share, write_share, example_schedule, example_progress, example_upper, example_lower}
+use Rattle.axi_trail.specs.Example.{read_address, write_address, write_data_beat, write_response, read_share, write_share, example_schedule, example_progress, example_upper, example_lower}
 use Rattle.axi_trail.specs.LinkContracts.{Asks, Answers, Requests}
-use Rattle.axi_trail.specs.Schedule.{Share}
+use Rattle.axi_trail.specs.Schedule.{Share, no_share}
 use Rattle.axi_trail.specs.Trail.{Beats, no_beats, moved_below, trail_above, trail_below}
 use Rattle.axi_trail.specs.Words.{Asked, Reply, burst_asked}
 use Rattle.axi_trail.proofs.SlackFacts.{asking_goes_down, answering_goes_up}
