@@ -15,8 +15,8 @@ use Rattle.node_shape.specs.Quiet.{HaveRoomB, HaveRoomR}
 -- The entries of one direction, oldest first. `K` is what of an entry never changes.
 pub record Entries (S K : Type 0) : Type 0 where
   pub entries : S → List K
-  -- the entry that an address adds; none where the table adds none
-  pub entry_of : S → Addr → List K
+  -- the entry that an address adds which is taken from this link; none where the table adds none
+  pub entry_of : S → ℕ × Addr → List K
   -- the place of the entry that leaves in a round on these links
   pub leaving : List LinkView → S → Option ℕ
   -- the take with which entries leave
@@ -38,10 +38,10 @@ pub record Inside (S K : Type 0) : Type 0 where
   pub whole : S → Bool
 
 module _ {X : Type 0} (queue_of : LinkView → List X) (links : List LinkView) where
-  -- the head that is taken, where one is
-  abbrev pub head_taken : Option ℕ → List X
+  -- the head that is taken, with the link that it is taken from, where one is
+  abbrev pub head_taken : Option ℕ → List (ℕ × X)
   head_taken None = []
-  head_taken (Some link) = take 1 (queue_of (link_of links link))
+  head_taken (Some link) = map (λ head. (link, head)) (take 1 (queue_of (link_of links link)))
 
   -- each of these links has room on this channel
   abbrev pub HaveRoom : List ℕ → Type 0
@@ -107,7 +107,7 @@ module _ {S E K : Type 0} (kind : Kind S E) (inside : Inside S K) where
 
   -- An address that is taken adds the last entry, where the table adds one. An entry leaves with the beat that the table
   -- names, and with no other. All other entries stay, in their order.
-  pub record EntriesStayIn (round : ℕ) (links : List LinkView) (s : S) (direction : Entries S K) (addresses : List Addr) : Type 0 where
+  pub record EntriesStayIn (round : ℕ) (links : List LinkView) (s : S) (direction : Entries S K) (addresses : List (ℕ × Addr)) : Type 0 where
     pub stay : direction.entries (next_of kind round links s) ≡ left (direction.leaving links s) (direction.entries s) ++ flat_map (direction.entry_of s) addresses
     pub leaves : IfSome (direction.leaving links s) (λ place. (place < length (direction.entries s)) × IsSome (direction.leaves_with (out_of kind round links s)))
 
