@@ -1,3 +1,2 @@
 pub mod Network
 pub mod Wired
-pub mod KindHolds

@@ -1,15 +1,12 @@
 -- How the nodes and the links of a network are joined.
-use Rattle.std.specs.Prelude.{◌≡◌, ◌<◌, ◌≤◌, [], ℕ, List, Some, All, Contains, length, slice_get}
+use Rattle.std.specs.Prelude.{◌≡◌, ◌<◌, ◌≤◌, [], ℕ, List, All, Contains, length, slice_get}
 use Rattle.std.specs.Option.{option_map_or}
 use Rattle.axi_link.specs.LinkView.{empty_link}
 use Rattle.axi_link.specs.LinkWords.{link_of}
 use Rattle.net_model.specs.Network.{Network, lower_node, net_link, upper_node}
 use Rattle.node_core.specs.Acted.{Acted}
 use Rattle.node_shape.specs.Kind.{Kind}
-
--- no number stands at two places
-abbrev pub AreApart : List ℕ → Type 0
-AreApart numbers = (i j number : ℕ) → slice_get numbers i ≡ Some number → slice_get numbers j ≡ Some number → i ≡ j
+use Rattle.node_shape.specs.WaysAround.{AreApart}
 
 module _ {S E : Type 0} (kind : Kind S E) where
   -- the links above a node, and those below it; none where there is no such node

@@ -1,7 +1,7 @@
 //! Any kind of node.
 
 ghost use Rattle.node_shape.specs.Kind.{Kind};
-ghost use Rattle.net_model.specs.KindHolds.{KindHolds};
+ghost use Rattle.node_shape.specs.KindHolds.{KindHolds};
 
 /// A kind of node that shows what every kind has to show. What is said of networks is said over it, so
 /// that no kind is named there.

@@ -13,7 +13,7 @@ use Rattle.axi_trail.proofs.SlackFacts.{answered_through_link, asked_through_lin
 use Rattle.axi_trail.specs.LinkContracts.{Answers, Asks}
 use Rattle.axi_trail.specs.Schedule.{Grows, Progress, Schedule}
 use Rattle.axi_trail.specs.Trail.{joined, moved_above, moved_below, seen_above, seen_below}
-use Rattle.net_model.specs.KindHolds.{KindHolds}
+use Rattle.node_shape.specs.KindHolds.{KindHolds}
 use Rattle.net_model.specs.Network.{CanMoveQueue, Network, lower_node, node_next, upper_node}
 use Rattle.net_model.specs.Wired.{IsWired, lowers_at, uppers_at}
 use Rattle.net_runs.proofs.RoundLemmas.{links-run, lowers-stay, node-after, queues-long, uppers-stay}
@@ -22,7 +22,7 @@ use Rattle.net_runs.specs.RunKeeps.{IsScheduled, RunKeeps, RunsGoOn, RunsKeep}
 use Rattle.node_core.proofs.MovesLemmas.{fitting_moves}
 use Rattle.node_core.specs.Acted.{Acted, no_moves}
 use Rattle.node_core.specs.Fits.{MovesFit}
-use Rattle.node_shape.specs.Kind.{AnsweredAt, Around, AskedAt, Kind, Passed, next_of, out_of, passed_after}
+use Rattle.node_shape.specs.Kind.{AnsweredAt, Around, AskedAt, IsKnown, Kind, Passed, next_of, out_of, passed_after}
 use Rattle.plain_lists.proofs.PrefixLemmas.{prefix_itself}
 use Rattle.plain_lists.specs.Numbered.{AllNumbered}
 
@@ -154,11 +154,13 @@ module _ {S E : Type 0} (kind : Kind S E) (holds : KindHolds kind) (net : Networ
       (λ link own. subst (λ (j : ℕ). Answers (schedules link) (now n) ((passed_by kind net j n).uppers link)) own.1 (answered link own.0)) (kind.uppers node.state)
       (uppers-are n k node at)
 
-  tells-at : (n k : ℕ) (node : Acted S) → At n k node → kind.tells schedules (now n) node.state (passed_by kind net k n)
-  tells-at n k node at = at-some (λ (a : Acted S). kind.tells schedules (now n) a.state (passed_by kind net k n)) (slice_get (nodes_after kind net n) k) node at (scheduled.tells n k)
-
   keeps-at : (n k : ℕ) (node : Acted S) → At n k node → Keeps k n → StateKeeps k n node.state
   keeps-at n k node at keeps = at-some (λ (a : Acted S). StateKeeps k n a.state) (slice_get (nodes_after kind net n) k) node at keeps
+
+  known-at : (n k : ℕ) (node : Acted S) → At n k node → ((node : ℕ) → Keeps node n) → IsKnown kind schedules (now n) node.state (passed_by kind net k n)
+  known-at n k node at keeps =
+      at-some (λ (a : Acted S). IsKnown kind schedules (now n) a.state (passed_by kind net k n)) (slice_get (nodes_after kind net n) k) node at
+      (scheduled.known n (λ j. for-some (λ (a : Acted S). kind.keeps schedules n a.state (passed_by kind net j n)) (slice_get (nodes_after kind net n) j) (λ other there. (keeps-at n j other there (keeps j)).keeps)) k)
 
   -- down: a link below is asked as those above it are
   falls-to : (link other : ℕ) → other < length net.links → lower other ≡ upper link → wired.rank (upper other) < wired.rank (upper link)
@@ -174,7 +176,7 @@ module _ {S E : Type 0} (kind : Kind S E) (holds : KindHolds kind) (net : Networ
       let mine : Contains (kind.lowers node.state) link = subst (λ (o : Option (Acted S)). Contains (option_map_or (λ (a : Acted S). kind.lowers a.state) o []) link) at among in
       let asked = asked-at n k node at (λ other same there. above other (falls-to link other there same) there) in
       All-contains (λ l. Asks (schedules l) (now n) ((passed_by kind net k n).lowers l)) (kind.lowers node.state) link
-      (holds.asks_below schedules (now n) n node.state (passed_by kind net k n) (keeps-at n k node at (keeps k)).keeps (tells-at n k node at) asked.0) mine
+      (holds.asks_below schedules (now n) n node.state (passed_by kind net k n) (keeps-at n k node at (keeps k)).fact (keeps-at n k node at (keeps k)).keeps (known-at n k node at keeps) asked.0) mine
 
   -- up: a link above is answered as those below it are
   rises-to : (link other : ℕ) → other < length net.links → upper other ≡ lower link → length net.nodes - wired.rank (lower other) < length net.nodes - wired.rank (lower link)
@@ -195,7 +197,7 @@ module _ {S E : Type 0} (kind : Kind S E) (holds : KindHolds kind) (net : Networ
       let asked_above = asked-at n k node at (λ other same. asked other) in
       let answered_below = answered-at n k node at (λ other same there. below other (rises-to link other there same) there) in
       All-contains (λ l. Answers (schedules l) (now n) ((passed_by kind net k n).uppers l)) (kind.uppers node.state) link
-      (holds.answers_above schedules (now n) n node.state (passed_by kind net k n) (keeps-at n k node at (keeps k)).keeps (tells-at n k node at) asked_above.0
+      (holds.answers_above schedules (now n) n node.state (passed_by kind net k n) (keeps-at n k node at (keeps k)).fact (keeps-at n k node at (keeps k)).keeps (known-at n k node at keeps) asked_above.0
       (asks-at n k node at asked) answered_below.0) mine
 
   -- what a node does in a round, and has passed after it
@@ -236,7 +238,7 @@ module _ {S E : Type 0} (kind : Kind S E) (holds : KindHolds kind) (net : Networ
   may-decide n k node at keeps asked =
       let queues = queues_after kind net n in
       let long : length queues ≡ length net.links = queues-long kind net n ∙ wired.long in
-      holds.may_decide schedules (now n) n queues node.state (passed_by kind net k n) (keeps-at n k node at keeps).suits
+      holds.may_decide schedules (now n) n queues node.state (passed_by kind net k n) (keeps-at n k node at keeps).fact (keeps-at n k node at keeps).suits
       (All-weaker (OwnUpper k) (λ link. link < length queues) (λ link own. omega (arith, own.0, long)) (kind.uppers node.state) (uppers-are n k node at))
       (All-weaker (OwnLower k) (λ link. link < length queues) (λ link own. omega (arith, own.0, long)) (kind.lowers node.state) (lowers-are n k node at))
       (asked-at n k node at (λ other same. asked other)).1
@@ -251,7 +253,7 @@ module _ {S E : Type 0} (kind : Kind S E) (holds : KindHolds kind) (net : Networ
         fact = holds.stays (suc n) queues node.state mine.fact can;
         suits = (holds.steady (suc n) queues node.state).suits schedules mine.suits;
         keeps = subst (λ (p : Passed E). kind.keeps schedules (suc n) (next_of kind (suc n) queues node.state) p) (sym (passed-next n k node at))
-            (holds.lasts schedules (now n) n queues node.state (passed_by kind net k n) mine.keeps can (around-of n k node at asked answered));
+            (holds.lasts schedules (now n) n queues node.state (passed_by kind net k n) mine.fact mine.keeps can (around-of n k node at asked answered));
       }
 
   steps : (n k : ℕ) → Keeps k n → ((link : ℕ) → Asked link n) → ((link : ℕ) → Answered link n) → Keeps k (suc n)

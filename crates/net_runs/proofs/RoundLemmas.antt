@@ -5,7 +5,7 @@ use Rattle.std.specs.Prelude.{slice_get}
 use Rattle.axi_link.specs.LinkView.{LinkView, empty_link}
 use Rattle.axi_link.specs.LinkWords.{link_of}
 use Rattle.axi_link.specs.Moves.{link_after}
-use Rattle.net_model.specs.KindHolds.{KindHolds}
+use Rattle.node_shape.specs.KindHolds.{KindHolds}
 use Rattle.net_model.specs.Network.{Network, after_commit, after_decide, after_rounds, lower_node, moves_at, net_link, node_next, queue_moved, upper_node}
 use Rattle.net_model.specs.Wired.{lowers_at, uppers_at}
 use Rattle.net_model.specs.declared.net_link.NetLink.{NetLink}

@@ -6,16 +6,19 @@ use Rattle.net_model.specs.Network.{CanMoveQueue, Network, node_next}
 use Rattle.net_model.specs.Wired.{IsWired}
 use Rattle.net_runs.specs.Run.{HoldsAt, lower_end, nodes_after, passed_by, queues_after, upper_end}
 use Rattle.node_core.specs.Acted.{Acted}
-use Rattle.node_shape.specs.Kind.{Kind}
+use Rattle.node_shape.specs.Kind.{IsKnown, Kind}
 use Rattle.plain_lists.specs.Numbered.{AllNumbered}
 
 module _ {S E : Type 0} (kind : Kind S E) where
   -- What a run is told against: what each link has to carry, and what is known of each transaction after so many rounds.
-  -- Every node is a new one, its links suit it, and what is known agrees with what it has done.
+  -- Every node is a new one, its links suit it, and as long as all keep what their kinds keep, what is known agrees with what
+  -- they have done.
   pub record IsScheduled (net : Network S) (schedules : ℕ → Schedule) (now : ℕ → Progress) : Type 0 where
     pub begins : (node : ℕ) → HoldsAt kind net kind.begins node 0
     pub suits : (node : ℕ) → HoldsAt kind net (kind.suits schedules) node 0
-    pub tells : (n node : ℕ) → HoldsAt kind net (λ s. kind.tells schedules (now n) s (passed_by kind net node n)) node n
+    pub known :
+        (n : ℕ) → ((node : ℕ) → HoldsAt kind net (λ s. kind.keeps schedules n s (passed_by kind net node n)) node n) → (node : ℕ) →
+        HoldsAt kind net (λ s. IsKnown kind schedules (now n) s (passed_by kind net node n)) node n
 
   -- each node keeps what its kind keeps, and each link asks and answers as it should
   pub record RunKeeps (net : Network S) (schedules : ℕ → Schedule) (now : ℕ → Progress) (n : ℕ) : Type 0 where
