@@ -2,8 +2,8 @@
 use Rattle.std.specs.Prelude.{◌≡◌, ◌⊎◌, ◌∷◌, ℕ, Bool, true, false, List, All, Contains, None, Option, Some, slice_get, unwrap_or}
 use Rattle.axi_beats.specs.declared.response.Resp.{Resp}
 use Rattle.axi_trail.specs.Schedule.{Schedule, Share, no_share}
-use Rattle.node_shape.specs.LinkForm.{ArePartsOf, FitsLink, LinkForm}
-use Rattle.node_shape.specs.Way.{IsSentOn, Origin, Way, with_responses}
+use Rattle.node_shape.specs.LinkForm.{ArePartsOf, FitsLink, IsAlike, LinkForm}
+use Rattle.node_shape.specs.Way.{IsSentOn, Origin, Way, onto, with_responses}
 
 -- no number stands at two places
 abbrev pub AreApart : List ℕ → Type 0
@@ -46,6 +46,12 @@ pub record IsCarried (form : LinkForm) (write : Bool) (link : ℕ) (share : Shar
   pub in_page : ArePartsOf page share.parts
   pub before : List ℕ
   pub chain : share.chain ≡ link ∷ before
+
+-- what a link carries as it is, a link of the same form can carry
+abbrev pub AlikeCarries : Type 0
+AlikeCarries =
+    (form other : LinkForm) → IsAlike form other → (write : Bool) (link next : ℕ) (share : Share) → IsCarried form write link share →
+    IsCarried other write next (onto next share)
 
 -- Each transaction comes to a node by one link at most, and goes on by the one that the node sends it on by; where it
 -- ends, the responses are the node's own.
