@@ -1,3 +1,4 @@
+pub mod FitLemmas
 pub mod MovesLemmas
 pub mod RowLemmas
 pub mod PaceLemmas

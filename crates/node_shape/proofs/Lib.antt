@@ -1,2 +1,4 @@
 pub mod CarryLemmas
 pub mod FormLemmas
+pub mod OneLinkLemmas
+pub mod OneUpperLemmas

@@ -1,0 +1,5 @@
+pub mod IdleLemmas
+pub mod LocalLemmas
+pub mod TableLemmas
+pub mod TrailLemmas
+pub mod WayLemmas

@@ -1,0 +1,5 @@
+pub mod SliceInside
+pub mod SliceLaws
+pub mod SliceState
+pub mod SliceTable
+pub mod SliceTrail
