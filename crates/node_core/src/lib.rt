@@ -8,8 +8,10 @@
 
 mod beat;
 mod core_laws;
+mod id;
 mod pace;
 mod paces;
+mod ready;
 mod row;
 mod step;
 #[cfg(test)]
@@ -18,8 +20,10 @@ mod turn;
 
 pub use beat::Beat;
 pub use core_laws::laws;
+pub use id::HasId;
 pub use pace::Pace;
 pub use paces::{EachRow, Paces};
+pub use ready::mark_ready;
 pub use row::{link_at, open_put, passed, set_put, set_take};
 pub use step::Step;
 pub use turn::Turn;
