@@ -1,2 +1,3 @@
 pub mod ContractFacts
+pub mod PortFacts
 pub mod RoundLemmas

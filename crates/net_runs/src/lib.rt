@@ -8,4 +8,4 @@
 
 mod run_laws;
 
-pub use run_laws::{law_of_links, laws_of_contracts};
+pub use run_laws::{law_of_links, law_of_ports, laws_of_contracts};

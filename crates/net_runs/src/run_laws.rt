@@ -1,5 +1,6 @@
 //! What holds of every network over its rounds.
 
+ghost use Rattle.net_runs.specs.Ports.{PortsAreLegal};
 ghost use Rattle.net_runs.specs.RunKeeps.{RunsGoOn, RunsKeep};
 ghost use Rattle.net_runs.specs.Run.{LinksRun};
 
@@ -15,4 +16,10 @@ pub fn law_of_links<K: AnyKind>()
 pub fn laws_of_contracts<K: AnyKind>()
     ensures keep { RunsKeep K.kind }
     ensures go_on { RunsGoOn K.kind }
+{}
+
+/// Every AXI4 port of a network whose links have legal bursts to carry breaks none of the rules, after
+/// any number of rounds.
+pub fn law_of_ports<K: AnyKind>()
+    ensures { PortsAreLegal K.kind }
 {}
