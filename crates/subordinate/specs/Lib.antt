@@ -1,0 +1,6 @@
+pub mod Parts
+pub mod Places
+pub mod Service
+pub mod SubordinateState
+pub mod SubordinateTable
+pub mod Tracks
