@@ -1,7 +1,6 @@
 -- A subordinate as contracts see it between rounds.
-use Rattle.std.specs.Prelude.{ℕ, List, [], ◌≤◌, All}
+use Rattle.std.specs.Prelude.{ℕ, List, [], ◌≤◌}
 use Rattle.burst_address.specs.Formulas.{beats_of}
-use Rattle.node_core.specs.Paces.{new_paces}
 use Rattle.node_core.specs.declared.paces.Paces.{Paces}
 use Rattle.subordinate.specs.declared.entry.ReadEntry.{ReadEntry}
 use Rattle.subordinate.specs.declared.entry.WriteEntry.{WriteEntry}

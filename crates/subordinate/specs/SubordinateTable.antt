@@ -1,6 +1,6 @@
 -- What a subordinate does in a round (Arm IHI 0022, relationships between the channels): a function of its state and its
 -- link as they stand at the round's start.
-use Rattle.std.specs.Prelude.{◌==◌, ◌+◌, ◌&&◌, ◌++◌, ◌∷◌, [], ℕ, List, Bool, Option, Some, None, false, not, drop, nat_lt, is_some, if◌then◌else◌, option_map, find}
+use Rattle.std.specs.Prelude.{◌==◌, ◌+◌, ◌&&◌, ◌++◌, ◌∷◌, [], List, Bool, Option, Some, None, false, not, drop, nat_lt, is_some, if◌then◌else◌, option_map, find}
 use Rattle.axi_beats.specs.Response.{worst_of}
 use Rattle.axi_beats.specs.declared.beat.Addr.{Addr}
 use Rattle.axi_beats.specs.declared.beat.WBeat.{WBeat}
@@ -12,7 +12,6 @@ use Rattle.axi_link.specs.LinkView.{LinkView}
 use Rattle.axi_link.specs.LinkWords.{has_room, head_of, link_of}
 use Rattle.axi_link.specs.declared.out.Out.{Out}
 use Rattle.burst_address.specs.Formulas.{beats_of}
-use Rattle.node_core.specs.Acted.{Acted}
 use Rattle.node_core.specs.Paces.{paces_after, rows_let}
 use Rattle.node_core.specs.Rows.{beat_where, fits, put_of, take_of}
 use Rattle.node_core.specs.declared.paces.EachRow.{EachRow}

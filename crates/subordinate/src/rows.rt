@@ -2,16 +2,17 @@
 //! which are the same for all subordinates. Data is taken in the order of the addresses, and requests
 //! are answered in it. (Arm IHI 0022, relationships between the channels.)
 
-ghost use Rattle.std.specs.Prelude.{◌≡◌, ◌<◌, ◌+◌, IfSome, IsTrue, length, option_copied, option_map, is_some};
+ghost use Rattle.std.specs.Prelude.{◌≡◌, ◌<◌, ◌+◌, ◌&&◌, IfSome, IsTrue, length, option_copied, option_map, is_some};
 ghost use Rattle.axi_link.specs.LinkWords.{head_of};
-ghost use Rattle.node_core.specs.Rows.{beat_where, put_of, take_of};
-ghost use Rattle.subordinate.specs.SubordinateTable.{after_ar, after_aw, after_b, answer_to, first_is_whole, lacks_data, wanted_rows, with_beat};
+ghost use Rattle.node_core.specs.Rows.{beat_where, fits, put_of, take_of};
+ghost use Rattle.subordinate.specs.SubordinateTable.{after_ar, after_aw, after_b, answer_to};
+ghost use Rattle.subordinate.specs.SubordinateTable.{first_is_whole, lacks_data, oldest_lacking, wanted_rows, with_beat};
 ghost use Rattle.subordinate.specs.Places.{lacking_place};
 
 use crate::entry::{ReadEntry, WriteEntry};
-use axi_beats::{Addr, BBeat, Resp, worst};
+use axi_beats::{Addr, BBeat, Resp, WBeat, worst};
 use axi_link::Link;
-use flight::Flight;
+use flight::{Filed, Flight};
 use node_core::{EachRow, set_put, set_take};
 
 /// The rows whose condition holds as a round begins.
@@ -19,12 +20,36 @@ pub fn wanted(link: &Link, writes: &Flight<WriteEntry>, reads: &Flight<ReadEntry
     ensures { result ≡ wanted_rows link.now writes.now reads.now }
 {
     EachRow {
-        aw: link.head_aw().is_some() && !writes.full(),
-        w: link.head_w().is_some() && lacking(writes).is_some(),
-        b: link.room_b() && is_first_whole(writes),
-        ar: link.head_ar().is_some() && !reads.full(),
-        r: link.room_r() && !reads.is_empty(),
+        aw: takes_address(link.head_aw(), writes),
+        w: takes_data(link.head_w(), writes),
+        b: answers(link.room_b(), writes),
+        ar: takes_address(link.head_ar(), reads),
+        r: puts_data(link.room_r(), reads),
     }
+}
+
+fn takes_address<T: Filed>(head: Option<&Addr>, entries: &Flight<T>) -> bool
+    ensures { result ≡ (is_some (option_copied head.entry) && fits entries.now) }
+{
+    head.is_some() && entries.len() < 16
+}
+
+fn takes_data(head: Option<&WBeat>, entries: &Flight<WriteEntry>) -> bool
+    ensures { result ≡ (is_some (option_copied head.entry) && is_some (oldest_lacking entries.now)) }
+{
+    head.is_some() && lacking(entries).is_some()
+}
+
+fn answers(room: bool, entries: &Flight<WriteEntry>) -> bool
+    ensures { result ≡ (room && first_is_whole entries.now) }
+{
+    room && is_first_whole(entries)
+}
+
+fn puts_data(room: bool, entries: &Flight<ReadEntry>) -> bool
+    ensures { result ≡ (room && is_some (head_of entries.now)) }
+{
+    room && !entries.is_empty()
 }
 
 /// Whether a data beat of a write isn't taken yet.
@@ -45,6 +70,7 @@ fn is_first_whole(entries: &Flight<WriteEntry>) -> bool
 pub fn lacking(entries: &Flight<WriteEntry>) -> Option<usize>
     ensures place { result ≡ lacking_place entries.now }
     ensures within { IfSome result (λ place. place < length entries.now) }
+    ensures some { is_some result ≡ is_some (oldest_lacking entries.now) }
 {
     for place in 0..entries.len() {
         if is_lacking(entries.get(place)) {
@@ -55,9 +81,9 @@ pub fn lacking(entries: &Flight<WriteEntry>) -> Option<usize>
 }
 
 /// A write that lacks data, with one more data beat of this status.
-pub fn with_status(entry: &WriteEntry, status: Resp) -> WriteEntry
-    requires { IsTrue (lacks_data entry.now) }
-    ensures { result ≡ with_beat status entry.now }
+pub fn with_status(entry: WriteEntry, status: Resp) -> WriteEntry
+    requires { IsTrue (lacks_data entry) }
+    ensures { result ≡ with_beat status entry }
 {
     WriteEntry {
         request: entry.request,
