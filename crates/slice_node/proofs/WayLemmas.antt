@@ -3,10 +3,11 @@ use Rattle.std.proofs.Common.{◌≡◌, ℕ, Bool, true, false, [], ◌∷◌, 
 use Rattle.std.specs.Prelude.{◌⊎◌, Contains, flat_map}
 use Rattle.axi_trail.specs.Schedule.{SameChain, Share, no_share}
 use Rattle.node_shape.specs.Carries.{IsSameShare}
-use Rattle.node_shape.specs.LinkForm.{FitsLink, LinkForm, wanted_bytes}
-use Rattle.node_shape.specs.Way.{Way, go_on_by, onto}
+use Rattle.node_shape.specs.LinkForm.{IsAlike, LinkForm}
+use Rattle.node_shape.specs.Way.{Way, go_on_by}
 use Rattle.node_shape.specs.WayLaws.{CutsFit, GoesBelow, HasWay, OriginsFit, WaysSuit}
 use Rattle.node_shape.specs.WaysAround.{WaysThrough}
+use Rattle.node_shape.proofs.FormLemmas.{bytes-alike, carried-alike}
 use Rattle.node_shape.proofs.OneLinkLemmas.{is-one, of-one, one-has}
 use Rattle.node_shape.proofs.OneUpperLemmas.{ComesBy, StaysAway, chains-on, one-upper, share_on}
 use Rattle.slice_node.specs.SliceState.{SliceState}
@@ -15,16 +16,11 @@ use Rattle.slice_node.specs.SliceTrail.{slice_kind}
 some-same : (m n : ℕ) → Some m ≡ Some n → m ≡ n
 some-same m n is = cc
 
--- the link by which it goes on has no say in what fits
-fits-onto : (form : LinkForm) (write : Bool) (next : ℕ) (share : Share) → FitsLink form write share → FitsLink form write (onto next share)
-fits-onto form write next share fits = record {
-  width = fits.width;
-  legal = fits.legal;
-  small = fits.small;
-  write_data = fits.write_data;
-  strobes = fits.strobes;
-  no_data = fits.no_data;
-  lanes = fits.lanes;
+is-alike : (form other : LinkForm) → other ≡ form → IsAlike form other
+is-alike form other same = record {
+  lite = ap (λ (f : LinkForm). f.lite) same;
+  bus = ap (λ (f : LinkForm). f.bus) same;
+  single = ap (λ (f : LinkForm). f.single) same;
 }
 
 module _ (E : Type 0) where
@@ -48,15 +44,10 @@ module _ (E : Type 0) where
       let lower : s.lower ≡ next = some-same s.lower next goes in
       let upper : link ≡ s.upper = is-one s.upper link among in
       let same : forms next ≡ forms link = ap forms (sym lower) ∙ sound ∙ ap forms (sym upper) in
+      let alike = is-alike (forms link) (forms next) same in
       record {
-        is = record {
-          fits = subst (λ (form : LinkForm). FitsLink form write (onto next share)) (sym same) (fits-onto (forms link) write next share carried.fits);
-          page = carried.page;
-          in_page = carried.in_page;
-          before = share.chain;
-          chain = refl;
-        };
-        bytes = ap (λ (form : LinkForm). flat_map (wanted_bytes form) share.parts) same;
+        is = carried-alike (forms link) (forms next) alike write link next share carried;
+        bytes = bytes-alike (forms link) (forms next) alike share.parts;
         lanes = refl;
       }
 
