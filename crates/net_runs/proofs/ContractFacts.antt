@@ -154,7 +154,7 @@ module _ {S E : Type 0} (kind : Kind S E) (holds : KindHolds kind) (net : Networ
       (λ link own. subst (λ (j : ℕ). Answers (schedules link) (now n) ((passed_by kind net j n).uppers link)) own.1 (answered link own.0)) (kind.uppers node.state)
       (uppers-are n k node at)
 
-  keeps-at : (n k : ℕ) (node : Acted S) → At n k node → Keeps k n → StateKeeps k n node.state
+  pub keeps-at : (n k : ℕ) (node : Acted S) → At n k node → Keeps k n → StateKeeps k n node.state
   keeps-at n k node at keeps = at-some (λ (a : Acted S). StateKeeps k n a.state) (slice_get (nodes_after kind net n) k) node at keeps
 
   known-at : (n k : ℕ) (node : Acted S) → At n k node → ((node : ℕ) → Keeps node n) → IsKnown kind schedules (now n) node.state (passed_by kind net k n)
