@@ -9,8 +9,8 @@ use Rattle.std.proofs.lemmas.Option.{slice_get_within}
 use Rattle.node_graph.specs.Graph.{numbers}
 use Rattle.node_graph.proofs.Members.{map-same}
 use Rattle.topology.specs.Document.{DocumentNode, node_at, plan_nodes_at, plan_nodes_of, uppers_of}
-use Rattle.topology.specs.declared.kind.Kind.{Kind}
-use Rattle.topology.specs.declared.kind.Kind.TheVariants as kind
+use Rattle.topology_text.specs.declared.kind.Kind.{Kind}
+use Rattle.topology_text.specs.declared.kind.Kind.TheVariants as kind
 use Rattle.elaborate.specs.Plan.{PlanNode, crossbar_parts, demux_itself, error_part, first_part, input_demux, input_parts, itself, node_parts, parts_by_kind, plan_nodes, split_part, target_mux, targets}
 use Rattle.elaborate.specs.declared.part.Part.{Part}
 use Rattle.elaborate.specs.declared.part.Part.TheVariants as part

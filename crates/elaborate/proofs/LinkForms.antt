@@ -9,8 +9,8 @@ use Rattle.node_graph.proofs.Members.{in-numbers, repeats-each_once}
 use Rattle.node_graph.proofs.Ways.{below-above}
 use Rattle.topology.proofs.AcceptedFacts.{below-targets}
 use Rattle.topology.specs.Document.{DocumentNode, graph_of, is_manager, named, names_of, node_at, uppers_of}
-use Rattle.topology.specs.declared.kind.Kind.{Kind}
-use Rattle.topology.specs.declared.kind.Kind.TheVariants as kind
+use Rattle.topology_text.specs.declared.kind.Kind.{Kind}
+use Rattle.topology_text.specs.declared.kind.Kind.TheVariants as kind
 use Rattle.elaborate.specs.Laws.{is_first, is_mux}
 use Rattle.elaborate.specs.Plan.{PlanNode, demux_itself, entrance, entrances, error_part, first_part, input_demux, is_crossbar, itself, parts_by_kind, plan_nodes, split_part, targets}
 use Rattle.elaborate.specs.declared.part.Part.{Part}

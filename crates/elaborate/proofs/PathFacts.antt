@@ -16,8 +16,8 @@ use Rattle.node_graph.proofs.Ways.{depths-are_small, links-lead_deeper}
 use Rattle.topology.proofs.AcceptedFacts.{accepted-is_clean}
 use Rattle.topology.specs.Document.{DocumentNode, NamedRegion, has_regions, is_manager, is_memory, named, names_of, node_at, targets_of}
 use Rattle.topology.specs.Refused.{IsAccepted, is_bad_range}
-use Rattle.topology.specs.declared.kind.Kind.{Kind}
-use Rattle.topology.specs.declared.kind.Kind.TheVariants as kind
+use Rattle.topology_text.specs.declared.kind.Kind.{Kind}
+use Rattle.topology_text.specs.declared.kind.Kind.TheVariants as kind
 use Rattle.elaborate.specs.Path.{next_by_part, next_part, path_from, port_at_demux, ported_regions}
 use Rattle.elaborate.specs.PathLaws.{PageHasOnePath, PathBeginsAtManager, PathEndsAtEndpoint, PathFollowsLinks, is_endpoint}
 use Rattle.elaborate.specs.Plan.{PlanNode, demux_itself, entrance, entrances, first_part, input_demux, itself, plan_graph, plan_nodes, targets}

@@ -11,8 +11,8 @@ use Rattle.node_graph.proofs.Ways.{links-lead_deeper, ranked-acyclic}
 use Rattle.topology.proofs.AcceptedFacts.{accepted-is_acyclic, accepted-is_clean, below-targets, graph-long, target-known}
 use Rattle.topology.specs.Document.{DocumentNode, graph_of, is_manager, joins_links, node_at, uppers_of}
 use Rattle.topology.specs.Refused.{IsAccepted}
-use Rattle.topology.specs.declared.kind.Kind.{Kind}
-use Rattle.topology.specs.declared.kind.Kind.TheVariants as kind
+use Rattle.topology_text.specs.declared.kind.Kind.{Kind}
+use Rattle.topology_text.specs.declared.kind.Kind.TheVariants as kind
 use Rattle.elaborate.specs.Laws.{LowersAreNodes, OneIsAbove, PlanIsAcyclic, is_mux}
 use Rattle.elaborate.specs.Plan.{PlanNode, entrance, first_part, is_crossbar, plan_graph, plan_nodes, target_mux, targets}
 use Rattle.elaborate.specs.declared.part.Part.{Part}

@@ -11,8 +11,8 @@ use Rattle.node_graph.proofs.Ways.{above-below, upper-known}
 use Rattle.topology.proofs.AcceptedFacts.{accepted-is_clean, below-targets, graph-long, target-known}
 use Rattle.topology.specs.Document.{DocumentNode, graph_of, is_manager, joins_links, node_at, uppers_of}
 use Rattle.topology.specs.Refused.{IsAccepted}
-use Rattle.topology.specs.declared.kind.Kind.{Kind}
-use Rattle.topology.specs.declared.kind.Kind.TheVariants as kind
+use Rattle.topology_text.specs.declared.kind.Kind.{Kind}
+use Rattle.topology_text.specs.declared.kind.Kind.TheVariants as kind
 use Rattle.elaborate.specs.Laws.{NoneIsAbove, SomeIsAbove, is_first}
 use Rattle.elaborate.specs.Plan.{PlanNode, demux_itself, entrance, entrances, first_part, input_demux, is_crossbar, itself, plan_graph, plan_nodes, split_part, target_mux, targets}
 use Rattle.elaborate.specs.declared.part.Part.{Part}

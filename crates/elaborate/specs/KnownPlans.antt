@@ -2,7 +2,7 @@
 use Rattle.std.specs.Prelude.{◌≡◌, ◌++◌, ◌+◌, ◌*◌, ℕ, List, [], ◌∷◌, Bool, false, true, codes, decimal, length, map}
 use Rattle.topology.specs.Document.{DocumentNode}
 use Rattle.topology.specs.KnownDocuments.{chooses, crossed_ways, manager, memory, region, small_system, two_wide}
-use Rattle.topology.specs.declared.kind.Kind.TheVariants as kind
+use Rattle.topology_text.specs.declared.kind.Kind.TheVariants as kind
 use Rattle.elaborate.specs.Path.{path_of, target_of}
 use Rattle.elaborate.specs.Plan.{PlanLink, PlanNode, plan_links, plan_nodes}
 use Rattle.elaborate.specs.declared.part.Part.{Part}

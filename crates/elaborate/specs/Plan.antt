@@ -3,9 +3,9 @@ use Rattle.std.specs.Prelude.{◌+◌, ◌*◌, ◌++◌, ℕ, suc, List, [], �
 use Rattle.node_graph.specs.Graph.{Graph, numbers}
 use Rattle.node_graph.specs.Order.{place_in}
 use Rattle.topology.specs.Document.{DocumentNode, first_link, inputs_of, link_kind_of, no_link, node_at, plan_nodes_at, targets_of, uppers_of}
-use Rattle.topology.specs.declared.kind.Kind.{Kind}
+use Rattle.topology_text.specs.declared.kind.Kind.{Kind}
 use Rattle.topology.specs.declared.link.LinkKind.{LinkKind}
-use Rattle.topology.specs.declared.kind.Kind.TheVariants as kind
+use Rattle.topology_text.specs.declared.kind.Kind.TheVariants as kind
 use Rattle.elaborate.specs.declared.part.Part.{Part}
 use Rattle.elaborate.specs.declared.part.Part.TheVariants as part
 

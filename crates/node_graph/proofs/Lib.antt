@@ -6,3 +6,4 @@ pub mod Visited
 pub mod Searched
 pub mod Ordered
 pub mod Finds
+pub mod Ranked

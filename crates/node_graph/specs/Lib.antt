@@ -5,3 +5,4 @@ pub mod Simple
 pub mod Inside
 pub mod Visits
 pub mod Search
+pub mod Ranks

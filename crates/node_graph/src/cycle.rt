@@ -1,7 +1,8 @@
 //! The nodes that stand on cycles.
 
-ghost use Rattle.std.specs.Prelude.{◌≡◌, ◌<◌, ◌+◌, ◌++◌, ℕ, IfOk, OnOk, [], ◌∷◌, cond, false, find, length, replicate, true};
+ghost use Rattle.std.specs.Prelude.{◌≡◌, ◌<◌, ◌+◌, ◌++◌, ℕ, IfOk, IfSome, OnOk, [], ◌∷◌, cond, false, find, length, not, replicate, true};
 ghost use Rattle.node_graph.specs.Graph.{has_way, is_in, is_on_cycle, nodes_below, numbers};
+ghost use Rattle.node_graph.specs.Ranks.{is_risen};
 ghost use Rattle.node_graph.specs.Search.{IsSearch, NotesFound, PassesNode};
 
 use crate::graph::NodeGraph;
@@ -16,12 +17,53 @@ pub(crate) struct Search {
 }
 
 impl NodeGraph {
-    /// The first node that stands on a cycle.
+    /// The first node that stands on a cycle. Time is linear in the numbers of nodes and links.
     ///
     /// # Errors
     ///
     /// There was no memory for the search.
     pub fn first_on_cycle(&self, alloc: Global) -> Result<Option<u32>, AllocError>
+        ensures { IfOk result (λ found. found ≡ find (is_on_cycle self.now) (numbers (length self.now))) }
+    {
+        let ranks = self.ranks(alloc)?;
+        match self.told_by(alloc, &ranks)? {
+            Some(found) => Ok(found),
+            None => self.search_each(alloc),
+        }
+    }
+
+    // The first node that stands on a cycle, where these ranks tell it.
+    fn told_by(&self, alloc: Global, ranks: &[usize]) -> Result<Option<Option<u32>>, AllocError>
+        ensures { IfOk result (λ told. IfSome told (λ found. found ≡ find (is_on_cycle self.now) (numbers (length self.now)))) }
+    {
+        if !self.never_falls(ranks) {
+            return Ok(None);
+        }
+        let Some(node) = self.first_not_risen(ranks) else {
+            return Ok(Some(None));
+        };
+        if self.is_on_cycle(alloc, node)? {
+            Ok(Some(Some(node)))
+        } else {
+            Ok(None)
+        }
+    }
+
+    // The first node of which not each link leads to a higher rank.
+    fn first_not_risen(&self, ranks: &[usize]) -> Option<u32>
+        ensures first { result ≡ find (λ node. not (is_risen self.now ranks.now node)) (numbers (length self.now)) }
+        ensures known { IfSome result (λ node. node < length self.now) }
+    {
+        for node in 0..self.count() {
+            if !self.is_risen(node, ranks) {
+                return Some(node);
+            }
+        }
+        None
+    }
+
+    // The first node that stands on a cycle, by a search from each node.
+    fn search_each(&self, alloc: Global) -> Result<Option<u32>, AllocError>
         ensures { IfOk result (λ found. found ≡ find (is_on_cycle self.now) (numbers (length self.now))) }
     {
         for node in 0..self.count() {

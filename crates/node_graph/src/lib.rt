@@ -8,3 +8,4 @@ mod cycle;
 mod graph;
 mod graph_laws;
 mod order;
+mod ranks;

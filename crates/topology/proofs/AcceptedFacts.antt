@@ -12,7 +12,7 @@ use Rattle.refusals.specs.declared.cause.Cause.{Cause}
 use Rattle.topology.specs.Accepted.{AcceptedIsAcyclic, AcceptedIsClean, LinksAreHandedDown}
 use Rattle.topology.specs.Document.{DocumentNode, graph_of, link_below, named, names_of, no_link, node_at, node_of_kind, targets_of}
 use Rattle.topology.specs.Refused.{checks, first_cause, has_bad_region, has_fan_in, has_id_overflow, has_lite_mismatch, has_width_mismatch, is_cyclic, is_duplicate, is_loose, is_too_large, names_unknown, or_cause, regions_overlap}
-use Rattle.topology.specs.declared.kind.Kind.TheVariants.{Slice}
+use Rattle.topology_text.specs.declared.kind.Kind.TheVariants.{Slice}
 
 -- ---- no check holds of a node
 

@@ -1,3 +1,2 @@
-pub mod ValueLemmas
 pub mod AcceptedFacts
 pub mod WiringFacts

@@ -10,17 +10,10 @@ use Rattle.std.proofs.lemmas.List.Sums.{position_or_len_is}
 use Rattle.address_map.specs.declared.region.Region.{Region}
 use Rattle.node_graph.specs.Graph.{numbers}
 use Rattle.topology.specs.Document.{DocumentNode, LinkKind, link_kind_of, node_at, node_of_kind}
-use Rattle.topology.specs.Node.{node_seen, nodes_seen}
 use Rattle.topology.specs.Refused.{IsAccepted}
-use Rattle.topology.specs.declared.node.Node.{Node}
 use Rattle.topology.specs.Wiring.{regions_of}
-use Rattle.topology.specs.declared.kind.Kind.TheVariants.{Slice}
+use Rattle.topology_text.specs.declared.kind.Kind.TheVariants.{Slice}
 use Rattle.topology.proofs.AcceptedFacts.{accepted-is_clean}
-
-pub seen-at : (xs : List Node) (place : ℕ) (x : Node) → place < length xs → x ≡ get_or xs place x → node_seen x ≡ node_at (nodes_seen xs) place
-seen-at [] place x less e = absurd (omega arith)
-seen-at (y ∷ ys) zero x less e = ap node_seen e
-seen-at (y ∷ ys) (suc place) x less e = seen-at ys place x (omega arith) e
 
 pub few-nodes : (nodes : List DocumentNode) → IsAccepted nodes → length nodes ≤ 256
 few-nodes nodes accepted =

@@ -1,58 +1,10 @@
--- The nodes of a document: their keys, the nodes that they name, and what the links below each of them are.
+-- The nodes that a document's nodes name, and what the links below each of them are.
 use Rattle.std.specs.Prelude.{◌==◌, ◌+◌, ◌-◌, ◌*◌, ◌/◌, ℕ, zero, suc, List, [], ◌∷◌, Bool, true, false, Option, length, filter_map, map, max, bytes_eq, position, slice_index_or, if◌then◌else◌}
 use Rattle.node_graph.specs.Graph.{Graph, each_once, handed_down, nodes_above}
-use Rattle.topology.specs.declared.kind.Kind.{Kind}
 pub use Rattle.topology.specs.declared.link.LinkKind.{LinkKind}
-use Rattle.topology.specs.declared.kind.Kind.TheVariants.{Manager, Memory, LiteMemory, Slice, Mux, Demux, Crossbar, Remap, Up, Down, Lite}
-use Rattle.topology.specs.declared.kind.Span.{Span}
-
--- ---- nodes
-
--- a span of addresses, and the name of the node that serves them
-pub record NamedRegion : Type 0 where
-  pub base : ℕ
-  pub size : ℕ
-  pub to : List ℕ
-
--- A node with its keys. A key that the kind doesn't have is 0 or empty.
-pub record DocumentNode : Type 0 where
-  pub name : List ℕ
-  pub kind : Kind
-  pub to : List ℕ
-  pub region : List NamedRegion
-  pub bus : ℕ
-  pub id_width : ℕ
-  pub depth : ℕ
-  pub base : ℕ
-  pub size : ℕ
-  pub fill : ℕ
-  pub read_only : List Span
-  pub hole : List Span
-  pub accept : List ℕ
-  pub give : List ℕ
-
--- a node of this kind with none of the other keys
-abbrev pub node_of_kind : List ℕ → Kind → DocumentNode
-node_of_kind name kind = record {
-  name = name;
-  kind = kind;
-  to = [];
-  region = [];
-  bus = 0;
-  id_width = 0;
-  depth = 0;
-  base = 0;
-  size = 0;
-  fill = 0;
-  read_only = [];
-  hole = [];
-  accept = [];
-  give = [];
-}
-
--- the node of this number, counted from 0
-abbrev pub node_at : List DocumentNode → ℕ → DocumentNode
-node_at nodes place = slice_index_or nodes place (node_of_kind [] Slice)
+pub use Rattle.topology_text.specs.Document.{DocumentNode, NamedRegion, node_at, node_of_kind}
+use Rattle.topology_text.specs.declared.kind.Kind.{Kind}
+use Rattle.topology_text.specs.declared.kind.Kind.TheVariants.{Manager, Memory, LiteMemory, Mux, Demux, Crossbar, Remap, Up, Down, Lite}
 
 -- ---- kinds
 
@@ -123,7 +75,7 @@ digits_up_to (suc most) number = if number == 0 then 0 else suc (digits_up_to mo
 abbrev pub input_digits : ℕ → ℕ
 input_digits inputs = digits_up_to 32 (inputs - 1)
 
--- several links merged_link: the protocol and the bus of the first, and IDs that are widened by the number of the input
+-- several links made one: the protocol and the bus of the first, and IDs that are widened by the number of the input
 abbrev pub merged_link : List LinkKind → LinkKind
 merged_link links = record (first_link links) { id_width = widest links + input_digits (length links) }
 

@@ -3,8 +3,8 @@ use Rattle.std.specs.Prelude.{◌≡◌, ℕ, List, [], ◌∷◌, Some, None, c
 use Rattle.refusals.specs.declared.cause.Cause.TheVariants.{DuplicateName, UnknownName, FanIn, Loose, Cycle, BadRegion, Overlap, WidthMismatch, IdOverflow, LiteMismatch}
 use Rattle.topology.specs.Document.{DocumentNode, NamedRegion, node_of_kind}
 use Rattle.topology.specs.Refused.{fault_of}
-use Rattle.topology.specs.declared.kind.Kind.{Kind}
-use Rattle.topology.specs.declared.kind.Kind.TheVariants.{Manager, Memory, LiteMemory, Slice, Mux, Demux, Crossbar, Remap, Up, Lite}
+use Rattle.topology_text.specs.declared.kind.Kind.{Kind}
+use Rattle.topology_text.specs.declared.kind.Kind.TheVariants.{Manager, Memory, LiteMemory, Slice, Mux, Demux, Crossbar, Remap, Up, Lite}
 
 -- ---- nodes
 

@@ -7,9 +7,9 @@ use Rattle.node_graph.specs.Graph.{is_on_cycle, numbers}
 use Rattle.refusals.specs.declared.cause.Cause.{Cause}
 use Rattle.refusals.specs.declared.cause.Cause.TheVariants.{DuplicateName, UnknownName, FanIn, Loose, Cycle, BadRegion, Overlap, WidthMismatch, IdOverflow, LiteMismatch, TooLarge}
 use Rattle.topology.specs.Document.{DocumentNode, LinkKind, NamedRegion, first_link, graph_of, inputs_of, is_manager, is_memory, joins_links, link_kind_of, named, names_of, node_at, plan_links_at, plan_nodes_at, targets_of, uppers_of}
-use Rattle.topology.specs.declared.kind.Kind.{Kind}
-use Rattle.topology.specs.declared.kind.Kind.TheVariants.{Memory, LiteMemory, Slice, Mux, Crossbar, Up, Down, Lite}
-use Rattle.topology.specs.declared.kind.Span.{Span}
+use Rattle.topology_text.specs.declared.kind.Kind.{Kind}
+use Rattle.topology_text.specs.declared.kind.Kind.TheVariants.{Memory, LiteMemory, Slice, Mux, Crossbar, Up, Down, Lite}
+use Rattle.topology_text.specs.declared.kind.Span.{Span}
 
 -- A range of a memory is bad where it has no address, isn't made of whole lines of 128 bytes, or isn't inside the memory,
 -- whose addresses are `size` from `base` on.

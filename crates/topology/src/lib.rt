@@ -2,20 +2,13 @@
 #![tactic(auto)]
 
 mod accepted;
-mod element;
-mod form;
-mod kind;
 mod known;
 mod link;
-mod node;
-mod read;
-mod row;
-mod value;
 mod wiring;
 
 pub use accepted::laws_of_accepted;
-pub use kind::{Kind, Span};
 pub use known::known_documents;
 pub use link::LinkKind;
 pub use refusals::{Cause, DocFault, Refusal};
+pub use topology_text::{Kind, Span};
 pub use wiring::Wiring;

@@ -1,17 +1,15 @@
 //! The nodes of an accepted document, by their numbers from 0. A clause sees a wiring as their list.
 
-ghost use Rattle.std.specs.Prelude.{◌≡◌, ◌<◌, ◌≤◌, Some, length, map, slice_get, string_bytes};
+ghost use Rattle.std.specs.Prelude.{◌≡◌, ◌<◌, ◌≤◌, length};
 ghost use Rattle.topology.specs.Document.{DocumentNode, link_kind_of, node_at, targets_of, uppers_of};
-ghost use Rattle.topology.specs.Node.{nodes_seen, regions_seen};
 ghost use Rattle.topology.specs.Refused.{IsAccepted};
 ghost use Rattle.topology.specs.Wiring.{IsWired, manager_named, region_lists, regions_of};
 
-use crate::kind::{Kind, Span};
 use crate::link::LinkKind;
-use crate::node::Node;
 use address_map::Region;
 use node_graph::NodeGraph;
 use std::marker::Model;
+use topology_text::{Kind, Node, Span};
 
 /// The nodes of an accepted document, with their keys, and what is found of them once: the nodes above
 /// and below each, the links below it, and the targets of its regions.
@@ -26,14 +24,13 @@ pub struct Wiring {
 impl Model for Wiring {
     ghost use Rattle.std.specs.Prelude.{List};
     ghost use Rattle.topology.specs.Document.{DocumentNode};
-    ghost use Rattle.topology.specs.Node.{nodes_seen};
     ghost use Rattle.topology.specs.Wiring.{IsWired, region_lists};
 
     ghost Value = { List DocumentNode };
 
-    ghost view = { λ wiring. nodes_seen wiring.nodes.items };
+    ghost view = { λ wiring. wiring.nodes.items };
 
-    ghost invariant = { λ wiring. IsWired (nodes_seen wiring.nodes.items) wiring.graph wiring.links.items (region_lists wiring.regions.items) };
+    ghost invariant = { λ wiring. IsWired wiring.nodes.items wiring.graph wiring.links.items (region_lists wiring.regions.items) };
 }
 
 impl Wiring {
@@ -44,8 +41,8 @@ impl Wiring {
         links: Vec<LinkKind>,
         regions: Vec<Vec<Region>>,
     ) -> Wiring
-        requires { IsWired (nodes_seen nodes.items) graph links.items (region_lists regions.items) }
-        ensures { result ≡ nodes_seen nodes.items }
+        requires { IsWired nodes.items graph links.items (region_lists regions.items) }
+        ensures { result ≡ nodes.items }
     {
         Wiring {
             nodes,
@@ -69,7 +66,7 @@ impl Wiring {
         requires { node < length self.now }
         ensures { result.now ≡ (node_at self.now node).name }
     {
-        &self.node(node).name
+        self.node(node).name()
     }
 
     /// What the node is.
@@ -77,7 +74,7 @@ impl Wiring {
         requires { node < length self.now }
         ensures { result ≡ (node_at self.now node).kind }
     {
-        self.node(node).kind
+        self.node(node).kind()
     }
 
     /// Its key `bus`, in bytes; 0 for a kind without it.
@@ -85,7 +82,7 @@ impl Wiring {
         requires { node < length self.now }
         ensures { result ≡ (node_at self.now node).bus }
     {
-        self.node(node).numbers.bus
+        self.node(node).bus()
     }
 
     /// Its key `id_width`, in bits; 0 for a kind without it.
@@ -93,7 +90,7 @@ impl Wiring {
         requires { node < length self.now }
         ensures { result ≡ (node_at self.now node).id_width }
     {
-        self.node(node).numbers.id_width
+        self.node(node).id_width()
     }
 
     /// Its key `depth`: how many beats each queue of a link below it has room for; 0 for a kind without
@@ -102,7 +99,7 @@ impl Wiring {
         requires { node < length self.now }
         ensures { result ≡ (node_at self.now node).depth }
     {
-        self.node(node).numbers.depth
+        self.node(node).depth()
     }
 
     /// Its key `base`: the lowest address of a memory; 0 for another kind.
@@ -110,7 +107,7 @@ impl Wiring {
         requires { node < length self.now }
         ensures { result ≡ (node_at self.now node).base }
     {
-        self.node(node).numbers.base
+        self.node(node).base()
     }
 
     /// Its key `size`: the number of bytes of a memory; 0 for another kind.
@@ -118,7 +115,7 @@ impl Wiring {
         requires { node < length self.now }
         ensures { result ≡ (node_at self.now node).size }
     {
-        self.node(node).numbers.size
+        self.node(node).size()
     }
 
     /// Its key `fill`: what a memory's bytes are at first; 0 for another kind.
@@ -126,7 +123,7 @@ impl Wiring {
         requires { node < length self.now }
         ensures { result ≡ (node_at self.now node).fill }
     {
-        self.node(node).numbers.fill
+        self.node(node).fill()
     }
 
     /// Its key `accept`, in rounds; empty for a kind without it.
@@ -134,7 +131,7 @@ impl Wiring {
         requires { node < length self.now }
         ensures { result.now ≡ (node_at self.now node).accept }
     {
-        &self.node(node).accept
+        self.node(node).accept()
     }
 
     /// Its key `give`, in rounds; empty for a kind without it.
@@ -142,7 +139,7 @@ impl Wiring {
         requires { node < length self.now }
         ensures { result.now ≡ (node_at self.now node).give }
     {
-        &self.node(node).give
+        self.node(node).give()
     }
 
     /// Its key `read_only`: the ranges of a memory that may not be written; empty for another kind.
@@ -150,7 +147,7 @@ impl Wiring {
         requires { node < length self.now }
         ensures { result.now ≡ (node_at self.now node).read_only }
     {
-        &self.node(node).read_only
+        self.node(node).read_only()
     }
 
     /// Its key `hole`: the ranges of a memory that may not be read; empty for another kind.
@@ -158,7 +155,7 @@ impl Wiring {
         requires { node < length self.now }
         ensures { result.now ≡ (node_at self.now node).hole }
     {
-        &self.node(node).hole
+        self.node(node).hole()
     }
 
     /// The regions of a demux or crossbar in the order of the document, each with its target as its
@@ -209,18 +206,7 @@ impl Wiring {
     // The node of this number.
     fn node(&self, node: u32) -> &Node
         requires { node < length self.now }
-        ensures name { string_bytes result.now.name ≡ (node_at self.now node).name }
-        ensures kind { result.now.kind ≡ (node_at self.now node).kind }
-        ensures bus { result.now.numbers.bus ≡ (node_at self.now node).bus }
-        ensures id_width { result.now.numbers.id_width ≡ (node_at self.now node).id_width }
-        ensures depth { result.now.numbers.depth ≡ (node_at self.now node).depth }
-        ensures base { result.now.numbers.base ≡ (node_at self.now node).base }
-        ensures size { result.now.numbers.size ≡ (node_at self.now node).size }
-        ensures fill { result.now.numbers.fill ≡ (node_at self.now node).fill }
-        ensures accept { result.now.accept.items ≡ (node_at self.now node).accept }
-        ensures give { result.now.give.items ≡ (node_at self.now node).give }
-        ensures read_only { result.now.read_only.items ≡ (node_at self.now node).read_only }
-        ensures hole { result.now.hole.items ≡ (node_at self.now node).hole }
+        ensures { result.now ≡ node_at self.now node }
     {
         &self.nodes[node as usize]
     }
