@@ -1,1 +1,5 @@
+pub mod DataLemmas
 pub mod EntryLemmas
+pub mod PartPlaces
+pub mod ReadOrder
+pub mod WriteOrder

@@ -76,18 +76,13 @@ module _ {D : Type 0} (service : Service D) where
         (t : ℕ) →
         OwnWrites (of_key number_of_write t entries) (of_key number_of_address t addresses) (of_key number_of_data t beats) (of_key number_of_response t responses)
 
--- The reads of a transaction: its first ones are answered, and the others are open, of which the first may be answered in
--- part.
-pub record OwnReads (entries : List ReadEntry) (addresses : List Addr) (beats : List RBeat) : Type 0 where
-  pub others : map read_waiting entries ≡ pending len_of_address (length beats) addresses
-  pub addresses_first : length beats ≤ beats_by len_of_address addresses
-
 -- what the open reads have to do with what has passed on AR and R
 pub record TracksReads (shares : ℕ → Share) (entries : List ReadEntry) (addresses : List Addr) (beats : List RBeat) : Type 0 where
-  -- those that aren't wholly answered are open, and those of an ID, and of a transaction, are answered in order
+  -- those that aren't wholly answered are open, and those of an ID are answered in order
   pub open_reads : map read_waiting entries ≡ held len_of_address id_of_address addresses (map (λ r. r.id) beats)
   pub in_order_of_id : InOrderOfId (map burst_asked addresses) (map read_reply beats)
-  pub own : (t : ℕ) → OwnReads (of_key number_of_read t entries) (of_key number_of_address t addresses) (of_key number_of_read_data t beats)
+  -- and so are those of a transaction, whatever their IDs
+  pub own : (t : ℕ) → map read_waiting (of_key number_of_read t entries) ≡ pending len_of_address (length (of_key number_of_read_data t beats)) (of_key number_of_address t addresses)
   -- each beat has all lanes of the widest bus, and the status that is due to it
   pub lanes_are_whole : All (λ (r : RBeat). length r.lanes ≡ 128) beats
   pub statuses : (t : ℕ) → IsPrefix (map (λ (r : RBeat). r.resp) (of_key number_of_read_data t beats)) (shares t).responses
