@@ -1,4 +1,5 @@
 pub mod Carries
+pub mod Family
 pub mod Kind
 pub mod KindHolds
 pub mod KindLaws
