@@ -8,4 +8,4 @@
 
 mod progress_laws;
 
-pub use progress_laws::never_stuck;
+pub use progress_laws::{laws_of_transfers, never_stuck};
