@@ -1,5 +1,6 @@
 pub mod CarryLemmas
+pub mod FamilyLemmas
 pub mod FormLemmas
 pub mod OneLinkLemmas
 pub mod OneUpperLemmas
-pub mod FamilyLemmas
+pub mod PacedLemmas
