@@ -3,4 +3,5 @@ pub mod EntryLemmas
 pub mod OrderAnswers
 pub mod PartPlaces
 pub mod ReadOrder
+pub mod TableLemmas
 pub mod WriteOrder

@@ -1,3 +1,4 @@
+pub mod PacedRows
 pub mod Parts
 pub mod Places
 pub mod Service
