@@ -1,5 +1,6 @@
 pub mod IdleLemmas
 pub mod LocalLemmas
+pub mod SliceHolds
 pub mod TableLemmas
 pub mod TrailLemmas
 pub mod WayLemmas

@@ -1,0 +1,7 @@
+-- A node does as its kind says.
+use Rattle.std.proofs.Common.{refl}
+use Rattle.net_kinds.specs.NodeTable.{NodesDoAsTheirKind}
+use Rattle.net_kinds.specs.declared.node.Node.TheVariants.{Slice}
+
+pub nodes-do : NodesDoAsTheirKind
+nodes-do round links (Slice n) = record { can = λ can. can; table = refl; out = refl; fact = λ fact. fact }

@@ -1,0 +1,3 @@
+pub mod NodeHolds
+pub mod NodeKind
+pub mod NodeTable

@@ -1,0 +1,31 @@
+-- All kinds of node, as one.
+use Rattle.memory_end.specs.Events.{Access}
+use Rattle.node_core.specs.Acted.{Acted}
+use Rattle.node_shape.specs.Family.{OneOf, family}
+use Rattle.node_shape.specs.Kind.{Kind}
+use Rattle.net_kinds.specs.declared.node.Node.{Node}
+use Rattle.net_kinds.specs.declared.node.Node.TheVariants.{Slice}
+use Rattle.slice_node.specs.SliceState.{SliceState}
+use Rattle.slice_node.specs.SliceTrail.{slice_kind}
+
+pub data KindName : Type 0 where
+  ASlice : KindName
+
+-- the states of a kind's nodes
+abbrev pub StateOf : KindName → Type 0
+StateOf ASlice = SliceState
+
+-- the state of a node: its kind, and its state
+abbrev pub NodeState : Type 0
+NodeState = OneOf StateOf
+
+abbrev pub kind_named : (name : KindName) → Kind (StateOf name) Access
+kind_named ASlice = slice_kind
+
+-- a node is of one of these kinds
+abbrev pub node_kind : Kind NodeState Access
+node_kind = family kind_named
+
+-- a node that acted, as its state and its moves
+abbrev pub node_view : Node → Acted NodeState
+node_view (Slice n) = record { state = record { kind = ASlice; state = n.state }; out = n.out }

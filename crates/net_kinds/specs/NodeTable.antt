@@ -1,0 +1,34 @@
+-- What a node does, by its kind.
+use Rattle.std.specs.Prelude.{◌≡◌, ℕ, List}
+use Rattle.axi_link.specs.LinkView.{LinkView}
+use Rattle.axi_link.specs.declared.out.Out.{Out}
+use Rattle.net_kinds.specs.NodeKind.{node_kind, node_view}
+use Rattle.net_kinds.specs.declared.node.Node.{Node}
+use Rattle.net_kinds.specs.declared.node.Node.TheVariants.{Slice}
+use Rattle.slice_node.specs.SliceTable.{CanSlice, slice_table}
+
+-- it may decide in this round on these links
+abbrev pub CanNode : ℕ → List LinkView → Node → Type 0
+CanNode round links (Slice n) = CanSlice links n.state
+
+-- the node after it decided
+abbrev pub node_table : ℕ → List LinkView → Node → Node
+node_table round links (Slice n) = Slice (slice_table links n.state)
+
+-- the moves that it chose
+abbrev pub node_out : Node → Out
+node_out (Slice n) = n.out
+
+-- what holds of it between rounds
+abbrev pub node_fact : Node → Type 0
+node_fact (Slice n) = Unit {0}
+
+-- a node does what its kind does
+pub record DoesAsItsKind (round : ℕ) (links : List LinkView) (node : Node) : Type 0 where
+  pub can : node_kind.can round links (node_view node).state → CanNode round links node
+  pub table : node_view (node_table round links node) ≡ node_kind.table round links (node_view node).state
+  pub out : (node_view node).out ≡ node_out node
+  pub fact : node_fact node → node_kind.fact (node_view node).state
+
+abbrev pub NodesDoAsTheirKind : Type 0
+NodesDoAsTheirKind = (round : ℕ) (links : List LinkView) (node : Node) → DoesAsItsKind round links node

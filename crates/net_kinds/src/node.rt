@@ -1,0 +1,46 @@
+//! `Node`, seen in clauses as its kind's own node.
+
+ghost use Rattle.std.specs.Prelude.{◌≡◌};
+
+use axi_link::{Link, Out};
+use node_core::Step;
+use slice_node::SliceNode;
+use std::marker::{Send, Sync};
+
+/// A node of a network.
+#[derive(Drop)]
+pub enum Node {
+    /// Between two links, where it passes every beat on a round later.
+    Slice(SliceNode),
+}
+
+impl Step for Node {
+    ghost use Rattle.net_kinds.specs.NodeTable.{CanNode, node_fact, node_out, node_table};
+
+    ghost can = { CanNode };
+
+    ghost table = { node_table };
+
+    ghost moves = { node_out };
+
+    ghost fact = { node_fact };
+
+    fn decide(&mut self, round: u64, links: &[Link]) {
+        match self {
+            Node::Slice(slice) => slice.decide(round, links),
+        }
+    }
+
+    fn out(&self) -> &Out {
+        match self {
+            Node::Slice(slice) => slice.out(),
+        }
+    }
+}
+
+fn crosses<T: Send + Sync>(_value: &T) {}
+
+/// A node may be sent to another thread, and lent to one.
+pub fn crosses_threads(node: &Node) {
+    crosses(node);
+}
