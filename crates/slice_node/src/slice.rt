@@ -1,6 +1,6 @@
 //! `SliceNode`, seen in clauses as its two links and its takes and puts of the round.
 
-ghost use Rattle.std.specs.Prelude.{◌≡◌};
+ghost use Rattle.std.specs.Prelude.{◌≡◌, ◌<◌, true};
 ghost use Rattle.node_core.specs.Acted.{opened};
 ghost use Rattle.slice_node.specs.SliceState.{new_slice};
 ghost use Rattle.slice_node.specs.SliceTable.{CanSlice, slice_table};
@@ -39,6 +39,14 @@ impl SliceNode {
             lower,
             out: Out::default(),
         }
+    }
+
+    /// Whether its links are among so many.
+    #[cfg(test)]
+    pub(crate) fn has_links(&self, count: usize) -> bool
+        ensures { result ≡ true → (self.now.state.upper < count) × (self.now.state.lower < count) }
+    {
+        (self.upper as usize) < count && (self.lower as usize) < count
     }
 
     /// Does each row of the table.
