@@ -4,4 +4,5 @@ pub mod OrderAnswers
 pub mod PartPlaces
 pub mod ReadOrder
 pub mod TableLemmas
+pub mod TrailLemmas
 pub mod WriteOrder
