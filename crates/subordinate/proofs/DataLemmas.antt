@@ -1,5 +1,5 @@
 -- Write data goes to the oldest write that lacks some.
-use Rattle.std.proofs.Common.{◌≡◌, ◌≢◌, ℕ, ◌+◌, ◌<◌, ◌≤◌, ◌==◌, suc, Bool, true, false, cond, List, [], ◌∷◌, ◌++◌, Option, Some, None, length, map, take, drop, refl, sym, ◌∙◌, ap, arith, inl, inr, length-append}
+use Rattle.std.proofs.Common.{◌≡◌, ◌≢◌, ℕ, ◌+◌, ◌<◌, ◌≤◌, ◌==◌, suc, true, false, cond, List, [], ◌∷◌, ◌++◌, Some, None, length, map, take, drop, refl, sym, ◌∙◌, ap, arith, inl, inr, length-append}
 use Rattle.std.specs.Prelude.{All, filter}
 use Rattle.std.proofs.lemmas.Bool.{cases_eq, cases_lt, cases_Bool, lt-ltb, le-ltb, ltb-true}
 use Rattle.std.proofs.lemmas.List.{length-drop, length-take-le, take-append-le, drop-append-le, take_all, drop_all}
@@ -8,7 +8,7 @@ use Rattle.axi_beats.specs.Response.{worst_of}
 use Rattle.axi_beats.specs.declared.beat.Addr.{Addr}
 use Rattle.axi_beats.specs.declared.beat.WBeat.{WBeat}
 use Rattle.axi_beats.specs.declared.response.Resp.{Resp}
-use Rattle.axi_trail.specs.Waiting.{Waiting, advanced, beats_by}
+use Rattle.axi_trail.specs.Waiting.{advanced, beats_by}
 use Rattle.axi_trail.proofs.WaitingFacts.{advanced-last, advanced-more}
 use Rattle.burst_address.proofs.Statuses.{worst-assoc, worst-okay}
 use Rattle.plain_lists.proofs.KeyLemmas.{filter_cons, filter_skip, of_key-cons, of_key-skip}

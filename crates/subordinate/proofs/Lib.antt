@@ -1,5 +1,6 @@
 pub mod DataLemmas
 pub mod EntryLemmas
+pub mod IdleLemmas
 pub mod OrderAnswers
 pub mod PartPlaces
 pub mod ReadOrder

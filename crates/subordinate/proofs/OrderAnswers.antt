@@ -1,8 +1,8 @@
 -- A subordinate answers as it should.
-use Rattle.std.proofs.Common.{◌≡◌, ℕ, ◌+◌, ◌<◌, ◌≤◌, ◌==◌, ◌&&◌, suc, true, false, cond, List, [], ◌∷◌, ◌++◌, length, map, take, drop, refl, sym, ◌∙◌, ap, subst, arith, eq-eqb, inl, inr, length-append, IsTrue}
+use Rattle.std.proofs.Common.{◌≡◌, ℕ, ◌+◌, ◌<◌, ◌≤◌, ◌==◌, ◌&&◌, suc, true, false, List, [], ◌∷◌, ◌++◌, length, map, take, drop, refl, sym, ◌∙◌, ap, subst, arith, eq-eqb, inl, inr, length-append, IsTrue}
 use Rattle.std.specs.Prelude.{All, filter, flat_map, nat_lt, zip}
-use Rattle.std.proofs.lemmas.Bool.{le-ltb, lt-ltb, ltb-true, cases_lt}
-use Rattle.std.proofs.lemmas.List.{drop-append-le, drop_at, length-drop, length-map, length-take-le, take-append-le, take_all, take_at}
+use Rattle.std.proofs.lemmas.Bool.{lt-ltb, cases_lt}
+use Rattle.std.proofs.lemmas.List.{drop-append-le, drop_at, length-drop, length-map, take-append-le, take_all, take_at}
 use Rattle.std.proofs.lemmas.List.Elements.{All-head, All-tail}
 use Rattle.std.proofs.lemmas.Simd.{map-map}
 use Rattle.axi_beats.specs.Response.{worst_of}
@@ -13,8 +13,8 @@ use Rattle.axi_beats.specs.declared.response.Resp.{Resp}
 use Rattle.axi_trail.specs.LinkContracts.{Answers, Asks, without_id}
 use Rattle.axi_trail.specs.Schedule.{Progress, Schedule, bytes_on}
 use Rattle.axi_trail.specs.Trail.{Beats}
-use Rattle.axi_trail.specs.Waiting.{Waiting, beats_by, waiting_shown}
-use Rattle.axi_trail.specs.Words.{Asked, burst_asked, held_asked, id_of_waiting, len_of_asked, mark_of_data, marks, number_of_address, number_of_data, number_of_read_data, number_of_response, pending_asked, write_asked, write_reply}
+use Rattle.axi_trail.specs.Waiting.{beats_by, waiting_shown}
+use Rattle.axi_trail.specs.Words.{burst_asked, held_asked, id_of_waiting, len_of_asked, mark_of_data, marks, number_of_address, number_of_data, number_of_read_data, number_of_response, pending_asked, write_asked, write_reply}
 use Rattle.axi_trail.proofs.FilterFacts.{length-marks}
 use Rattle.axi_trail.proofs.StepFacts.{pending-shown}
 use Rattle.axi_trail.proofs.WholeFacts.{answered_after_data}
@@ -27,7 +27,7 @@ use Rattle.subordinate.specs.Parts.{beats_of_parts}
 use Rattle.subordinate.specs.Service.{Service, worst_of_beats}
 use Rattle.subordinate.specs.SubordinateState.{Subordinate}
 use Rattle.subordinate.specs.SubordinateTable.{answer_to, lacks_data}
-use Rattle.subordinate.specs.Tracks.{IsService, KeepsOrder, SuitsService, TracksWrites, data_waiting, ends_with, is_written, len_of_address, number_of_write, tracked, with_data_so_far, write_waiting}
+use Rattle.subordinate.specs.Tracks.{IsService, KeepsOrder, SuitsService, TracksWrites, data_waiting, is_written, len_of_address, number_of_write, tracked, with_data_so_far, write_waiting}
 use Rattle.subordinate.specs.declared.entry.WriteEntry.{WriteEntry}
 use Rattle.subordinate.proofs.DataLemmas.{IsWhole}
 use Rattle.subordinate.proofs.PartPlaces.{beats-without_id, length-parts}

@@ -9,7 +9,7 @@ use Rattle.axi_beats.specs.declared.beat.RBeat.{RBeat}
 use Rattle.axi_beats.specs.declared.response.Resp.{Resp}
 use Rattle.axi_trail.specs.LinkContracts.{without_id}
 use Rattle.axi_trail.specs.Schedule.{Share}
-use Rattle.axi_trail.specs.Waiting.{Waiting, advanced, answered_once, beats_by, fresh, held, pending, waiting_shown}
+use Rattle.axi_trail.specs.Waiting.{advanced, answered_once, beats_by, fresh, held, pending, waiting_shown}
 use Rattle.axi_trail.specs.Words.{InOrderOfId, Reply, beats_due, burst_asked, held_asked, id_of_address, id_of_asked, id_of_reply, id_of_waiting, len_of_asked, number_of_address, number_of_asked, number_of_read_data, number_of_reply, read_reply}
 use Rattle.axi_trail.proofs.DataFacts.{own_answers_within}
 use Rattle.axi_trail.proofs.HeldFacts.{held-answer, held-request, once-own}

@@ -1,5 +1,5 @@
 -- A subordinate's table, of every state and all links.
-use Rattle.std.proofs.Common.{◌≡◌, ◌<◌, ◌&&◌, ◌||◌, ℕ, Bool, true, false, not, cond, List, [], ◌∷◌, Option, Some, None, length, refl, sym, ◌∙◌, ap, inl, inr}
+use Rattle.std.proofs.Common.{◌≡◌, ◌&&◌, ◌||◌, ℕ, Bool, true, false, List, [], ◌∷◌, Option, Some, None, length, refl, ap}
 use Rattle.std.specs.Prelude.{is_some, option_map}
 use Rattle.std.proofs.lemmas.Bool.{ltb-true}
 use Rattle.axi_link.specs.LinkView.{LinkView}
@@ -7,7 +7,7 @@ use Rattle.axi_link.specs.declared.out.Out.{Out}
 use Rattle.axi_link.specs.LinkWords.{has_room, head_of, link_of}
 use Rattle.node_core.specs.Acted.{Acted, no_moves}
 use Rattle.node_core.specs.Fits.{MovesFit, PutFits}
-use Rattle.node_core.specs.Pace.{PaceState, is_let, is_over, pace_after}
+use Rattle.node_core.specs.Pace.{PaceState, is_let, is_over}
 use Rattle.node_core.specs.Paces.{any_row, paces_after, rows_let}
 use Rattle.node_core.specs.Rows.{beat_where, fits, put_of, take_of}
 use Rattle.node_core.specs.declared.paces.EachRow.{EachRow}

@@ -9,16 +9,15 @@ use Rattle.axi_beats.specs.declared.beat.WBeat.{WBeat}
 use Rattle.axi_link.specs.LinkView.{LinkView}
 use Rattle.axi_link.specs.LinkWords.{has_room, head_of}
 use Rattle.axi_link.specs.Moves.{appended, takes_from}
-use Rattle.axi_trail.specs.LinkContracts.{Asks, without_id}
+use Rattle.axi_trail.specs.LinkContracts.{Asks}
 use Rattle.axi_trail.specs.Schedule.{Progress, Schedule}
 use Rattle.axi_trail.specs.Trail.{Beats, beat_taken, joined, moved_below}
 use Rattle.axi_trail.specs.Waiting.{waiting_shown}
-use Rattle.axi_trail.specs.Words.{Mark, burst_asked, len_of_asked, mark_of_data, marks, marks_of, next_mark, number_of_address, number_of_data, pending_asked}
+use Rattle.axi_trail.specs.Words.{Mark, burst_asked, len_of_asked, mark_of_data, marks, marks_of, next_mark, number_of_data, pending_asked}
 use Rattle.axi_trail.proofs.StepFacts.{next_beat, pending-shown}
 use Rattle.node_core.specs.Pace.{PaceState, is_let}
 use Rattle.node_core.specs.Rows.{beat_where, put_of, take_of}
-use Rattle.plain_lists.specs.Keys.{of_key}
-use Rattle.plain_lists.specs.Prefixes.{Agree, IsPrefix}
+use Rattle.plain_lists.specs.Prefixes.{Agree}
 use Rattle.plain_lists.proofs.PrefixLemmas.{Agree_fronts, prefix_append, prefix_flat_map, prefix_itself, prefix_map}
 use Rattle.subordinate.specs.Service.{Service}
 use Rattle.subordinate.specs.SubordinateState.{Subordinate}
@@ -151,8 +150,8 @@ module _ {D : Type 0} (service : Service D) where
         let same : oldest_lacking answered ≡ oldest_lacking s.writes = oldest-after_b (its_rows service links s).b s.writes answers-whole in
         step-aw (moved_aw service links s) (after_w service (moved_w service links s) answered) trail.aw after.w after.b
         (step-w (its_rows service links s).w (head_of link.w) answered trail.aw trail.w after.b
-          (λ done. ap is_some same ∙ both-let (is_some (head_of link.w)) (is_some (oldest_lacking s.writes)) s.paces.w done) data-follows
-          (step-b (its_rows service links s).b s.writes trail.aw trail.w trail.b answers-whole keeps.writes))
+        (λ done. ap is_some same ∙ both-let (is_some (head_of link.w)) (is_some (oldest_lacking s.writes)) s.paces.w done) data-follows
+        (step-b (its_rows service links s).b s.writes trail.aw trail.w trail.b answers-whole keeps.writes))
 
     -- R, AR
     step-r : (done : Bool) (entries : List ReadEntry) → TracksReads schedule.reads entries trail.ar trail.r →

@@ -1,8 +1,8 @@
 -- The open writes follow what passes on AW, W and B, move by move.
-use Rattle.std.proofs.Common.{◌≡◌, ◌≢◌, ℕ, ◌+◌, ◌<◌, ◌≤◌, suc, false, cond, List, [], ◌∷◌, ◌++◌, Option, Some, None, length, map, refl, sym, ◌∙◌, ap, subst, arith, inl, inr, append_assoc, length-append}
+use Rattle.std.proofs.Common.{◌≡◌, ℕ, ◌+◌, ◌<◌, ◌≤◌, suc, false, cond, List, [], ◌∷◌, ◌++◌, Some, length, map, refl, sym, ◌∙◌, ap, subst, arith, inl, inr, append_assoc, length-append}
 use Rattle.std.specs.Prelude.{filter}
 use Rattle.std.proofs.lemmas.Bool.{cases_Bool, cases_eq, cases_lt, lt-ltb}
-use Rattle.std.proofs.lemmas.List.{length-map, map-append}
+use Rattle.std.proofs.lemmas.List.{map-append}
 use Rattle.std.proofs.lemmas.List.Elements.{All-nil, All-push}
 use Rattle.std.proofs.lemmas.Simd.{map-map}
 use Rattle.axi_beats.specs.declared.beat.Addr.{Addr}
@@ -19,7 +19,7 @@ use Rattle.plain_lists.proofs.KeyLemmas.{filter-push, filter_skip, of_key-cons, 
 use Rattle.plain_lists.proofs.PrefixLemmas.{prefix_append, prefix_itself, prefix_map}
 use Rattle.subordinate.specs.Service.{Service}
 use Rattle.subordinate.specs.SubordinateTable.{answer_to, lacks_data, oldest_lacking, with_data}
-use Rattle.subordinate.specs.Tracks.{OwnWrites, TracksWrites, data_waiting, len_of_address, number_of_write, one_answer, tracked, with_data_so_far, write_waiting}
+use Rattle.subordinate.specs.Tracks.{OwnWrites, TracksWrites, data_waiting, len_of_address, number_of_write, one_answer, with_data_so_far, write_waiting}
 use Rattle.subordinate.specs.declared.entry.WriteEntry.{WriteEntry}
 use Rattle.subordinate.proofs.DataLemmas.{IsWhole, address-tracked, beat-tracked, data-behind, lacking-data, lacking-first, lacking-short, oldest-behind, others-data, own-data, requests-stay}
 
