@@ -1,12 +1,12 @@
 -- Each kind shows what every kind has to show.
 use Rattle.memory_end.specs.Events.{Access}
-use Rattle.net_kinds.specs.NodeKind.{ASlice, KindName, kind_named, node_kind}
+use Rattle.net_kinds.specs.NodeKind.{ASlice, KindName, kind_by_name, node_kind}
 use Rattle.node_shape.proofs.FamilyLemmas.{family-holds}
 use Rattle.node_shape.specs.KindHolds.{KindHolds}
 use Rattle.slice_node.proofs.SliceHolds.{slice-holds}
 
-pub each_holds : (name : KindName) → KindHolds (kind_named name)
+pub each_holds : (name : KindName) → KindHolds (kind_by_name name)
 each_holds ASlice = slice-holds Access
 
 pub node_holds : KindHolds node_kind
-node_holds = family-holds kind_named each_holds
+node_holds = family-holds kind_by_name each_holds

@@ -19,12 +19,12 @@ StateOf ASlice = SliceState
 abbrev pub NodeState : Type 0
 NodeState = OneOf StateOf
 
-abbrev pub kind_named : (name : KindName) → Kind (StateOf name) Access
-kind_named ASlice = slice_kind
+abbrev pub kind_by_name : (name : KindName) → Kind (StateOf name) Access
+kind_by_name ASlice = slice_kind
 
 -- a node is of one of these kinds
 abbrev pub node_kind : Kind NodeState Access
-node_kind = family kind_named
+node_kind = family kind_by_name
 
 -- a node that acted, as its state and its moves
 abbrev pub node_view : Node → Acted NodeState
