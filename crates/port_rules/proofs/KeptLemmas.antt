@@ -17,7 +17,7 @@ use Rattle.axi_history.specs.PortHistory.{offer_of, transfer_of, transferred, wa
 use Rattle.axi_history.specs.PortRules.{same_data, same_response, same_read, handshake_rules, least_broken, or_else, rules_of_offer, keeps_address_rules, last_is_on_the_last_beat, strobes_are_on_valid_lanes, response_rules, read_beat_rules, is_not_exokay, responses_of, writes_of, read_beats_of, reads_of, write_address_rules, write_data_rules, write_response_rules, read_address_rules, read_data_rules, axi4_fault}
 use Rattle.axi_history.proofs.HistoryLemmas.{else_parts, least_append, channel_kept, transferred_more, waiting_more}
 use Rattle.port_rules.specs.Offers.{new_offer}
-use Rattle.port_rules.specs.Kept.{Kept, on_fault, new_aw, new_w, kept_after}
+use Rattle.port_rules.specs.Kept.{Kept, on_fault, new_aw, new_w, kept_after_round}
 use Rattle.port_rules.specs.declared.reads.Read.{Read}
 use Rattle.port_rules.specs.OpenReads.{add_ar, add_r}
 use Rattle.port_rules.specs.OpenWrites.{OpenWrites, with_last, add_aw, add_last, add_b}
@@ -150,7 +150,7 @@ unpaired_kept bus k h r held g =
     ∙ ap (λ (o : Option RawAddr). with_offers (new_offer o (offer_of r.aw)) w k.unpaired) (sym held.aw)
     ∙ ap (λ (o : Option WBeat). with_offers (new_aw k r) (new_offer o (offer_of r.w)) k.unpaired) (sym held.w)
 
-pub kept : (bus : ℕ) (k : Kept) (h : List PortRound) (r : PortRound) → Held bus k h → axi4_fault bus h r ≡ None → Held bus (kept_after k r) (h ++ r ∷ [])
+pub kept : (bus : ℕ) (k : Kept) (h : List PortRound) (r : PortRound) → Held bus k h → axi4_fault bus h r ≡ None → Held bus (kept_after_round k r) (h ++ r ∷ [])
 kept bus k h r held none =
     let p1 = else_parts (on_fault 1 (least_broken (write_address_rules bus h r))) (or_else (on_fault 2 (least_broken (write_data_rules bus h r))) (or_else (on_fault 3 (least_broken (write_response_rules h r))) (or_else (on_fault 4 (least_broken (read_address_rules bus h r))) (on_fault 5 (least_broken (read_data_rules h r)))))) none in
     let p2 = else_parts (on_fault 2 (least_broken (write_data_rules bus h r))) (or_else (on_fault 3 (least_broken (write_response_rules h r))) (or_else (on_fault 4 (least_broken (read_address_rules bus h r))) (on_fault 5 (least_broken (read_data_rules h r))))) p1.1 in

@@ -7,7 +7,7 @@ use Rattle.axi_history.specs.PortRules.{axi4_fault, axi4_history_fault}
 use Rattle.axi_history.proofs.HistoryLemmas.{fault_stays, fault_anew}
 use Rattle.port_rules.specs.declared.reads.Read.{Read}
 use Rattle.port_rules.specs.declared.state.PortChecker.{PortChecker}
-use Rattle.port_rules.specs.Kept.{Kept, kept_of, kept_fault, kept_after}
+use Rattle.port_rules.specs.Kept.{Kept, kept_of, kept_fault, kept_after_round}
 use Rattle.port_rules.specs.Held.{Held}
 use Rattle.port_rules.specs.StandsFor.{StandsFor}
 use Rattle.port_rules.specs.OpenWrites.{OpenWrites}
@@ -73,12 +73,12 @@ breaks c c1 c' h r f s was port1 kept1 judged is writes reads port rounds =
       reads = reads_stay c c' h r f s broken (reads ∙ ap (λ (k : Kept). k.reads) kept1) port;
     }
 
-pub grows : (c c1 c' : PortChecker) (h : List PortRound) (r : PortRound) → StandsFor c h → c.fault ≡ None → c1.port ≡ c.port → kept_of c1 ≡ kept_of c → kept_fault c1.port.bus (kept_of c1) r ≡ None → kept_of c' ≡ kept_after (kept_of c1) r → c'.fault ≡ None → c'.port ≡ c.port → c'.rounds ≡ c.rounds + 1 → StandsFor c' (h ++ r ∷ [])
+pub grows : (c c1 c' : PortChecker) (h : List PortRound) (r : PortRound) → StandsFor c h → c.fault ≡ None → c1.port ≡ c.port → kept_of c1 ≡ kept_of c → kept_fault c1.port.bus (kept_of c1) r ≡ None → kept_of c' ≡ kept_after_round (kept_of c1) r → c'.fault ≡ None → c'.port ≡ c.port → c'.rounds ≡ c.rounds + 1 → StandsFor c' (h ++ r ∷ [])
 grows c c1 c' h r s was port1 kept1 legal kept' is port rounds =
     let longer : length (h ++ r ∷ []) ≡ length h + 1 = length-append h (r ∷ []) in
     let keeps : axi4_history_fault c.port.bus (h ++ r ∷ []) ≡ None = legal_told c c1 h r s was port1 kept1 legal in
     let now : axi4_fault c.port.bus h r ≡ None = sym (fault_anew c.port.bus h r (sym s.fault ∙ was)) ∙ keeps in
-    let same : kept_after (kept_of c) r ≡ kept_of c' = ap (λ (k : Kept). kept_after k r) (sym kept1) ∙ sym kept' in
+    let same : kept_after_round (kept_of c) r ≡ kept_of c' = ap (λ (k : Kept). kept_after_round k r) (sym kept1) ∙ sym kept' in
     let held : Held c.port.bus (kept_of c') (h ++ r ∷ []) = subst (λ (k : Kept). Held c.port.bus k (h ++ r ∷ [])) same (kept c.port.bus (kept_of c) h r (s.held was) now) in
     record {
       rounds = rounds ∙ ap (λ (n : ℕ). n + 1) s.rounds ∙ sym longer;

@@ -6,7 +6,7 @@ use Rattle.axi_beats.specs.declared.beat.WBeat.{WBeat}
 use Rattle.axi_history.specs.declared.port.PortRound.{PortRound}
 use Rattle.axi_history.specs.PortHistory.{transferred, on_aw, on_w, on_b}
 use Rattle.axi_history.specs.PortRules.{or_else, axi4_fault, first_fault, axi4_history_fault}
-use Rattle.port_rules.specs.Kept.{Kept, kept_after}
+use Rattle.port_rules.specs.Kept.{Kept, kept_after_round}
 use Rattle.port_rules.specs.Held.{Held}
 use Rattle.port_rules.specs.Unanswered.{write_requests, write_answers, read_requests, read_answers, unanswered_writes, unanswered_reads}
 use Rattle.port_rules.proofs.LegalLemmas.{whole_beginning}
@@ -71,7 +71,7 @@ later_follow : (bus : ℕ) (k : Kept) (earlier rounds : List PortRound) → Held
 later_follow bus k earlier [] held legal = subst Follow (sym (append-nil earlier)) (held_follow bus k earlier held)
 later_follow bus k earlier (r ∷ rounds) held legal =
     let parts = both_none (axi4_fault bus earlier r) (first_fault (axi4_fault bus) (earlier ++ r ∷ []) rounds) legal in
-    subst Follow (append_assoc earlier (r ∷ []) rounds) (later_follow bus (kept_after k r) (earlier ++ r ∷ []) rounds (kept bus k earlier r held parts.0) parts.1)
+    subst Follow (append_assoc earlier (r ∷ []) rounds) (later_follow bus (kept_after_round k r) (earlier ++ r ∷ []) rounds (kept bus k earlier r held parts.0) parts.1)
 
 pub answers_follow : (bus : ℕ) (h : List PortRound) → axi4_history_fault bus h ≡ None → Follow h
 answers_follow bus h legal = later_follow bus nothing [] h (start bus) legal

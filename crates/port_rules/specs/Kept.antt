@@ -86,8 +86,8 @@ kept_fault bus k r =
 abbrev pub waits_after : PortRound → Waits
 waits_after r = record { aw = wait_of r.aw; w = wait_of r.w; b = wait_of r.b; ar = wait_of r.ar; r = wait_of r.r }
 
-abbrev pub kept_after : Kept → PortRound → Kept
-kept_after k r = record {
+abbrev pub kept_after_round : Kept → PortRound → Kept
+kept_after_round k r = record {
   waits = waits_after r;
   unpaired = with_offers (new_aw k r) (new_w k r) k.unpaired;
   writes = add_aw (transfer_of r.aw) (add_last (transfer_of r.w) (add_b (transfer_of r.b) k.writes));

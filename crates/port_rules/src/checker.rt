@@ -4,7 +4,7 @@ ghost use Rattle.std.specs.VecDeque.{deque_len, deque_capacity};
 ghost use Rattle.axi_beats.specs.Bus.{IsBusWidth};
 ghost use Rattle.axi_history.specs.PortRules.{axi4_history_fault};
 ghost use Rattle.axi_history.specs.declared.port.PortRound.{PortRound as Round};
-ghost use Rattle.port_rules.specs.Kept.{kept_of, kept_fault, kept_after, unpaired_in};
+ghost use Rattle.port_rules.specs.Kept.{kept_of, kept_fault, kept_after_round, unpaired_in};
 ghost use Rattle.port_rules.specs.StandsFor.{HasSmallAddresses, StandsFor, checked_port, rounds_of};
 ghost use Rattle.port_rules.specs.Unanswered.{unanswered_writes, unanswered_reads};
 
@@ -78,7 +78,7 @@ impl PortChecker {
         ensures reads { self.new.reads ≡ self.old.reads }
         ensures fault { result ≡ kept_fault self.old.port.bus (kept_of self.old) r.now }
         ensures unpaired { IfNone result
-            (unpaired_in self.new.bursts ≡ (kept_after (kept_of self.old) r.now).unpaired) }
+            (unpaired_in self.new.bursts ≡ (kept_after_round (kept_of self.old) r.now).unpaired) }
     {
         if let Some(rule) = address_channel_fault(&self.waits.aw, &r.aw, self.port.bus) {
             return Some((1, rule));
@@ -112,7 +112,7 @@ impl PortChecker {
         ensures rounds { self.new.rounds ≡ self.old.rounds + 1 }
         ensures same_fault { self.new.fault ≡ self.old.fault }
         ensures fault { result ≡ kept_fault self.old.port.bus (kept_of self.old) r.now }
-        ensures kept { IfNone result (kept_of self.new ≡ kept_after (kept_of self.old) r.now) }
+        ensures kept { IfNone result (kept_of self.new ≡ kept_after_round (kept_of self.old) r.now) }
         ensures writes { result ≢ None → (kept_of self.new).writes ≡ (kept_of self.old).writes }
         ensures reads { result ≢ None → (kept_of self.new).reads ≡ (kept_of self.old).reads }
     {
