@@ -1,0 +1,4 @@
+pub mod Known
+pub mod Sound
+pub mod SoundLaws
+pub mod Ways
