@@ -1,0 +1,66 @@
+-- The links of a plan, as those of a network.
+use Rattle.std.specs.Prelude.{◌==◌, ◌||◌, [], ℕ, List, Bool, true, false, filter, length, map, slice_index_or}
+use Rattle.axi_link.specs.LinkView.{LinkView, empty_link}
+use Rattle.elaborate.specs.Plan.{PlanLink, PlanNode, plan_links, plan_nodes}
+use Rattle.elaborate.specs.declared.part.Part.{Part}
+use Rattle.elaborate.specs.declared.part.Part.TheVariants as part
+use Rattle.net_model.specs.declared.net_link.NetLink.{NetLink}
+use Rattle.node_graph.specs.Graph.{numbers}
+use Rattle.node_shape.specs.LinkForm.{LinkForm}
+use Rattle.topology.specs.Document.{DocumentNode, no_link}
+
+abbrev pub net_link_of : PlanLink → NetLink
+net_link_of link = record {
+  upper = link.upper;
+  lower = link.lower;
+  lite = link.link.lite;
+  bus = link.link.bus;
+  id_width = link.link.id_width;
+  depth = link.depth;
+}
+
+-- before the first round nothing waits on a link
+abbrev pub queue_of : PlanLink → LinkView
+queue_of link = empty_link link.depth
+
+module _ (nodes : List DocumentNode) where
+  -- a plan node, and a link, by its number from 0
+  abbrev pub plan_node_at : ℕ → PlanNode
+  plan_node_at number = slice_index_or (plan_nodes nodes) number (record { part = part.Slice; document = 0; name = []; lower = []; link = no_link })
+
+  abbrev pub plan_link_at : ℕ → PlanLink
+  plan_link_at number = slice_index_or (plan_links nodes) number (record { upper = 0; lower = 0; link = no_link; depth = 0 })
+
+  abbrev pub link_numbers : List ℕ
+  link_numbers = numbers (length (plan_links nodes))
+
+  -- the links above a plan node, upwards by number: the inputs of a mux
+  abbrev pub links_into : ℕ → List ℕ
+  links_into number = filter (λ link. (plan_link_at link).lower == number) link_numbers
+
+  -- and those below it: the ports of a demux
+  abbrev pub links_out_of : ℕ → List ℕ
+  links_out_of number = filter (λ link. (plan_link_at link).upper == number) link_numbers
+
+  -- where there is one
+  abbrev pub link_into : ℕ → ℕ
+  link_into number = slice_index_or (links_into number) 0 0
+
+  abbrev pub link_out_of : ℕ → ℕ
+  link_out_of number = slice_index_or (links_out_of number) 0 0
+
+-- ---- forms
+
+-- a splitter cuts bursts into single beats
+abbrev pub cuts_bursts : Part → Bool
+cuts_bursts part.Split = true
+cuts_bursts other = false
+
+-- the form of a link: each burst on it has one beat where it speaks AXI4-Lite, and below a splitter
+abbrev pub form_of_link : List DocumentNode → ℕ → LinkForm
+form_of_link nodes number = record {
+  lite = (plan_link_at nodes number).link.lite;
+  bus = (plan_link_at nodes number).link.bus;
+  id_width = (plan_link_at nodes number).link.id_width;
+  single = (plan_link_at nodes number).link.lite || cuts_bursts (plan_node_at nodes (plan_link_at nodes number).upper).part;
+}

@@ -1,0 +1,12 @@
+-- The scripts of a network's managers: the transactions of the traffic, each at its manager.
+use Rattle.std.specs.Prelude.{ℕ, List, map}
+use Rattle.manager_end.specs.Script.{ScriptItem}
+use Rattle.traffic.specs.Accepted.{items_of_manager}
+use Rattle.traffic.specs.Traffic.{TrafficItem}
+
+abbrev pub script_item : TrafficItem → ScriptItem
+script_item item = record { txn = item.txn; bytes = item.bytes }
+
+-- what the manager of a document node is to do
+abbrev pub script_of : List TrafficItem → ℕ → List ScriptItem
+script_of items document = map script_item (items_of_manager document items)
