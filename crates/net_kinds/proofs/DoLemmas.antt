@@ -4,4 +4,4 @@ use Rattle.net_kinds.specs.NodeTable.{NodesDoAsTheirKind}
 use Rattle.net_kinds.specs.declared.node.Node.TheVariants.{Slice}
 
 pub nodes-do : NodesDoAsTheirKind
-nodes-do round links (Slice n) = record { can = λ can. can; table = refl; out = refl; fact = λ fact. fact }
+nodes-do round links (Slice n) = record { can = λ can. can; table = refl; out = refl; done = refl; fact = λ fact. fact }

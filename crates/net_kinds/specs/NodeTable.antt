@@ -1,5 +1,5 @@
 -- What a node does, by its kind.
-use Rattle.std.specs.Prelude.{◌≡◌, ℕ, List}
+use Rattle.std.specs.Prelude.{◌≡◌, ℕ, List, Bool, true}
 use Rattle.axi_link.specs.LinkView.{LinkView}
 use Rattle.axi_link.specs.declared.out.Out.{Out}
 use Rattle.net_kinds.specs.NodeKind.{node_kind, node_view}
@@ -19,6 +19,10 @@ node_table round links (Slice n) = Slice (slice_table links n.state)
 abbrev pub node_out : Node → Out
 node_out (Slice n) = n.out
 
+-- it waits for no answer
+abbrev pub node_done : Node → Bool
+node_done _ = true
+
 -- what holds of it between rounds
 abbrev pub node_fact : Node → Type 0
 node_fact (Slice n) = Unit {0}
@@ -28,6 +32,7 @@ pub record DoesAsItsKind (round : ℕ) (links : List LinkView) (node : Node) : T
   pub can : node_kind.can round links (node_view node).state → CanNode round links node
   pub table : node_view (node_table round links node) ≡ node_kind.table round links (node_view node).state
   pub out : (node_view node).out ≡ node_out node
+  pub done : node_kind.is_done (node_view node).state ≡ node_done node
   pub fact : node_fact node → node_kind.fact (node_view node).state
 
 abbrev pub NodesDoAsTheirKind : Type 0

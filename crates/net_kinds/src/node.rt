@@ -1,6 +1,7 @@
 //! `Node`, seen in clauses as its kind's own node.
 
 ghost use Rattle.std.specs.Prelude.{◌≡◌};
+ghost use Rattle.net_kinds.specs.NodeTable.{node_done};
 
 use axi_link::{Link, Out};
 use node_core::Step;
@@ -34,6 +35,17 @@ impl Step for Node {
     fn out(&self) -> &Out {
         match self {
             Node::Slice(slice) => slice.out(),
+        }
+    }
+}
+
+impl Node {
+    /// Whether it waits for no answer.
+    pub fn done(&self) -> bool
+        ensures { result ≡ node_done self.now }
+    {
+        match self {
+            Node::Slice(_) => true,
         }
     }
 }
