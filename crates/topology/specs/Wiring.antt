@@ -5,6 +5,7 @@ use Rattle.address_map.specs.declared.region.Region.{Region}
 use Rattle.node_graph.specs.Graph.{Graph, numbers}
 use Rattle.topology.specs.Document.{DocumentNode, LinkKind, NamedRegion, graph_of, is_manager, link_kind_of, named}
 use Rattle.topology.specs.Refused.{IsAccepted}
+use Rattle.topology_text.specs.Formed.{AreFormed}
 
 -- the regions of a node, each with its target
 abbrev pub regions_of : List DocumentNode → DocumentNode → List Region
@@ -18,9 +19,11 @@ manager_named nodes name = position (λ (node : DocumentNode). is_manager node.k
 abbrev pub region_lists : List (Vec Region Global) → List (List Region)
 region_lists vectors = map vec_items vectors
 
--- what is kept beside the nodes is what the definitions make of them, and the document is accepted
+-- what is kept beside the nodes is what the definitions make of them, the document is accepted, and each of its nodes
+-- is formed
 pub record IsWired (nodes : List DocumentNode) (graph : Graph) (links : List LinkKind) (regions : List (List Region)) : Type 0 where
   pub accepted : IsAccepted nodes
+  pub formed : AreFormed nodes
   pub joined_so : graph ≡ graph_of nodes
   pub links_are : links ≡ map (link_kind_of nodes) (numbers (length nodes))
   pub regions_are : regions ≡ map (regions_of nodes) nodes

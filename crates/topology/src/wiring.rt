@@ -4,6 +4,7 @@ ghost use Rattle.std.specs.Prelude.{◌≡◌, ◌<◌, ◌≤◌, length};
 ghost use Rattle.topology.specs.Document.{DocumentNode, link_kind_of, node_at, targets_of, uppers_of};
 ghost use Rattle.topology.specs.Refused.{IsAccepted};
 ghost use Rattle.topology.specs.Wiring.{IsWired, manager_named, region_lists, regions_of};
+ghost use Rattle.topology_text.specs.Formed.{AreFormed};
 
 use crate::link::LinkKind;
 use address_map::Region;
@@ -52,11 +53,20 @@ impl Wiring {
         }
     }
 
-    /// The number of nodes, at most 256. The document is accepted.
+    /// The number of nodes, at most 256. The document is accepted, and the keys of each node are within
+    /// their limits.
     pub fn count(&self) -> u32
         ensures count { result ≡ length self.now }
         ensures few { length self.now ≤ 256 }
         ensures accepted { IsAccepted self.now }
+        ensures formed { AreFormed self.now }
+    {
+        self.graph.count()
+    }
+
+    // The number of nodes, and nothing else of them.
+    fn len(&self) -> u32
+        ensures { result ≡ length self.now }
     {
         self.graph.count()
     }
@@ -195,7 +205,7 @@ impl Wiring {
     pub fn manager(&self, name: &str) -> Option<u32>
         ensures { result ≡ manager_named self.now name.now }
     {
-        for node in 0..self.count() {
+        for node in 0..self.len() {
             if self.kind(node) == Kind::Manager && self.name(node) == name {
                 return Some(node);
             }

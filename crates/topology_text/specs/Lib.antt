@@ -4,3 +4,4 @@ pub mod Shape
 pub mod Seen
 pub mod Node
 pub mod Text
+pub mod Formed

@@ -57,8 +57,9 @@ abbrev pub region_keys : List (List ℕ)
 region_keys = codes "base" ∷ codes "size" ∷ codes "to" ∷ []
 
 -- the numbers that may stand at a key, and its default
+-- (no kind may leave `bus` or `id_width` out, so that their defaults are never taken)
 abbrev pub bus_limits : Limits
-bus_limits = record { least = 4; most = 128; default = 0 }
+bus_limits = record { least = 4; most = 128; default = 4 }
 
 abbrev pub id_width_limits : Limits
 id_width_limits = record { least = 0; most = 16; default = 0 }

@@ -13,11 +13,11 @@ use crate::value::{ANY_NUMBER, Limits, has_keys_among, list_at, number_at, text_
 use axi_beats::is_bus_width;
 use toml::{Table, Value};
 
-// The bytes of a bus.
+// The bytes of a bus. No kind may leave it out, so that the default is never taken.
 const BUS: Limits = Limits {
     least: 4,
     most: 128,
-    default: 0,
+    default: 4,
 };
 
 // The bits of an ID.

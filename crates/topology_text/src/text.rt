@@ -2,6 +2,7 @@
 
 ghost use Rattle.std.specs.Prelude.{◌≡◌, IfErr, IfOk, Ok};
 ghost use Rattle.toml.specs.View.{table_view};
+ghost use Rattle.topology_text.specs.Formed.{AreFormed};
 ghost use Rattle.topology_text.specs.Shape.{document_in};
 ghost use Rattle.topology_text.specs.Text.{IsTopologyFault, nodes_of_text, or_bad_key};
 
@@ -20,6 +21,7 @@ use toml::Table;
 /// shape. Or there was no memory, which says nothing of the text.
 pub fn read_text(alloc: Global, text: &str) -> Result<Vec<Node>, DocFault>
     ensures nodes { IfOk result (λ nodes. nodes_of_text text.now ≡ Ok nodes.items) }
+    ensures formed { IfOk result (λ nodes. AreFormed nodes.items) }
     ensures fault { IfErr result (IsTopologyFault (nodes_of_text text.now)) }
 {
     match toml::table_from_str(alloc, text) {
