@@ -3,5 +3,6 @@
 #![tactic(auto)]
 
 mod known;
+mod lines;
 
 pub use known::known_openings;
