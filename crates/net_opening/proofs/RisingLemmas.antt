@@ -47,12 +47,12 @@ same-numbers least (x ∷ xs) (y ∷ ys) a b same =
     let down : y < x → ⊥ = λ less. true≢false (sym (in-first y ys y refl) ∙ sym (same y) ∙ below-none x (x ∷ xs) y (omega arith, a.1) less) in
     let heads : x ≡ y = elim (cases_lt x y) [ inl less ↦ absurd (up less) | inr most ↦ elim (cases_lt y x) [ inl less ↦ absurd (down less) | inr other ↦ omega (arith, most, other) ] ] in
     let tails : (n : ℕ) → is_in xs n ≡ is_in ys n =
-        λ n. elim (cases_lt n (x + 1)) [
-          | inl less ↦ below-none (x + 1) xs n a.1 less ∙ sym (below-none (y + 1) ys n b.1 (omega (arith, less, heads)))
-          | inr above ↦
-              sym (ap (λ b. b || is_in xs n) (ne_eqb x n (λ e. omega (arith, e, above)))) ∙ same n
-              ∙ ap (λ b. b || is_in ys n) (ne_eqb y n (λ e. omega (arith, e, above, heads)))
-        ]
+    λ n. elim (cases_lt n (x + 1)) [
+      | inl less ↦ below-none (x + 1) xs n a.1 less ∙ sym (below-none (y + 1) ys n b.1 (omega (arith, less, heads)))
+      | inr above ↦
+          sym (ap (λ b. b || is_in xs n) (ne_eqb x n (λ e. omega (arith, e, above)))) ∙ same n
+          ∙ ap (λ b. b || is_in ys n) (ne_eqb y n (λ e. omega (arith, e, above, heads)))
+    ]
     in
     ap (λ h. h ∷ xs) heads ∙ ap (λ t. y ∷ t) (same-numbers (x + 1) xs ys a.1 (subst (λ k. Rises (k + 1) ys) (sym heads) b.1) tails)
 
@@ -64,9 +64,9 @@ in-among (least ∷ more) number n = elim (cases_Bool (number == least)) [
   | inl same ↦ rw same
       (subst (λ k. (least == n || is_in more n) ≡ (k == n || (least == n || is_in more n))) (sym (eqb-true number least same)) (or-twice (least == n) (is_in more n)))
   | inr other ↦ rw other (elim (cases_Bool (nat_lt number least)) [
-      | inl lower ↦ rw lower refl
-      | inr higher ↦ rw higher (ap (λ b. least == n || b) (in-among more number n) ∙ or-swap (least == n) (number == n) (is_in more n))
-    ])
+    | inl lower ↦ rw lower refl
+    | inr higher ↦ rw higher (ap (λ b. least == n || b) (in-among more number n) ∙ or-swap (least == n) (number == n) (is_in more n))
+  ])
 ]
 
 rises-among : (xs : List ℕ) (least number : ℕ) → least ≤ number → Rises least xs → Rises least (among xs number)
@@ -74,9 +74,9 @@ rises-among [] least number above rises = (above, tt)
 rises-among (x ∷ xs) least number above rises = elim (cases_Bool (number == x)) [
   | inl same ↦ rw same rises
   | inr other ↦ rw other (elim (cases_Bool (nat_lt number x)) [
-      | inl lower ↦ rw lower (above, (omega (arith, ltb-true number x lower), rises.1))
-      | inr higher ↦ rw higher (rises.0, rises-among xs (x + 1) number (rises-past number x other higher) rises.1)
-    ])
+    | inl lower ↦ rw lower (above, (omega (arith, ltb-true number x lower), rises.1))
+    | inr higher ↦ rw higher (rises.0, rises-among xs (x + 1) number (rises-past number x other higher) rises.1)
+  ])
 ]
   where
     rises-past : (number x : ℕ) → (number == x) ≡ false → nat_lt number x ≡ false → x + 1 ≤ number
@@ -114,11 +114,12 @@ in-dedup (x ∷ xs) n = in-deduped x xs n
 
 rises-from : (least : ℕ) (xs : List ℕ) → ((i : ℕ) → i < length xs → least ≤ slice_index_or xs i 0) → AllPairs (λ x y. x < y) xs → Rises least xs
 rises-from least [] low pairs = tt
-rises-from least (x ∷ xs) low pairs =
-    (low 0 (omega arith),
-    rises-from (x + 1) xs
-    (λ i less. let above : x < slice_index_or xs i 0 = pairs 0 (suc i) 0 (omega arith) (omega (arith, less)) in omega (arith, above))
-    (λ i j d before less. pairs (suc i) (suc j) d (omega (arith, before)) (omega (arith, less))))
+rises-from least (x ∷ xs) low pairs = (
+  low 0 (omega arith),
+  rises-from (x + 1) xs
+      (λ i less. let above : x < slice_index_or xs i 0 = pairs 0 (suc i) 0 (omega arith) (omega (arith, less)) in omega (arith, above))
+      (λ i j d before less. pairs (suc i) (suc j) d (omega (arith, before)) (omega (arith, less))),
+)
 
 pub upwards-sorted : (given sorted : List ℕ) → IsPermutation given sorted → IsSorted nat_cmp sorted → dedup eqb sorted ≡ upwards given
 upwards-sorted given sorted moved order =

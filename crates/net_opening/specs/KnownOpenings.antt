@@ -1,10 +1,9 @@
 -- Documents whose openings are known.
-use Rattle.std.specs.Prelude.{◌≡◌, [], ◌∷◌, ℕ, List, Bool, true, false, codes, length}
-use Rattle.axi_beats.specs.declared.beat.Addr.{Addr}
+use Rattle.std.specs.Prelude.{◌≡◌, [], ◌∷◌, ℕ, List, Bool, true, false, length}
 use Rattle.axi_beats.specs.declared.beat.Burst.TheVariants.{Incr}
 use Rattle.elaborate.specs.KnownPlans.{one_page, small, three_by_two}
 use Rattle.net_opening.specs.Opening.{opening}
-use Rattle.net_opening.specs.PlanLinks.{form_of_link, links_into, links_out_of}
+use Rattle.net_opening.specs.PlanLinks.{links_into, links_out_of}
 use Rattle.net_opening.specs.Touched.{lines_touched}
 use Rattle.traffic.specs.Traffic.{TrafficItem}
 

@@ -1,5 +1,5 @@
 -- The links of a plan, as those of a network.
-use Rattle.std.specs.Prelude.{◌==◌, ◌||◌, [], ℕ, List, Bool, true, false, filter, length, map, slice_index_or}
+use Rattle.std.specs.Prelude.{◌==◌, ◌||◌, [], ℕ, List, Bool, true, false, filter, length, slice_index_or}
 use Rattle.axi_link.specs.LinkView.{LinkView, empty_link}
 use Rattle.elaborate.specs.Plan.{PlanLink, PlanNode, plan_links, plan_nodes}
 use Rattle.elaborate.specs.declared.part.Part.{Part}
