@@ -1,13 +1,19 @@
 -- The oldest write that lacks data, and its place.
-use Rattle.std.proofs.Common.{◌≡◌, ℕ, suc, zero, Bool, true, false, cond, List, [], ◌∷◌, Option, Some, None, take, refl, sym, ◌∙◌, ap, subst}
+use Rattle.std.proofs.Common.{◌≡◌, ◌≤◌, ◌<◌, ◌+◌, ◌&&◌, ℕ, suc, zero, Bool, true, false, cond, List, [], ◌∷◌, Option, Some, None, length, take, refl, sym, ◌∙◌, ap, subst, arith, IsTrue}
 use Rattle.std.specs.Prelude.{slice_get, slice_set, is_some}
 use Rattle.std.specs.Option.{option_map}
+use Rattle.std.proofs.lemmas.Bool.{ltb-true}
+use Rattle.axi_beats.specs.declared.beat.BBeat.{BBeat}
+use Rattle.axi_beats.specs.declared.beat.RBeat.{RBeat}
 use Rattle.axi_beats.specs.declared.beat.WBeat.{WBeat}
+use Rattle.node_core.specs.Pace.{PaceState, is_let}
+use Rattle.node_core.specs.Rows.{fits}
+use Rattle.subordinate.specs.declared.entry.ReadEntry.{ReadEntry}
 use Rattle.subordinate.specs.declared.entry.WriteEntry.{WriteEntry}
 use Rattle.flight.proofs.EntryFacts.{none-shift, shift-none, some-inner}
 use Rattle.subordinate.specs.Places.{lacking_place}
 use Rattle.subordinate.specs.Service.{Service}
-use Rattle.subordinate.specs.SubordinateTable.{lacks_data, oldest_lacking, with_data, with_beat}
+use Rattle.subordinate.specs.SubordinateTable.{after_b, after_r, after_w, lacks_data, oldest_lacking, with_beat, with_data}
 
 -- no write before i lacks data, nor does the one at i
 pub lacking_place-none_more : (entries : List WriteEntry) (i : ℕ) (entry : WriteEntry) → slice_get entries i ≡ Some entry → lacks_data entry ≡ false → lacking_place (take i entries) ≡ None → lacking_place (take (suc i) entries) ≡ None
@@ -73,3 +79,45 @@ some-lacking (e ∷ es) =
     let go : (b : Bool) → is_some (cond b (Some 0) (option_map suc (lacking_place es))) ≡ is_some (cond b (Some e) (oldest_lacking es)) =
     elim [ true ↦ refl | false ↦ shifted (lacking_place es) ∙ some-lacking es ]
     in go (lacks_data e)
+
+-- a beat for which no write lacks data changes none
+pub with_data-none : {D : Type 0} (service : Service D) (w : WBeat) (entries : List WriteEntry) → oldest_lacking entries ≡ None → with_data service w entries ≡ entries
+with_data-none service w [] none = refl
+with_data-none service w (e ∷ es) none =
+    let go : (b : Bool) → cond b (Some e) (oldest_lacking es) ≡ None → cond b (with_beat (service.data_status e.request e.taken w) e ∷ es) (e ∷ with_data service w es) ≡ e ∷ es =
+    elim [ true ↦ λ found. absurd (cc) | false ↦ λ found. ap (λ t. e ∷ t) (with_data-none service w es found) ]
+    in go (lacks_data e) none
+
+-- Answers make the open requests no more, and data leaves them as many.
+pub length-after_b : (o : Option BBeat) (entries : List WriteEntry) → length (after_b o entries) ≤ length entries
+length-after_b None entries = omega arith
+length-after_b (Some beat) [] = omega arith
+length-after_b (Some beat) (e ∷ es) = omega arith
+
+pub length-after_r : (o : Option RBeat) (entries : List ReadEntry) → length (after_r o entries) ≤ length entries
+length-after_r None entries = omega arith
+length-after_r (Some beat) [] = omega arith
+length-after_r (Some beat) (e ∷ es) =
+    let go : (last : Bool) → length (cond last es (record { request = e.request; put = e.put + 1 } ∷ es)) ≤ length (e ∷ es) = elim [ true ↦ omega arith | false ↦ omega arith ] in
+    go beat.last
+
+module _ {D : Type 0} (service : Service D) where
+  length-with_data : (w : WBeat) (entries : List WriteEntry) → length (with_data service w entries) ≡ length entries
+  length-with_data w [] = refl
+  length-with_data w (e ∷ es) =
+      let go : (b : Bool) → length (cond b (with_beat (service.data_status e.request e.taken w) e ∷ es) (e ∷ with_data service w es)) ≡ length (e ∷ es) =
+      elim [ true ↦ refl | false ↦ ap suc (length-with_data w es) ]
+      in go (lacks_data e)
+
+  pub length-after_w : (o : Option WBeat) (entries : List WriteEntry) → length (after_w service o entries) ≡ length entries
+  length-after_w None entries = refl
+  length-after_w (Some w) entries = length-with_data w entries
+
+-- an address that is taken fits
+pub let-fits : {X : Type 0} (head : Bool) (entries : List X) (pace : PaceState) → IsTrue (is_let (head && fits entries) pace) → length entries < 16
+let-fits true entries pace done = go (fits entries) refl done
+  where
+    go : (c : Bool) → fits entries ≡ c → IsTrue (is_let c pace) → length entries < 16
+    go true fit done = ltb-true (length entries) 16 fit
+    go false fit done = absurd (cc)
+let-fits false entries pace done = absurd (cc)

@@ -63,12 +63,15 @@ abbrev pub after_b : Option BBeat → List WriteEntry → List WriteEntry
 after_b None entries = entries
 after_b (Some beat) entries = drop 1 entries
 
--- R: the oldest read has one more beat put, or leaves with its last one
+-- the oldest read has one more beat put, or leaves with its last one
+abbrev pub with_put : Bool → List ReadEntry → List ReadEntry
+with_put last [] = []
+with_put last (entry ∷ entries) = if last then entries else record { request = entry.request; put = entry.put + 1 } ∷ entries
+
+-- R: so it is where a beat is put
 abbrev pub after_r : Option RBeat → List ReadEntry → List ReadEntry
 after_r None entries = entries
-after_r (Some beat) [] = []
-after_r (Some beat) (entry ∷ entries) =
-    if beat.last then entries else record { request = entry.request; put = entry.put + 1 } ∷ entries
+after_r (Some beat) entries = with_put beat.last entries
 
 -- a write with one more data beat, which has this status
 abbrev pub with_beat : Resp → WriteEntry → WriteEntry

@@ -7,4 +7,4 @@ mod entry;
 mod rows;
 
 pub use entry::{ReadEntry, WriteEntry};
-pub use rows::{lacking, put_b, take_ar, take_aw, wanted, with_status};
+pub use rows::{lacking, note_put, put_b, take_ar, take_aw, wanted, with_status};

@@ -2,11 +2,11 @@
 //! which are the same for all subordinates. Data is taken in the order of the addresses, and requests
 //! are answered in it. (Arm IHI 0022, relationships between the channels.)
 
-ghost use Rattle.std.specs.Prelude.{◌≡◌, ◌<◌, ◌+◌, ◌&&◌, IfSome, IsTrue, length, option_copied, option_map, is_some};
+ghost use Rattle.std.specs.Prelude.{◌≡◌, ◌<◌, ◌+◌, ◌&&◌, IfSome, IsTrue, false, length, option_copied, option_map, is_some};
 ghost use Rattle.axi_link.specs.LinkWords.{head_of};
 ghost use Rattle.node_core.specs.Rows.{beat_where, fits, put_of, take_of};
 ghost use Rattle.subordinate.specs.SubordinateTable.{after_ar, after_aw, after_b, answer_to};
-ghost use Rattle.subordinate.specs.SubordinateTable.{first_is_whole, lacks_data, oldest_lacking, wanted_rows, with_beat};
+ghost use Rattle.subordinate.specs.SubordinateTable.{first_is_whole, lacks_data, oldest_lacking, wanted_rows, with_beat, with_put};
 ghost use Rattle.subordinate.specs.Places.{lacking_place};
 
 use crate::entry::{ReadEntry, WriteEntry};
@@ -113,6 +113,26 @@ pub fn put_b(
         tag: entry.request.tag,
     };
     set_put(put, number, Some(&response));
+}
+
+/// R: notes that the oldest read has one more beat put. With its last one it leaves.
+pub fn note_put(entries: &mut Flight<ReadEntry>, last: bool)
+    requires some { 0 < length entries.old }
+    requires more { last ≡ false → IfSome (head_of entries.old) (λ entry. entry.put < entry.request.len) }
+    ensures { entries.new ≡ with_put last entries.old }
+{
+    if last {
+        entries.take(0);
+        return;
+    }
+    let entry = *entries.get(0);
+    entries.set(
+        0,
+        ReadEntry {
+            request: entry.request,
+            put: entry.put + 1,
+        },
+    );
 }
 
 /// AW: where the row is done the head is taken, and the write waits for its data.

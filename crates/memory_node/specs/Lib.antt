@@ -1,0 +1,14 @@
+pub mod Accesses
+pub mod AreaInside
+pub mod Beats
+pub mod BurstBytes
+pub mod Events
+pub mod MemoryArea
+pub mod MemoryInside
+pub mod MemoryLaws
+pub mod MemoryState
+pub mod MemoryTable
+pub mod MemoryTrail
+pub mod Status
+pub mod Store
+pub mod StoreInside
