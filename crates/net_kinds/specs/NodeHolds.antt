@@ -1,5 +1,5 @@
 -- Each kind shows what every kind has to show.
-use Rattle.memory_end.specs.Events.{Access}
+use Rattle.memory_node.specs.Events.{Access}
 use Rattle.net_kinds.specs.NodeKind.{ASlice, KindName, kind_by_name, node_kind}
 use Rattle.node_shape.proofs.FamilyLemmas.{family-holds}
 use Rattle.node_shape.specs.KindHolds.{KindHolds}

@@ -1,5 +1,5 @@
 -- All kinds of node, as one.
-use Rattle.memory_end.specs.Events.{Access}
+use Rattle.memory_node.specs.Events.{Access}
 use Rattle.node_core.specs.Acted.{Acted}
 use Rattle.node_shape.specs.Family.{OneOf, family}
 use Rattle.node_shape.specs.Kind.{Kind}

@@ -1,6 +1,6 @@
 //! Nodes of all kinds as the one kind of which networks are made.
 
-ghost use Rattle.memory_end.specs.Events.{Access};
+ghost use Rattle.memory_node.specs.Events.{Access};
 ghost use Rattle.net_kinds.specs.NodeKind.{NodeState, node_kind};
 
 use crate::node::Node;

@@ -1,24 +1,24 @@
 -- The network of a plan before its first round.
 use Rattle.std.specs.Prelude.{ℕ, List, length, map}
-use Rattle.elaborate.specs.Plan.{PlanNode, plan_links, plan_nodes}
+use Rattle.elaborate.specs.Plan.{plan_links, plan_nodes}
 use Rattle.elaborate.specs.declared.part.Part.{Part}
 use Rattle.net_kinds.specs.NodeKind.{ASlice, NodeState}
 use Rattle.net_model.specs.Network.{Network}
-use Rattle.net_opening.specs.PlanLinks.{link_into, link_out_of, net_link_of, plan_node_at, queue_of}
+use Rattle.net_opening.specs.PlanLinks.{net_link_of, plan_node_at, queue_of}
+use Rattle.net_opening.specs.States.{slice_at}
 use Rattle.node_core.specs.Acted.{opened}
 use Rattle.node_graph.specs.Graph.{numbers}
-use Rattle.slice_node.specs.SliceState.{new_slice}
 use Rattle.topology.specs.Document.{DocumentNode}
 use Rattle.traffic.specs.Traffic.{TrafficItem}
 
 module _ (nodes : List DocumentNode) (items : List TrafficItem) where
   -- A plan node as its kind begins, by its number. A part that can't be run yet stands as a slice; no document with one
   -- is run.
-  abbrev pub state_by_part : ℕ → PlanNode → Part → NodeState
-  state_by_part number node other = record { kind = ASlice; state = new_slice (link_into nodes number) (link_out_of nodes number) }
+  abbrev pub state_by_part : ℕ → Part → NodeState
+  state_by_part number other = record { kind = ASlice; state = slice_at nodes number }
 
   abbrev pub state_at : ℕ → NodeState
-  state_at number = state_by_part number (plan_node_at nodes number) (plan_node_at nodes number).part
+  state_at number = state_by_part number (plan_node_at nodes number).part
 
   -- no node has decided yet, and nothing waits on any link
   abbrev pub opening : Network NodeState

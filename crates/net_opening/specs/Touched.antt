@@ -4,7 +4,7 @@ use Rattle.std.specs.Prelude.{◌==◌, ◌&&◌, [], ◌∷◌, ℕ, List, Bool
 use Rattle.axi_beats.specs.declared.beat.Addr.{Addr}
 use Rattle.burst_address.specs.Formulas.{beat_at, beats_of}
 use Rattle.elaborate.specs.Path.{target_of}
-use Rattle.memory_end.specs.Store.{line_number}
+use Rattle.memory_node.specs.Store.{line_number}
 use Rattle.node_graph.specs.Graph.{numbers}
 use Rattle.topology.specs.Document.{DocumentNode}
 use Rattle.traffic.specs.Traffic.{TrafficItem}
