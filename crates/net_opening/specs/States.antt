@@ -10,8 +10,8 @@ use Rattle.topology.specs.Document.{DocumentNode, node_at}
 use Rattle.topology_text.specs.declared.kind.Span.{Span}
 use Rattle.traffic.specs.Traffic.{TrafficItem}
 
-abbrev pub range_of : Span → Range
-range_of span = record { base = span.base; size = span.size }
+abbrev pub memory_range : Span → Range
+memory_range span = record { base = span.base; size = span.size }
 
 -- the bytes that a memory has, by the keys of its document node
 abbrev pub area_of_node : DocumentNode → MemoryArea
@@ -20,8 +20,8 @@ area_of_node node = record {
   size = node.size;
   bus = node.bus;
   fill = node.fill;
-  read_only = map range_of node.read_only;
-  hole = map range_of node.hole;
+  read_only = map memory_range node.read_only;
+  hole = map memory_range node.hole;
 }
 
 module _ (nodes : List DocumentNode) (number : ℕ) where
