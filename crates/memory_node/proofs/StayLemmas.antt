@@ -20,7 +20,7 @@ use Rattle.memory_node.specs.MemoryTable.{CanMemory, memory_next, memory_service
 use Rattle.memory_node.specs.Store.{IsStore, Store, byte_place, with_byte, with_byte_at}
 use Rattle.node_core.specs.Rows.{beat_where}
 use Rattle.node_core.proofs.RowLemmas.{beat_where-has}
-use Rattle.subordinate.specs.SubordinateTable.{after_ar, after_aw, after_b, after_r, after_w, its_rows, kept_after, kept_with, lacks_data, moved_ar, moved_aw, moved_b, moved_r, moved_w, next_beat, oldest_lacking, with_beat, with_data}
+use Rattle.subordinate.specs.SubordinateTable.{after_ar, after_aw, after_b, after_r, after_w, its_rows, kept_after_w, kept_with, lacks_data, moved_ar, moved_aw, moved_b, moved_r, moved_w, next_beat, oldest_lacking, with_beat, with_data}
 use Rattle.subordinate.specs.declared.entry.ReadEntry.{ReadEntry}
 use Rattle.subordinate.specs.declared.entry.WriteEntry.{WriteEntry}
 
@@ -44,9 +44,9 @@ kept_with-keeps : (area : MemoryArea) (o : Option WriteEntry) (w : WBeat) (store
 kept_with-keeps area None w store = record { lines = refl; size = refl }
 kept_with-keeps area (Some entry) w store = with_bytes-keeps (stored_bytes area entry.request entry.taken w) store
 
-pub kept_after-keeps : (area : MemoryArea) (o : Option WBeat) (entries : List WriteEntry) (store : Store) → Keeps store (kept_after (memory_service area) o entries store)
-kept_after-keeps area None entries store = record { lines = refl; size = refl }
-kept_after-keeps area (Some w) entries store = kept_with-keeps area (oldest_lacking entries) w store
+pub kept_after_w-keeps : (area : MemoryArea) (o : Option WBeat) (entries : List WriteEntry) (store : Store) → Keeps store (kept_after_w (memory_service area) o entries store)
+kept_after_w-keeps area None entries store = record { lines = refl; size = refl }
+kept_after_w-keeps area (Some w) entries store = kept_with-keeps area (oldest_lacking entries) w store
 
 pub store-stays : (before after : Store) → Keeps before after → IsStore before → IsStore after
 store-stays before after same is = record {
@@ -122,8 +122,8 @@ memory-stays links s is can =
     let link : LinkView = link_of links s.inner.upper in
     let answered : List WriteEntry = after_b (moved_b service links s.inner) s.inner.writes in
     let filled : List WriteEntry = after_w service (moved_w service links s.inner) answered in
-    let kept : Store = kept_after service (moved_w service links s.inner) answered s.inner.kept in
-    let keeps : Keeps s.inner.kept kept = kept_after-keeps s.area (moved_w service links s.inner) answered s.inner.kept in
+    let kept : Store = kept_after_w service (moved_w service links s.inner) answered s.inner.kept in
+    let keeps : Keeps s.inner.kept kept = kept_after_w-keeps s.area (moved_w service links s.inner) answered s.inner.kept in
     let writes : All (IsWriteEntry s.area lines) (after_aw (moved_aw service links s.inner) filled) =
     after_aw-stays s.area lines (moved_aw service links s.inner) filled
     (beat_where-has (IsRequest s.area.bus) rows.aw (head_of link.aw) can.aw)

@@ -1,10 +1,13 @@
 -- What a memory has passed on its link and accessed, what its state has to do with it (Arm IHI 0022, ordering model), and
 -- the memory as a kind of node.
 use Rattle.std.specs.Prelude.{◌≡◌, ◌<◌, ◌^◌, ◌++◌, ◌∷◌, [], ℕ, suc, List, Bool, true, false, IsTrue, All, AllPairs, flat_map, length, map}
+use Rattle.axi_beats.specs.declared.beat.Addr.{Addr}
+use Rattle.axi_beats.specs.declared.beat.RBeat.{RBeat}
 use Rattle.axi_beats.specs.declared.beat.WBeat.{WBeat}
 use Rattle.axi_trail.specs.Schedule.{ComesBefore, Progress, Schedule, Share, bytes_on}
 use Rattle.axi_trail.specs.Trail.{Beats}
-use Rattle.axi_trail.specs.Words.{number_of_data, number_of_read_data}
+use Rattle.axi_trail.specs.Waiting.{pending}
+use Rattle.axi_trail.specs.Words.{burst_asked, mark_of_reply, marks, number_of_data, number_of_read_data, read_reply}
 use Rattle.burst_address.specs.Accesses.{answered_bytes, value_after}
 use Rattle.memory_node.specs.Accesses.{accesses_of, allowed_before, beat_span, due_reads, due_writes, writes_at}
 use Rattle.memory_node.specs.Events.{Access, memory_events}
@@ -17,8 +20,10 @@ use Rattle.node_shape.specs.Kind.{Kind, Passed, always_done}
 use Rattle.node_shape.specs.LinkForm.{LinkForm}
 use Rattle.node_shape.specs.Way.{end_here}
 use Rattle.plain_lists.specs.Keys.{of_key}
+use Rattle.plain_lists.specs.Prefixes.{IsPrefix}
 use Rattle.subordinate.specs.Parts.{beats_of_parts}
-use Rattle.subordinate.specs.Tracks.{KeepsOrder, SuitsService, ends_with, is_written}
+use Rattle.subordinate.specs.Tracks.{KeepsOrder, SuitsService, ends_with, is_written, len_of_address, read_waiting}
+use Rattle.subordinate.specs.declared.entry.ReadEntry.{ReadEntry}
 
 -- of a transaction that comes before another one in its chain, nothing is accessed after the first access of the other
 abbrev pub AccessesInOrder : (ℕ → Share) → Bool → List Access → Type 0
@@ -26,17 +31,17 @@ AccessesInOrder shares write all =
     (before after : ℕ) → ComesBefore shares before after → (earlier later : List Access) (a : Access) → all ≡ earlier ++ a ∷ later → a.write ≡ write →
     a.number ≡ after → accesses_of write before later ≡ []
 
--- What a memory has accessed, by the data that has come and the read data that it has put. `store` are its bytes, and `all`
--- its accesses.
-pub record HasAccessed (schedule : Schedule) (area : MemoryArea) (store : Store) (trail : Beats) (all : List Access) : Type 0 where
+-- What a memory has accessed, by the write data that has come and the read data that it has put. `store` are its bytes, and
+-- `all` its accesses.
+pub record HasAccessed (schedule : Schedule) (area : MemoryArea) (store : Store) (w : List WBeat) (r : List RBeat) (all : List Access) : Type 0 where
   -- the accesses of a transaction are those of its beats that have come, and those of its answer's beats
-  pub written : (t : ℕ) → map (λ (a : Access). a.byte) (accesses_of true t all) ≡ due_writes area (schedule.writes t) (length (of_key number_of_data t trail.w))
-  pub read : (t : ℕ) → map (λ (a : Access). a.byte.address) (accesses_of false t all) ≡ due_reads area (schedule.reads t) (length (of_key number_of_read_data t trail.r))
+  pub written : (t : ℕ) → map (λ (a : Access). a.byte) (accesses_of true t all) ≡ due_writes area (schedule.writes t) (length (of_key number_of_data t w))
+  pub read : (t : ℕ) → map (λ (a : Access). a.byte.address) (accesses_of false t all) ≡ due_reads area (schedule.reads t) (length (of_key number_of_read_data t r))
   -- the bytes that were answered are those that were read
   pub answered :
       (t : ℕ) →
-      bytes_on (of_key number_of_read_data t trail.r) (schedule.reads t).lanes
-      ≡ answered_bytes (allowed_before area (schedule.reads t) (length (of_key number_of_read_data t trail.r))) (map (λ (a : Access). a.byte.value) (accesses_of false t all))
+      bytes_on (of_key number_of_read_data t r) (schedule.reads t).lanes
+      ≡ answered_bytes (allowed_before area (schedule.reads t) (length (of_key number_of_read_data t r))) (map (λ (a : Access). a.byte.value) (accesses_of false t all))
   -- each byte is what the writes left there
   pub bytes : (address : ℕ) → IsTrue (is_inside area address) → value_after (writes_at address) (λ (a : Access). a.byte.value) area.fill all ≡ byte_at store address
   -- and so was each that was read
@@ -57,11 +62,17 @@ pub record SuitsMemory (area : MemoryArea) (lines : List ℕ) (schedule : Schedu
   pub reads : (t : ℕ) → All (IsRequest area.bus) (schedule.reads t).parts
   pub strobes : (t : ℕ) → All (λ (w : WBeat). w.strobe < 2 ^ area.bus) (flat_map (λ beats. beats) (schedule.writes t).write_data)
 
+-- reads are answered one after the other, in order of their addresses: the first of those that aren't wholly answered is next
+pub record AnswersInOrder (reads : List ReadEntry) (ar : List Addr) (r : List RBeat) : Type 0 where
+  pub open_reads : map read_waiting reads ≡ pending len_of_address (length r) ar
+  pub in_order : IsPrefix (map mark_of_reply (map read_reply r)) (marks (map burst_asked ar))
+
 -- What holds of a memory over its trail and its accesses.
 pub record MemoryKeeps (schedule : Schedule) (s : MemoryState) (trail : Beats) (all : List Access) : Type 0 where
   pub suits : SuitsMemory s.area s.inner.kept.lines schedule
   pub order : KeepsOrder (memory_service s.area) schedule s.inner trail
-  pub accessed : HasAccessed schedule s.area s.inner.kept trail all
+  pub reads : AnswersInOrder s.inner.reads trail.ar trail.r
+  pub accessed : HasAccessed schedule s.area s.inner.kept trail.w trail.r all
 
 -- A memory knows of a write that it is written, where its data has all come, and of a read the bytes that were read for it.
 abbrev pub memory_knows : (ℕ → Schedule) → MemoryState → Passed Access → Progress

@@ -15,8 +15,10 @@ mod area;
 mod beats;
 mod config;
 mod memory;
+mod memory_laws;
 mod rows;
 mod store;
 
 pub use config::{MemoryConfig, Range};
 pub use memory::{MemoryNode, crosses_threads};
+pub use memory_laws::{laws_of_bytes, laws_of_rows, laws_of_table, laws_of_trails, laws_of_ways};

@@ -6,7 +6,7 @@ ghost use Rattle.memory_node.specs.MemoryArea.{IsMemoryArea};
 ghost use Rattle.memory_node.specs.MemoryState.{IsReadEntry, IsWriteEntry};
 ghost use Rattle.memory_node.specs.MemoryTable.{memory_service};
 ghost use Rattle.node_core.specs.Rows.{beat_where, put_of, take_of};
-ghost use Rattle.subordinate.specs.SubordinateTable.{after_r, after_w, kept_after, next_beat};
+ghost use Rattle.subordinate.specs.SubordinateTable.{after_r, after_w, kept_after_w, next_beat};
 
 use crate::area::Area;
 use crate::beats::{beat_address, read_lanes, strobed_status, valid_status, write_beat};
@@ -32,7 +32,7 @@ pub fn take_w(
     requires strobe { IfSome (option_copied head) (λ w. w.strobe < 2 ^ area.now.bus) }
     ensures take { take.new ≡ take_of number (is_some (beat_where done (option_copied head.entry))) }
     ensures entries { entries.new ≡ after_w (memory_service area.now) (beat_where done (option_copied head.entry)) entries.old }
-    ensures store { store.new ≡ kept_after (memory_service area.now) (beat_where done (option_copied head.entry)) entries.old store.old }
+    ensures store { store.new ≡ kept_after_w (memory_service area.now) (beat_where done (option_copied head.entry)) entries.old store.old }
 {
     match head {
         Some(beat) if done => {
@@ -49,7 +49,7 @@ fn take_data(beat: &WBeat, area: &Area, entries: &mut Flight<WriteEntry>, store:
     requires writes { All (IsWriteEntry area.now store.old.lines) entries.old }
     requires strobe { beat.now.strobe < 2 ^ area.now.bus }
     ensures entries { entries.new ≡ after_w (memory_service area.now) (Some beat.now) entries.old }
-    ensures store { store.new ≡ kept_after (memory_service area.now) (Some beat.now) entries.old store.old }
+    ensures store { store.new ≡ kept_after_w (memory_service area.now) (Some beat.now) entries.old store.old }
 {
     let Some(place) = lacking(entries) else {
         return;

@@ -35,7 +35,7 @@ length-part : (p : Addr) → length (part_beats p) ≡ suc p.len
 length-part p = length-map (range_with_len 0 (p.len + 1)) (beat_of p) ∙ length-range_with_len 0 (p.len + 1) ∙ (let e : p.len + 1 ≡ suc p.len = omega arith in e)
 
 -- the beats of parts from a beat of one of them on
-parts-from : (front : List Addr) (p : Addr) (more : List Addr) (done : ℕ) → done ≤ p.len →
+pub parts-from : (front : List Addr) (p : Addr) (more : List Addr) (done : ℕ) → done ≤ p.len →
     (rest : List BeatOf) × (drop (beats_by len_of_address front + done) (beats_of_parts (map without_id front ++ p ∷ more)) ≡ beat_of p done ∷ rest)
 parts-from [] p more done le =
     let own = part-from p done le in

@@ -1,22 +1,23 @@
 -- A subordinate's table, of every state and all links.
-use Rattle.std.proofs.Common.{◌≡◌, ◌&&◌, ◌||◌, ℕ, Bool, true, false, List, [], ◌∷◌, Option, Some, None, length, refl, ap}
-use Rattle.std.specs.Prelude.{is_some, option_map}
+use Rattle.std.proofs.Common.{◌≡◌, ◌&&◌, ◌||◌, ℕ, suc, Bool, true, false, cond, List, [], ◌∷◌, Option, Some, None, length, refl, ◌∙◌, ap}
+use Rattle.std.specs.Prelude.{is_some, max, option_map}
 use Rattle.std.proofs.lemmas.Bool.{ltb-true}
 use Rattle.axi_link.specs.LinkView.{LinkView}
 use Rattle.axi_link.specs.declared.out.Out.{Out}
 use Rattle.axi_link.specs.LinkWords.{has_room, head_of, link_of}
 use Rattle.node_core.specs.Acted.{Acted, no_moves}
 use Rattle.node_core.specs.Fits.{MovesFit, PutFits}
-use Rattle.node_core.specs.Pace.{PaceState, is_let, is_over}
-use Rattle.node_core.specs.Paces.{any_row, paces_after, rows_let}
+use Rattle.node_core.specs.Pace.{PaceState, is_let, is_over, next_place, pace_after}
+use Rattle.node_core.specs.Paces.{any_row, longest, longest_delay, paces_after, rows_let}
 use Rattle.node_core.specs.Rows.{beat_where, fits, put_of, take_of}
 use Rattle.node_core.specs.declared.paces.EachRow.{EachRow}
+use Rattle.node_core.specs.declared.paces.Paces.{Paces}
 use Rattle.node_core.proofs.FitLemmas.{take-fits}
 use Rattle.node_shape.specs.Quiet.{MovesOwn}
 use Rattle.node_shape.proofs.OneLinkLemmas.{one-has, puts-own, takes-own}
 use Rattle.subordinate.specs.Service.{Service}
 use Rattle.subordinate.specs.SubordinateState.{Subordinate}
-use Rattle.subordinate.specs.SubordinateTable.{after_ar, after_aw, after_b, after_r, after_w, answer_to, first_is_whole, its_link, its_rows, its_wishes, kept_after, next_beat, oldest_lacking, served, serves}
+use Rattle.subordinate.specs.SubordinateTable.{after_ar, after_aw, after_b, after_r, after_w, answer_to, first_is_whole, its_link, its_rows, its_wishes, kept_after_w, next_beat, oldest_lacking, served, serves}
 use Rattle.subordinate.specs.declared.entry.ReadEntry.{ReadEntry}
 use Rattle.subordinate.specs.declared.entry.WriteEntry.{WriteEntry}
 
@@ -92,7 +93,7 @@ module _ {D : Type 0} (service : Service D) (links : List LinkView) (s : Subordi
           paces = paces_after wishes s.paces;
           writes = after_aw (beat_where go.aw (head_of link.aw)) (after_w service (beat_where go.w (head_of link.w)) (after_b (beat_where go.b (option_map answer_to (head_of s.writes))) s.writes));
           reads = after_ar (beat_where go.ar (head_of link.ar)) (after_r (beat_where go.r (option_map (next_beat service s.kept) (head_of s.reads))) s.reads);
-          kept = kept_after service (beat_where go.w (head_of link.w)) (after_b (beat_where go.b (option_map answer_to (head_of s.writes))) s.writes) s.kept;
+          kept = kept_after_w service (beat_where go.w (head_of link.w)) (after_b (beat_where go.b (option_map answer_to (head_of s.writes))) s.writes) s.kept;
         };
         out = record {
           aw_take = take_of s.upper (is_some (beat_where go.aw (head_of link.aw)));
@@ -155,3 +156,21 @@ module _ {D : Type 0} (service : Service D) (links : List LinkView) (s : Subordi
 
   pub r-done : is_some (serves service links s).r_put ≡ rows.r
   r-done = puts-let (has_room link.depth link.r) (option_map (next_beat service s.kept) (head_of s.reads)) (is_some (head_of s.reads)) s.paces.r (read-there s.reads)
+
+-- the delays stay, and so does the longest one
+delays-stay : (wanted : Bool) (pace : PaceState) → (pace_after wanted pace).delays ≡ pace.delays
+delays-stay false pace = refl
+delays-stay true pace =
+    let next : Bool → PaceState = λ over. cond over (record { delays = pace.delays; place = next_place pace; waited = 0 }) (record { delays = pace.delays; place = pace.place; waited = suc pace.waited }) in
+    let go : (over : Bool) → (next over).delays ≡ pace.delays = elim [ true ↦ refl | false ↦ refl ] in
+    go (is_over pace)
+
+pub patience-stays : (wishes : EachRow) (p : Paces) → longest_delay (paces_after wishes p) ≡ longest_delay p
+patience-stays wishes p =
+    let most : List ℕ → List ℕ → List ℕ → List ℕ → List ℕ → ℕ = λ aw w b ar r. max (longest aw) (max (longest w) (max (longest b) (max (longest ar) (longest r)))) in
+    let next : Paces = paces_after wishes p in
+    ap (λ (d : List ℕ). most d next.w.delays next.b.delays next.ar.delays next.r.delays) (delays-stay wishes.aw p.aw)
+    ∙ ap (λ (d : List ℕ). most p.aw.delays d next.b.delays next.ar.delays next.r.delays) (delays-stay wishes.w p.w)
+    ∙ ap (λ (d : List ℕ). most p.aw.delays p.w.delays d next.ar.delays next.r.delays) (delays-stay wishes.b p.b)
+    ∙ ap (λ (d : List ℕ). most p.aw.delays p.w.delays p.b.delays d next.r.delays) (delays-stay wishes.ar p.ar)
+    ∙ ap (λ (d : List ℕ). most p.aw.delays p.w.delays p.b.delays p.ar.delays d) (delays-stay wishes.r p.r)

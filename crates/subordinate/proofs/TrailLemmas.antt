@@ -51,7 +51,7 @@ trail-same aw aw' w w' b b' ar ar' r r' e f g h i =
     ap (λ t. trail_of t w b ar r) e ∙ ap (λ t. trail_of aw' t b ar r) f ∙ ap (λ t. trail_of aw' w' t ar r) g ∙ ap (λ t. trail_of aw' w' b' t r) h ∙ ap (trail_of aw' w' b' ar') i
 
 -- a row that is done is one whose condition holds
-both-let : (first second : Bool) (pace : PaceState) → is_let (first && second) pace ≡ true → second ≡ true
+pub both-let : (first second : Bool) (pace : PaceState) → is_let (first && second) pace ≡ true → second ≡ true
 both-let true true pace done = refl
 both-let true false pace done = done
 both-let false second pace done = absurd (cc)
@@ -136,7 +136,7 @@ module _ {D : Type 0} (service : Service D) where
     pub asked-after : Asks schedule now after
     asked-after = subst (λ (t : Beats). Asks schedule now t) (trail-after links s trail) later
 
-    answers-whole : (its_rows service links s).b ≡ true → first_is_whole s.writes ≡ true
+    pub answers-whole : (its_rows service links s).b ≡ true → first_is_whole s.writes ≡ true
     answers-whole done = both-let (has_room link.depth link.b) (first_is_whole s.writes) s.paces.b done
 
     -- data that is taken follows the addresses that were taken before

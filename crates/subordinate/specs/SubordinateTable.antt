@@ -93,9 +93,9 @@ abbrev pub kept_with : {D : Type 0} → Service D → WBeat → Option WriteEntr
 kept_with service w None kept = kept
 kept_with service w (Some entry) kept = service.data_kept entry.request entry.taken w kept
 
-abbrev pub kept_after : {D : Type 0} → Service D → Option WBeat → List WriteEntry → D → D
-kept_after service None entries kept = kept
-kept_after service (Some w) entries kept = kept_with service w (oldest_lacking entries) kept
+abbrev pub kept_after_w : {D : Type 0} → Service D → Option WBeat → List WriteEntry → D → D
+kept_after_w service None entries kept = kept
+kept_after_w service (Some w) entries kept = kept_with service w (oldest_lacking entries) kept
 
 -- AW: the write waits, with no data yet
 abbrev pub after_aw : Option Addr → List WriteEntry → List WriteEntry
@@ -142,7 +142,7 @@ module _ {D : Type 0} (service : Service D) (links : List LinkView) (s : Subordi
     paces = paces_after its_wishes s.paces;
     writes = after_aw moved_aw (after_w service moved_w (after_b moved_b s.writes));
     reads = after_ar moved_ar (after_r moved_r s.reads);
-    kept = kept_after service moved_w (after_b moved_b s.writes) s.kept;
+    kept = kept_after_w service moved_w (after_b moved_b s.writes) s.kept;
   }
 
   -- the takes and puts of the round

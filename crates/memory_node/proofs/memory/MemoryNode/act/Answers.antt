@@ -15,7 +15,7 @@ use Rattle.node_core.specs.declared.paces.EachRow.{EachRow}
 use Rattle.node_core.specs.declared.paces.Paces.{Paces}
 use Rattle.subordinate.specs.Service.{Service}
 use Rattle.subordinate.specs.SubordinateState.{Subordinate}
-use Rattle.subordinate.specs.SubordinateTable.{after_ar, after_aw, after_b, after_r, after_w, answer_to, its_rows, its_wishes, kept_after, moved_ar, moved_aw, moved_b, moved_r, moved_w, next_beat, wanted_rows}
+use Rattle.subordinate.specs.SubordinateTable.{after_ar, after_aw, after_b, after_r, after_w, answer_to, its_rows, its_wishes, kept_after_w, moved_ar, moved_aw, moved_b, moved_r, moved_w, next_beat, wanted_rows}
 use Rattle.subordinate.specs.declared.entry.ReadEntry.{ReadEntry}
 use Rattle.subordinate.specs.declared.entry.WriteEntry.{WriteEntry}
 use Rattle.memory_node.specs.MemoryInside.{memory_state}
@@ -123,8 +123,8 @@ the-store c =
     let links : List LinkView = c.args.links.now in
     let inner : Subordinate Store = (state_of c).inner in
     c.take_w.ensures.store
-    ∙ ap (λ (o : Option WBeat). kept_after (service_of c) o c.put_b.new.entries c.self.inside.store) (the-w c)
-    ∙ ap (λ (es : List WriteEntry). kept_after (service_of c) (moved_w (service_of c) links inner) es c.self.inside.store) (the-answered c)
+    ∙ ap (λ (o : Option WBeat). kept_after_w (service_of c) o c.put_b.new.entries c.self.inside.store) (the-w c)
+    ∙ ap (λ (es : List WriteEntry). kept_after_w (service_of c) (moved_w (service_of c) links inner) es c.self.inside.store) (the-answered c)
 
 the-paces : (c : goal.After-take_ar) → c.ask-rows.new.self ≡ (memory_next c.args.links.now (state_of c)).inner.paces
 the-paces c = c.ask-rows.ensures.paces ∙ ap (λ (w : EachRow). paces_after w c.self.inside.paces) (the-wishes c)

@@ -1,0 +1,53 @@
+-- What is known of the lanes of a beat: that they lie on the bus, and that they don't depend on the request's ID.
+use Rattle.std.proofs.Common.{◌≡◌, ℕ, ◌+◌, ◌<◌, ◌≤◌, Bool, true, false, cond, length, refl, arith}
+use Rattle.std.proofs.lemmas.List.FromFn.{length-map-range_with_len}
+use Rattle.axi_beats.specs.Bus.{IsBusWidth}
+use Rattle.axi_beats.specs.declared.beat.Addr.{Addr}
+use Rattle.axi_beats.specs.declared.beat.WBeat.{WBeat}
+use Rattle.axi_trail.specs.LinkContracts.{without_id}
+use Rattle.burst_address.proofs.LaneBytes.{lanes-on_bus}
+use Rattle.burst_address.proofs.Widths.{width-bounds, word-in_line}
+use Rattle.burst_address.specs.Formulas.{beat_at}
+use Rattle.burst_address.specs.Lanes.{first_lane, is_valid, lane_address, lane_count, word_address}
+use Rattle.memory_node.specs.Accesses.{allowed_bytes, read_addresses, beat_span}
+use Rattle.memory_node.specs.Beats.{answered_byte, answered_lanes, stored_bytes, strobed_status}
+use Rattle.memory_node.specs.Store.{Store}
+use Rattle.memory_node.specs.MemoryArea.{IsMemoryArea, MemoryArea, is_inside}
+use Rattle.memory_node.specs.Status.{is_okay, status_but_in}
+use Rattle.memory_node.proofs.BeatLemmas.{is_inside-lane}
+
+-- what a beat is doesn't depend on the ID of its request
+pub written-without_id : (area : MemoryArea) (a : Addr) (n : ℕ) (w : WBeat) → stored_bytes area (without_id a) n w ≡ stored_bytes area a n w
+written-without_id area a n w = refl
+
+pub strobed-without_id : (area : MemoryArea) (a : Addr) (n : ℕ) (w : WBeat) → strobed_status area (without_id a) n w ≡ strobed_status area a n w
+strobed-without_id area a n w = refl
+
+pub reads-without_id : (area : MemoryArea) (a : Addr) (n : ℕ) → read_addresses area (record { request = without_id a; beat = n }) ≡ read_addresses area (record { request = a; beat = n })
+reads-without_id area a n = refl
+
+pub allowed-without_id : (area : MemoryArea) (a : Addr) (n : ℕ) → allowed_bytes area (record { request = without_id a; beat = n }) ≡ allowed_bytes area (record { request = a; beat = n })
+allowed-without_id area a n = refl
+
+pub span-without_id : (area : MemoryArea) (a : Addr) (n : ℕ) → beat_span area (record { request = without_id a; beat = n }) ≡ beat_span area (record { request = a; beat = n })
+span-without_id area a n = refl
+
+-- a beat has a valid lane, and its valid lanes are lanes of the bus
+pub lanes-within : (a : Addr) (n bus : ℕ) → IsBusWidth bus → (0 < lane_count a n bus) × (first_lane a n bus + lane_count a n bus ≤ bus) × (bus ≤ 128)
+lanes-within a n bus is =
+    let lanes : (0 < lane_count a n bus) × (first_lane a n bus + lane_count a n bus ≤ bus) = lanes-on_bus a n bus is in
+    (lanes.0, lanes.1, (width-bounds bus is).1)
+
+-- the byte on a lane of the bus lies in the memory exactly where the beat's word does
+pub inside-of_lane : (area : MemoryArea) (a : Addr) (n lane : ℕ) → IsMemoryArea area → lane < area.bus → is_inside area (lane_address a n area.bus lane) ≡ is_inside area (word_address a n area.bus)
+inside-of_lane area a n lane is lt = is_inside-lane area (word_address a n area.bus) lane is (omega (arith, word-in_line (beat_at a n) area.bus is.bus))
+
+-- a byte that may be written or read lies in the memory
+pub okay-inside : (inside refused : Bool) → is_okay (status_but_in inside refused) ≡ true → inside ≡ true
+okay-inside true refused is = refl
+okay-inside false refused is = absurd (cc)
+
+-- an R beat has all its lanes
+pub lanes-long : (area : MemoryArea) (store : Store) (request : Addr) (beat : ℕ) → length (answered_lanes area store request beat) ≡ 128
+lanes-long area store request beat =
+    length-map-range_with_len (λ lane. cond (is_valid request beat area.bus lane) (answered_byte area store (lane_address request beat area.bus lane)) 0) 0 128
