@@ -4,16 +4,20 @@ use Rattle.node_core.specs.Acted.{Acted}
 use Rattle.node_shape.specs.Family.{OneOf, family}
 use Rattle.node_shape.specs.Kind.{Kind}
 use Rattle.net_kinds.specs.declared.node.Node.{Node}
-use Rattle.net_kinds.specs.declared.node.Node.TheVariants.{Slice}
+use Rattle.net_kinds.specs.declared.node.Node.TheVariants.{Memory, Slice}
 use Rattle.slice_node.specs.SliceState.{SliceState}
 use Rattle.slice_node.specs.SliceTrail.{slice_kind}
+use Rattle.memory_node.specs.MemoryState.{MemoryState}
+use Rattle.memory_node.specs.MemoryTrail.{memory_kind}
 
 pub data KindName : Type 0 where
   ASlice : KindName
+  AMemory : KindName
 
 -- the states of a kind's nodes
 abbrev pub StateOf : KindName → Type 0
 StateOf ASlice = SliceState
+StateOf AMemory = MemoryState
 
 -- the state of a node: its kind, and its state
 abbrev pub NodeState : Type 0
@@ -21,6 +25,7 @@ NodeState = OneOf StateOf
 
 abbrev pub kind_by_name : (name : KindName) → Kind (StateOf name) Access
 kind_by_name ASlice = slice_kind
+kind_by_name AMemory = memory_kind
 
 -- a node is of one of these kinds
 abbrev pub node_kind : Kind NodeState Access
@@ -29,3 +34,4 @@ node_kind = family kind_by_name
 -- a node that acted, as its state and its moves
 abbrev pub node_view : Node → Acted NodeState
 node_view (Slice n) = record { state = record { kind = ASlice; state = n.state }; out = n.out }
+node_view (Memory n) = record { state = record { kind = AMemory; state = n.value.state }; out = n.value.out }

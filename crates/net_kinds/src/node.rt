@@ -4,6 +4,7 @@ ghost use Rattle.std.specs.Prelude.{◌≡◌};
 ghost use Rattle.net_kinds.specs.NodeTable.{node_done};
 
 use axi_link::{Link, Out};
+use memory_node::MemoryNode;
 use node_core::Step;
 use slice_node::SliceNode;
 use std::marker::{Send, Sync};
@@ -13,6 +14,8 @@ use std::marker::{Send, Sync};
 pub enum Node {
     /// Between two links, where it passes every beat on a round later.
     Slice(SliceNode),
+    /// Below one link: it answers from bytes that it keeps.
+    Memory(Box<MemoryNode>),
 }
 
 impl Step for Node {
@@ -29,12 +32,14 @@ impl Step for Node {
     fn decide(&mut self, round: u64, links: &[Link]) {
         match self {
             Node::Slice(slice) => slice.decide(round, links),
+            Node::Memory(memory) => memory.decide(round, links),
         }
     }
 
     fn out(&self) -> &Out {
         match self {
             Node::Slice(slice) => slice.out(),
+            Node::Memory(memory) => memory.out(),
         }
     }
 }
@@ -46,6 +51,7 @@ impl Node {
     {
         match self {
             Node::Slice(_) => true,
+            Node::Memory(_) => true,
         }
     }
 }
