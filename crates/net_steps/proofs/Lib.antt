@@ -1,0 +1,3 @@
+pub mod PhaseLemmas
+pub mod RunLemmas
+pub mod PortLemmas

@@ -1,0 +1,15 @@
+use Rattle.std.proofs.Common.{map, refl, sym, ◌∙◌}
+use Rattle.net_kinds.specs.NodeKind.{node_view}
+use Rattle.net_model.specs.Network.{lower_node, net_link, upper_node}
+use Rattle.net_steps.proofs.PhaseLemmas.{moved-by, moves-at}
+use Rattle.net_steps.proofs.phase.commit_one.Goals as goal
+
+pub returns : goal.returns
+returns c =
+    let links = c.args.links.now in
+    let nodes = c.args.nodes.now in
+    let number = c.args.number in
+    c.commit.ensures
+    ∙ moved-by links (map node_view nodes) number c.args.queue.now (net_link links number) c.out.result.now c.out-2.result.now refl
+    (moves-at nodes (upper_node links number) c.index-nodes-link.result _ c.requires.upper c.index-nodes-link.is ∙ sym c.out.ensures)
+    (moves-at nodes (lower_node links number) c.index-nodes-link-2.result _ c.requires.lower c.index-nodes-link-2.is ∙ sym c.out-2.ensures)

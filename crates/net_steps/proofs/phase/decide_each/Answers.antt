@@ -1,0 +1,22 @@
+use Rattle.std.proofs.Common.{◌≡◌, ◌<◌, ap, arith, get_or, length, set, sym, ◌∙◌}
+use Rattle.std.proofs.lemmas.List.Edits.{map_over_more}
+use Rattle.net_kinds.specs.NodeTable.{node_done, node_table}
+use Rattle.net_kinds.specs.declared.node.Node.{Node}
+use Rattle.net_steps.proofs.PhaseLemmas.{next-is, unfinished-more}
+use Rattle.net_steps.proofs.phase.decide_each.Goals as goal
+use Rattle.net_steps.specs.Unfinished.{one_unless}
+
+pub loop-node-preserved : goal.loop-node-preserved
+loop-node-preserved c =
+    let f = node_table c.args.round c.args.queues.now in
+    let i = c.loop-node.node-index in
+    let item = c.node-item.result in
+    let within : i < length c.args.nodes.now = omega arith in
+    let decided : c.decide_one-unfinished.new.node ≡ f item = c.decide_one-unfinished.ensures.node ∙ ap f (sym c.node-item.is) in
+    let own : item ≡ get_or c.args.nodes.now i item = c.node-item.is ∙ next-is f c.args.nodes.now c.loop-node.nodes i item within c.loop-node.invariant.0 in
+    let counts : c.decide_one-unfinished.result ≡ one_unless (node_done (f item)) =
+    c.decide_one-unfinished.ensures.unfinished ∙ ap (λ (n : Node). one_unless (node_done n)) decided in
+    let more = unfinished-more f c.args.nodes.now i item item within own in (
+      ap (λ n. set c.loop-node.nodes i n) decided ∙ map_over_more f c.args.nodes.now c.loop-node.nodes i item within c.loop-node.invariant.0 c.node-item.is,
+      omega (arith, c.loop-node.invariant.1, counts, more),
+    )

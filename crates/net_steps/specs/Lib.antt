@@ -1,0 +1,4 @@
+pub mod NetInside
+pub mod NetView
+pub mod Offers
+pub mod Unfinished

@@ -1,0 +1,23 @@
+-- How a network is kept.
+use Rattle.std.specs.Prelude.{◌≡◌, ◌<◌, ◌-◌, ◌^◌, length, true}
+use Rattle.net_steps.specs.NetView.{NetView}
+use Rattle.net_steps.specs.Unfinished.{unfinished_in}
+use Rattle.net_steps.specs.declared.net.Net.TheInside.{Inside}
+
+abbrev pub net_view : Inside → NetView
+net_view n = record {
+  nodes = n.nodes.items;
+  links = n.links.items;
+  queues = n.queues.items;
+  rounds = n.rounds;
+  decided = n.decided;
+}
+
+-- its counts fit their types, each link has its queue, and those that wait for answers are counted
+pub record IsNet (n : Inside) : Type 0 where
+  pub few_nodes : length n.nodes.items < 2 ^ 32
+  pub few_links : length n.links.items < 2 ^ 32
+  pub long : length n.queues.items ≡ length n.links.items
+  pub counted : n.rounds < 2 ^ 63
+  pub begun : n.decided ≡ true → n.rounds < 2 ^ 63 - 1
+  pub unfinished : n.unfinished ≡ unfinished_in n.nodes.items
