@@ -1,0 +1,13 @@
+pub mod Answer
+pub mod AnswerInside
+pub mod Beats
+pub mod BurstLaws
+pub mod ManagerLaws
+pub mod ManagerInside
+pub mod ManagerOrder
+pub mod ManagerState
+pub mod ManagerTable
+pub mod ManagerTrail
+pub mod Placed
+pub mod Script
+pub mod ScriptInside
