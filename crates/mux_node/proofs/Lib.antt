@@ -1,0 +1,10 @@
+pub mod AnswerLemmas
+pub mod AskLemmas
+pub mod CodeLemmas
+pub mod HeldLemmas
+pub mod MergeLemmas
+pub mod OrderLemmas
+pub mod ReplyLemmas
+pub mod RowLemmas
+pub mod StepLemmas
+pub mod TableLemmas
