@@ -19,6 +19,7 @@ use Rattle.mux_node.proofs.AskLemmas.{shown-b, shown-r}
 use Rattle.mux_node.proofs.MergeLemmas.{map-map}
 use Rattle.mux_node.proofs.ReplyLemmas.{KnowsInput, completed-mapped, completed-of_input, merged-inputs, other-number, own-number, reply-inputs, up-order, widened_asked}
 use Rattle.mux_node.proofs.StepLemmas.{empty-share, share-there}
+use Rattle.mux_node.proofs.WayLemmas.{route}
 use Rattle.mux_node.specs.MuxState.{MuxState}
 use Rattle.mux_node.specs.MuxTable.{ids_of, narrowed_b, narrowed_r, widened}
 use Rattle.mux_node.specs.MuxTrail.{MuxKeeps, at_input, share_at_input}

@@ -15,14 +15,15 @@ use Rattle.axi_trail.specs.LinkContracts.{Asks, Requests}
 use Rattle.axi_trail.specs.Schedule.{Progress, Schedule, Share, no_share}
 use Rattle.axi_trail.specs.Trail.{Beats, Trail}
 use Rattle.axi_trail.specs.Words.{Asked, Reply, burst_asked, id_of_reply, number_of_address, number_of_data, read_replies, read_reply, write_asked, write_replies, write_reply}
-use Rattle.mux_node.proofs.MergeLemmas.{AreParted, CarriesEach, all-by_input, map-map, mux-asks, sel-key}
+use Rattle.mux_node.proofs.MergeLemmas.{AreParted, CarriesEach, all-by_input, map-map, merged-requests, sel-key}
 use Rattle.mux_node.proofs.ReplyLemmas.{narrowed_reply, of_room, parted-count}
-use Rattle.mux_node.proofs.RowLemmas.{all-at}
 use Rattle.mux_node.proofs.StepLemmas.{share-there}
+use Rattle.mux_node.proofs.WayLemmas.{merges}
 use Rattle.mux_node.specs.MuxState.{MuxState}
 use Rattle.mux_node.specs.MuxTable.{ids_of, narrowed_b, narrowed_r, widened}
 use Rattle.mux_node.specs.MuxTrail.{AreMerged, Merges, MuxKeeps, at_input, share_at_input}
 use Rattle.plain_lists.proofs.KeyLemmas.{of_key-map}
+use Rattle.plain_lists.proofs.PlaceLemmas.{at-all}
 use Rattle.plain_lists.proofs.PrefixLemmas.{prefix_agree, prefix_nil, prefix_of_same, prefix_same}
 use Rattle.plain_lists.specs.Keys.{of_key}
 use Rattle.plain_lists.specs.Prefixes.{IsPrefix}
@@ -74,7 +75,7 @@ module _ (schedules : ℕ → Schedule) (now : Progress) (s : MuxState) (uppers 
   ids = ids_of s.shape
 
   asks-at : (input link : ℕ) → slice_get s.shape.uppers input ≡ Some link → Asks (schedules link) now (uppers link)
-  asks-at input link at = all-at (λ l. Asks (schedules l) now (uppers l)) s.shape.uppers input link asked at
+  asks-at input link at = at-all (λ l. Asks (schedules l) now (uppers l)) s.shape.uppers input link asked at
 
   each-writes : (input : ℕ) → Requests (share_at_input s.shape.uppers (λ link. (schedules link).writes) input) s.shape.width now.issued write_asked (at_input s.shape.uppers (λ link. (uppers link).aw) input) (map write_reply (at_input s.shape.uppers (λ link. (uppers link).b) input))
   each-writes input = go (slice_get s.shape.uppers input) refl
@@ -84,7 +85,7 @@ module _ (schedules : ℕ → Schedule) (now : Progress) (s : MuxState) (uppers 
       go None at = no-requests (λ t. no_share) s.shape.width now.issued write_asked
       go (Some link) at =
           wider-requests (schedules link).writes (schedules link).id_width s.shape.width now.issued write_asked (uppers link).aw (write_replies (uppers link))
-          (all-at (λ l. (schedules l).id_width ≤ s.shape.width) s.shape.uppers input link keeps.suits.narrow at) (asks-at input link at).writes
+          (at-all (λ l. (schedules l).id_width ≤ s.shape.width) s.shape.uppers input link keeps.suits.narrow at) (asks-at input link at).writes
 
   each-reads : (input : ℕ) → Requests (share_at_input s.shape.uppers (λ link. (schedules link).reads) input) s.shape.width now.issued burst_asked (at_input s.shape.uppers (λ link. (uppers link).ar) input) (map read_reply (at_input s.shape.uppers (λ link. (uppers link).r) input))
   each-reads input = go (slice_get s.shape.uppers input) refl
@@ -94,7 +95,7 @@ module _ (schedules : ℕ → Schedule) (now : Progress) (s : MuxState) (uppers 
       go None at = no-requests (λ t. no_share) s.shape.width now.issued burst_asked
       go (Some link) at =
           wider-requests (schedules link).reads (schedules link).id_width s.shape.width now.issued burst_asked (uppers link).ar (read_replies (uppers link))
-          (all-at (λ l. (schedules l).id_width ≤ s.shape.width) s.shape.uppers input link keeps.suits.narrow at) (asks-at input link at).reads
+          (at-all (λ l. (schedules l).id_width ≤ s.shape.width) s.shape.uppers input link keeps.suits.narrow at) (asks-at input link at).reads
 
   parted-b : AreParted ids (write_replies lower) (λ input. map write_reply (at_input s.shape.uppers (λ link. (uppers link).b) input))
   parted-b input id small =
@@ -137,13 +138,12 @@ module _ (schedules : ℕ → Schedule) (now : Progress) (s : MuxState) (uppers 
 
   pub asks-below : Asks (schedules s.shape.lower) now lower
   asks-below = record {
-    writes = mux-asks keeps.suits.write_route ids s.shape.width (schedules s.shape.lower).id_width (share_at_input s.shape.uppers (λ link. (schedules link).writes)) (schedules s.shape.lower).writes now.issued (λ n. 0) lower.aw
+    writes = merged-requests keeps.suits.write_route ids s.shape.width (schedules s.shape.lower).id_width (share_at_input s.shape.uppers (λ link. (schedules link).writes)) (schedules s.shape.lower).writes now.issued (λ n. 0) lower.aw
         (at_input s.shape.uppers (λ link. (uppers link).aw)) (write_replies lower) (λ input. map write_reply (at_input s.shape.uppers (λ link. (uppers link).b) input)) keeps.aw parted-b
         (carries-each keeps.suits.write_route (share_at_input s.shape.uppers (λ link. (schedules link).writes)) (schedules s.shape.lower).writes keeps.suits.writes) (fits keeps.suits.write_route lower.aw (λ link. (uppers link).aw) keeps.aw) each-writes;
-    reads = mux-asks keeps.suits.read_route ids s.shape.width (schedules s.shape.lower).id_width (share_at_input s.shape.uppers (λ link. (schedules link).reads)) (schedules s.shape.lower).reads now.issued (λ n. n) lower.ar
+    reads = merged-requests keeps.suits.read_route ids s.shape.width (schedules s.shape.lower).id_width (share_at_input s.shape.uppers (λ link. (schedules link).reads)) (schedules s.shape.lower).reads now.issued (λ n. n) lower.ar
         (at_input s.shape.uppers (λ link. (uppers link).ar)) (read_replies lower) (λ input. map read_reply (at_input s.shape.uppers (λ link. (uppers link).r) input)) keeps.ar parted-r
         (carries-each keeps.suits.read_route (share_at_input s.shape.uppers (λ link. (schedules link).reads)) (schedules s.shape.lower).reads keeps.suits.reads) (fits keeps.suits.read_route lower.ar (λ link. (uppers link).ar) keeps.ar) each-reads;
     data_is_the_schedules = data-is;
     data_follows_addresses = prefix_agree keeps.order.in_order;
   }
-

@@ -2,9 +2,14 @@ pub mod AnswerLemmas
 pub mod AskLemmas
 pub mod CodeLemmas
 pub mod HeldLemmas
+pub mod IdleLemmas
+pub mod LocalLemmas
 pub mod MergeLemmas
+pub mod MuxHolds
 pub mod OrderLemmas
 pub mod ReplyLemmas
 pub mod RowLemmas
 pub mod StepLemmas
 pub mod TableLemmas
+pub mod TrailLemmas
+pub mod WayLemmas

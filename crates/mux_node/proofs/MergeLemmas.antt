@@ -211,10 +211,10 @@ module _ (route : ℕ → ℕ) (ids width id_width : ℕ) (above : ℕ → ℕ �
     was_issued = all-issued;
   }
 
-pub mux-asks : (route : ℕ → ℕ) (ids width id_width : ℕ) (above : ℕ → ℕ → Share) (below : ℕ → Share) (issued : ℕ → Bool) (later : ℕ → ℕ) (merged : List Addr) (inputs : ℕ → List Addr)
+pub merged-requests : (route : ℕ → ℕ) (ids width id_width : ℕ) (above : ℕ → ℕ → Share) (below : ℕ → Share) (issued : ℕ → Bool) (later : ℕ → ℕ) (merged : List Addr) (inputs : ℕ → List Addr)
     (replies : List Reply) (parted : ℕ → List Reply) →
     AreMerged route ids merged inputs → AreParted ids replies parted → CarriesEach route above below → All (λ (a : Addr). a.id < 2 ^ id_width) merged →
     ((input : ℕ) → Requests (above input) width issued (shown_by later) (inputs input) (parted input)) →
     Requests below id_width issued (shown_by later) merged replies
-mux-asks route ids width id_width above below issued later merged inputs replies parted is parts carries fits each =
+merged-requests route ids width id_width above below issued later merged inputs replies parted is parts carries fits each =
     merged-asks route ids width id_width above below issued later merged inputs replies parted is parts carries fits each

@@ -32,16 +32,16 @@ mux-takes_address route granted aw w a o =
     }
 
 -- the first of a list that is mapped
-pub record Begins {X Y : Type 0} (f : X → Y) (ps : List X) (y : Y) (ys : List Y) : Type 0 where
+pub record IsFirstOfImages {X Y : Type 0} (f : X → Y) (ps : List X) (y : Y) (ys : List Y) : Type 0 where
   pub first : X
   pub rest : List X
   pub is : ps ≡ first ∷ rest
   pub shows : y ≡ f first
   pub others : ys ≡ map f rest
 
-pub begins : (f : Waiting Asked → ℕ) (ps : List (Waiting Asked)) (y : ℕ) (ys : List ℕ) → y ∷ ys ≡ map f ps → Begins f ps y ys
-begins f [] y ys e = absurd (cc)
-begins f (p ∷ ps) y ys e =
+pub first-of_images : (f : Waiting Asked → ℕ) (ps : List (Waiting Asked)) (y : ℕ) (ys : List ℕ) → y ∷ ys ≡ map f ps → IsFirstOfImages f ps y ys
+first-of_images f [] y ys e = absurd (cc)
+first-of_images f (p ∷ ps) y ys e =
     let e' : y ∷ ys ≡ f p ∷ map f ps = e in
     let one : y ≡ f p = cc in
     let more : ys ≡ map f ps = cc in
@@ -61,7 +61,7 @@ mux-takes_data route input granted aw w beat asked sent o passed_own asked_own a
     let f : Waiting Asked → ℕ = λ p. route (number_of_waiting p) in
     let passed = map mark_of_data w in
     let m = mark_of_data beat in
-    let has = begins f (pending_asked (length w) all) input granted o.waiting in
+    let has = first-of_images f (pending_asked (length w) all) input granted o.waiting in
     let p = has.first in
     let first : pending_asked (length passed) all ≡ p ∷ has.rest = ap (λ n. pending_asked n all) (length-map w mark_of_data) ∙ has.is in
     let chosen : sub p.request.number ≡ true = eq-eqb (route p.request.number) input (sym has.shows) in

@@ -1,10 +1,10 @@
 -- What is known of a beat that moves at a mux, and what its move does to the lists of what was passed.
 use Rattle.std.proofs.Common.{[], ◌++◌, ◌/◌, ◌<◌, ◌∙◌, ◌∷◌, ◌≡◌, ◌≢◌, Bool, List, None, Option, Some, ap, append-nil, cond, eq-eqb, false, inl, inr, length, map, refl, subst, sym, take, true, ℕ}
 use Rattle.std.specs.Option.{option_and_then, option_map_or}
-use Rattle.std.specs.Prelude.{All, IfSome, is_some, option_map, slice_get}
+use Rattle.std.specs.Prelude.{IfSome, is_some, option_map, slice_get}
 use Rattle.std.proofs.lemmas.Bool.{cases_eq, ltb-true, ne_eqb}
 use Rattle.std.proofs.lemmas.List.{map-append}
-use Rattle.std.proofs.lemmas.Option.{get_or_from_slice_get, none-some, same_Some, slice_get_within}
+use Rattle.std.proofs.lemmas.Option.{none-some, same_Some}
 use Rattle.axi_link.specs.LinkView.{LinkView}
 use Rattle.axi_link.specs.LinkWords.{has_room, head_of, link_of}
 use Rattle.axi_link.specs.Moves.{appended, takes_from}
@@ -22,9 +22,6 @@ use Rattle.plain_lists.specs.Keys.{of_key, selected}
 pub and_then-has : {A B : Type 0} (P : B → Type 0) (f : A → Option B) → ((a : A) → IfSome (f a) P) → (o : Option A) → IfSome (option_and_then f o) P
 and_then-has P f each None = tt
 and_then-has P f each (Some a) = each a
-
-pub all-at : (P : ℕ → Type 0) (xs : List ℕ) (k x : ℕ) → All P xs → slice_get xs k ≡ Some x → P x
-all-at P xs k x all at = subst P (get_or_from_slice_get xs k x x at) (all k x (slice_get_within xs k x at))
 
 -- ---- requests and write data
 

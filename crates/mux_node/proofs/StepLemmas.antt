@@ -19,12 +19,13 @@ use Rattle.axi_trail.specs.SelectionLaws.{goes_way}
 use Rattle.axi_trail.specs.Trail.{Beats, Trail, joined, moved_above, moved_below, no_beats}
 use Rattle.axi_trail.specs.Words.{Mark, burst_asked, mark_of_data, marks, marks_of, number_of_address, number_of_data}
 use Rattle.mux_node.proofs.OrderLemmas.{mux-takes_address, mux-takes_data}
-use Rattle.mux_node.proofs.RowLemmas.{IsOffered, all-at, answered-is, answers-step, in_turn-is, offered-is, put-is, requests-step, taken, taken-here}
+use Rattle.mux_node.proofs.RowLemmas.{IsOffered, answered-is, answers-step, in_turn-is, offered-is, put-is, requests-step, taken, taken-here}
 use Rattle.mux_node.specs.MuxState.{MuxShape, MuxState, new_mux}
 use Rattle.mux_node.specs.MuxTable.{Moved, ends_burst, granted_left, granted_more, ids_of, input_moved, mux_ar, mux_aw, mux_b, mux_next, mux_out, mux_r, mux_w, narrowed_b, narrowed_r, offered, offered_in_turn, put_on_lower, unchanged, widened}
 use Rattle.mux_node.specs.MuxTrail.{AreMerged, IsGrantedInOrder, Merges, MuxKeeps, MuxSuits, at_input, share_at_input}
 use Rattle.node_core.proofs.RowLemmas.{beat_where-has}
 use Rattle.plain_lists.proofs.KeyLemmas.{of_key-push}
+use Rattle.plain_lists.proofs.PlaceLemmas.{at-all}
 use Rattle.plain_lists.proofs.PrefixLemmas.{Agree_fronts, prefix_append, prefix_flat_map, prefix_itself, prefix_length, prefix_map, prefix_same}
 use Rattle.plain_lists.specs.Keys.{of_key, selected}
 use Rattle.plain_lists.specs.Prefixes.{Agree, IsPrefix}
@@ -120,7 +121,7 @@ module _ (schedules : ℕ → Schedule) (now : Progress) (links : List LinkView)
   w_row = mux_w links s
 
   asks-at : (input link : ℕ) → slice_get s.shape.uppers input ≡ Some link → Asks (schedules link) now (mux_uppers links s uppers link)
-  asks-at input link at = all-at (λ l. Asks (schedules l) now (mux_uppers links s uppers l)) s.shape.uppers input link asked at
+  asks-at input link at = at-all (λ l. Asks (schedules l) now (mux_uppers links s uppers l)) s.shape.uppers input link asked at
 
   -- each address that moves is routed to its input
   aw-is : IfSome aw_row (IsOffered (λ l. l.aw) links s.shape.uppers)
@@ -187,7 +188,7 @@ module _ (schedules : ℕ → Schedule) (now : Progress) (links : List LinkView)
       go : (o : Option ℕ) → slice_get s.shape.uppers j ≡ o → All (λ (a : Addr). a.id < ids) (option_map_or (λ link. shown (mux_uppers links s uppers link)) o [])
       go None at = All-nil (λ (a : Addr). a.id < ids)
       go (Some link) at =
-          let narrow : (schedules link).id_width ≤ s.shape.width = all-at (λ l. (schedules l).id_width ≤ s.shape.width) s.shape.uppers j link keeps.suits.narrow at in
+          let narrow : (schedules link).id_width ≤ s.shape.width = at-all (λ l. (schedules l).id_width ≤ s.shape.width) s.shape.uppers j link keeps.suits.narrow at in
           let most : 2 ^ (schedules link).id_width ≤ ids_of s.shape = pow-le-pow_right {n = 2} (omega arith) {i = (schedules link).id_width} {j = s.shape.width} narrow in
           All-weaker (λ (a : Addr). a.id < 2 ^ (schedules link).id_width) (λ (a : Addr). a.id < ids) (λ a is. omega (arith, is, most)) (shown (mux_uppers links s uppers link)) (fit link (asks-at j link at))
 
@@ -258,4 +259,3 @@ module _ (schedules : ℕ → Schedule) (now : Progress) (links : List LinkView)
     b = λ j. answers-step (λ l. l.b) (λ b. b.id) links s.shape.uppers s.shape.lower ids (narrowed_b ids) keeps.suits.apart (mux_b links s) (answered-is (λ l. l.b) (λ b. b.id) links s.shape.uppers s.shape.lower ids) lower.b (λ link. (uppers link).b) j (keeps.b j);
     r = λ j. answers-step (λ l. l.r) (λ r. r.id) links s.shape.uppers s.shape.lower ids (narrowed_r ids) keeps.suits.apart (mux_r links s) (answered-is (λ l. l.r) (λ r. r.id) links s.shape.uppers s.shape.lower ids) lower.r (λ link. (uppers link).r) j (keeps.r j);
   }
-

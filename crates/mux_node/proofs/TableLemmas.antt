@@ -1,5 +1,5 @@
 -- A mux's table, of every state and all links.
-use Rattle.std.proofs.Common.{[], ◌&&◌, ◌<◌, ◌∷◌, ◌≡◌, ◌≤◌, Bool, List, None, Option, Some, arith, false, length, length-append, refl, subst, sym, true, ℕ}
+use Rattle.std.proofs.Common.{[], ◌&&◌, ◌<◌, ◌||◌, ◌∷◌, ◌≡◌, ◌≤◌, Bool, List, None, Option, Some, arith, false, length, length-append, refl, subst, sym, true, ℕ}
 use Rattle.std.specs.Option.{option_and_then}
 use Rattle.std.specs.Prelude.{All, Contains, IfSome, is_some, slice_get}
 use Rattle.std.proofs.lemmas.Bool.{and_parts, ltb-true}
@@ -12,7 +12,6 @@ use Rattle.axi_beats.specs.declared.beat.RBeat.{RBeat}
 use Rattle.axi_beats.specs.declared.beat.WBeat.{WBeat}
 use Rattle.axi_link.specs.LinkView.{LinkView}
 use Rattle.axi_link.specs.LinkWords.{has_room, head_of, link_of}
-use Rattle.mux_node.proofs.OrderLemmas.{Begins}
 use Rattle.mux_node.proofs.RowLemmas.{IsAnswer, IsOffered, and_then-has, answered-is, in_turn-is, offered-is}
 use Rattle.mux_node.specs.MuxState.{IsInputTurn, IsMux, IsMuxShape, MuxShape, MuxState, new_mux}
 use Rattle.mux_node.specs.MuxTable.{Moved, ends_burst, granted_left, granted_more, ids_of, input_moved, mux_ar, mux_aw, mux_b, mux_next, mux_out, mux_r, mux_w, narrowed_b, narrowed_r, offered, offered_in_turn, put_on_input, put_on_lower, take_of_input, take_of_lower, turn_behind, unchanged, widened}
@@ -23,7 +22,7 @@ use Rattle.node_core.specs.Fits.{MovesFit, PutFits, TakeFits}
 use Rattle.node_core.specs.Rows.{beat_where, fits}
 use Rattle.node_core.specs.Turn.{TurnState, new_turn}
 use Rattle.node_shape.proofs.OneLinkLemmas.{one-has, takes-own}
-use Rattle.node_shape.specs.KindLaws.{Fit, Own, Rests, Stays, Steady}
+use Rattle.node_shape.specs.KindLaws.{Begins, Fit, Own, Rests, Stays, Steady}
 use Rattle.node_shape.specs.Quiet.{MovesOwn}
 use Rattle.plain_lists.proofs.PlaceLemmas.{contains-at}
 

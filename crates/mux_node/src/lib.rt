@@ -10,7 +10,9 @@
 #![tactic(auto)]
 
 mod mux;
+mod mux_laws;
 mod rows;
 mod shape;
 
 pub use mux::{MuxNode, crosses_threads};
+pub use mux_laws::{laws_of_table, laws_of_trails, laws_of_ways, local_laws};

@@ -5,7 +5,10 @@ ghost use Rattle.node_core.specs.Acted.{opened};
 ghost use Rattle.mux_node.specs.MuxState.{IsMux, new_mux};
 ghost use Rattle.mux_node.specs.MuxTable.{CanMux, mux_table};
 
-use crate::rows::{Direction, join, leave, pass_address, pass_data, pass_read_data, pass_response, picked, turn_to};
+use crate::rows::{
+    Direction, first_granted, join, leave, pass_address, pass_data, pass_read_data, pass_response,
+    picked, takes_write, turn_to,
+};
 use crate::shape::Shape;
 use arrayvec::ArrayVec;
 use axi_link::{Link, Out};
@@ -61,20 +64,41 @@ impl MuxNode {
     /// Does each row of the table.
     fn act(&mut self, links: &[Link])
         requires { CanMux links.now self.old.state.shape }
-        ensures { self.new ≡ mux_table links.now self.old.state }
+        ensures table { self.new ≡ mux_table links.now self.old.state }
+        ensures fact { IsMux self.new.state }
     {
         let shape = &self.shape;
         let out = &mut self.out;
         let below = shape.below(links);
-        let may_write = below.room_aw() && self.granted.len() < 16;
+        let may_write = takes_write(below, &self.granted);
         let write = picked(links, shape, Direction::Write, may_write, &self.turn_aw);
-        let read = picked(links, shape, Direction::Read, below.room_ar(), &self.turn_ar);
-        let first = self.granted.as_slice().first().copied();
+        let read = picked(
+            links,
+            shape,
+            Direction::Read,
+            below.room_ar(),
+            &self.turn_ar,
+        );
+        let first = first_granted(&self.granted);
         pass_response(&mut out.b_take, &mut out.b_put, links, shape);
         pass_read_data(&mut out.r_take, &mut out.r_put, links, shape);
         let ends = pass_data(&mut out.w_take, &mut out.w_put, links, shape, first);
-        pass_address(&mut out.aw_take, &mut out.aw_put, links, shape, Direction::Write, write);
-        pass_address(&mut out.ar_take, &mut out.ar_put, links, shape, Direction::Read, read);
+        pass_address(
+            &mut out.aw_take,
+            &mut out.aw_put,
+            links,
+            shape,
+            Direction::Write,
+            write,
+        );
+        pass_address(
+            &mut out.ar_take,
+            &mut out.ar_put,
+            links,
+            shape,
+            Direction::Read,
+            read,
+        );
         leave(&mut self.granted, ends);
         join(&mut self.granted, write);
         turn_to(&mut self.turn_aw, write);
@@ -91,6 +115,7 @@ impl Step for MuxNode {
 
     ghost fact = { λ node. IsMux node.state };
 
+    #[tactic(auto, using(crate::proofs::TableLemmas::mux_fits))]
     fn decide(&mut self, _round: u64, links: &[Link]) {
         self.act(links);
     }

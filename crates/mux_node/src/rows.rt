@@ -1,13 +1,13 @@
 //! The rows of a mux's table: what is taken and put on each channel.
 
-ghost use Rattle.std.specs.Prelude.{◌≡◌, ◌<◌, ◌≤◌, ◌==◌, ◌+◌, ◌%◌, IfSome, IsTrue, None, Some, is_some, length, ℕ};
+ghost use Rattle.std.specs.Prelude.{◌≡◌, ◌<◌, ◌≤◌, ◌==◌, ◌&&◌, ◌+◌, ◌%◌, IfSome, IsTrue, None, Some, is_some, length, ℕ};
 ghost use Rattle.std.specs.Int.{bit_at};
 ghost use Rattle.std.specs.Option.{option_copied, option_and_then, option_map};
 ghost use Rattle.axi_link.specs.LinkWords.{has_room, head_of, link_of};
 ghost use Rattle.mux_node.specs.MuxTable.{CanMux, addresses, answered, ends_burst, granted_left, granted_more, ids_of};
 ghost use Rattle.mux_node.specs.MuxTable.{input_moved, narrowed_b, narrowed_r, offered, offered_in_turn, put_on_input, put_on_lower};
 ghost use Rattle.mux_node.specs.MuxTable.{take_of_input, take_of_lower, turn_behind, unchanged, upper_of, widened};
-ghost use Rattle.node_core.specs.Rows.{beat_where};
+ghost use Rattle.node_core.specs.Rows.{beat_where, fits};
 ghost use Rattle.node_core.specs.Turn.{first_in_turn};
 
 use crate::shape::Shape;
@@ -44,6 +44,20 @@ fn offering(links: &[Link], shape: &Shape, direction: Direction) -> u32
         ready = mark_ready(ready, input, offers);
     }
     ready
+}
+
+/// Whether a write address may go on: there is room, and few writes lack data.
+pub(crate) fn takes_write(below: &Link, granted: &ArrayVec<u8, 16>) -> bool
+    ensures { result ≡ (has_room below.now.depth below.now.aw && fits granted.now.items) }
+{
+    below.room_aw() && granted.len() < 16
+}
+
+/// The input whose data goes on.
+pub(crate) fn first_granted(granted: &ArrayVec<u8, 16>) -> Option<u8>
+    ensures { result ≡ head_of granted.now.items }
+{
+    granted.as_slice().first().copied()
 }
 
 /// The input whose turn it is among those that offer an address of a direction, where one may go on.
@@ -90,7 +104,12 @@ pub(crate) fn pass_address(
         return;
     };
     set_take(take, shape.upper(input), true);
-    put_as(put, shape.lower(), head, u32::from(input) * shape.ids() + head.id);
+    put_as(
+        put,
+        shape.lower(),
+        head,
+        u32::from(input) * shape.ids() + head.id,
+    );
 }
 
 /// W: takes the data of an input and puts it below, where there is room. Answers whether it was the last
