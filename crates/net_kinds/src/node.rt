@@ -5,6 +5,7 @@ ghost use Rattle.net_kinds.specs.NodeTable.{node_done};
 
 use axi_link::{Link, Out};
 use memory_node::MemoryNode;
+use manager_node::ManagerNode;
 use node_core::Step;
 use slice_node::SliceNode;
 use std::marker::{Send, Sync};
@@ -14,6 +15,8 @@ use std::marker::{Send, Sync};
 pub enum Node {
     /// Between two links, where it passes every beat on a round later.
     Slice(SliceNode),
+    /// Above one link: it issues the transactions of its script.
+    Manager(Box<ManagerNode>),
     /// Below one link: it answers from bytes that it keeps.
     Memory(Box<MemoryNode>),
 }
@@ -32,6 +35,7 @@ impl Step for Node {
     fn decide(&mut self, round: u64, links: &[Link]) {
         match self {
             Node::Slice(slice) => slice.decide(round, links),
+            Node::Manager(manager) => manager.decide(round, links),
             Node::Memory(memory) => memory.decide(round, links),
         }
     }
@@ -39,6 +43,7 @@ impl Step for Node {
     fn out(&self) -> &Out {
         match self {
             Node::Slice(slice) => slice.out(),
+            Node::Manager(manager) => manager.out(),
             Node::Memory(memory) => memory.out(),
         }
     }
@@ -50,6 +55,7 @@ impl Node {
         ensures { result ≡ node_done self.now }
     {
         match self {
+            Node::Manager(manager) => manager.done(),
             Node::Slice(_) => true,
             Node::Memory(_) => true,
         }
