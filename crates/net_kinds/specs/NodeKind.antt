@@ -4,24 +4,28 @@ use Rattle.node_core.specs.Acted.{Acted}
 use Rattle.node_shape.specs.Family.{OneOf, family}
 use Rattle.node_shape.specs.Kind.{Kind}
 use Rattle.net_kinds.specs.declared.node.Node.{Node}
-use Rattle.net_kinds.specs.declared.node.Node.TheVariants.{Manager, Memory, Slice}
+use Rattle.net_kinds.specs.declared.node.Node.TheVariants.{Manager, Memory, Mux, Slice}
 use Rattle.slice_node.specs.SliceState.{SliceState}
 use Rattle.slice_node.specs.SliceTrail.{slice_kind}
 use Rattle.memory_node.specs.MemoryState.{MemoryState}
 use Rattle.memory_node.specs.MemoryTrail.{memory_kind}
 use Rattle.manager_node.specs.ManagerState.{ManagerState}
 use Rattle.manager_node.specs.ManagerTrail.{manager_kind}
+use Rattle.mux_node.specs.MuxState.{MuxState}
+use Rattle.mux_node.specs.MuxTrail.{mux_kind}
 
 pub data KindName : Type 0 where
   ASlice : KindName
   AMemory : KindName
   AManager : KindName
+  AMux : KindName
 
 -- the states of a kind's nodes
 abbrev pub StateOf : KindName → Type 0
 StateOf ASlice = SliceState
 StateOf AMemory = MemoryState
 StateOf AManager = ManagerState
+StateOf AMux = MuxState
 
 -- the state of a node: its kind, and its state
 abbrev pub NodeState : Type 0
@@ -31,6 +35,7 @@ abbrev pub kind_by_name : (name : KindName) → Kind (StateOf name) Access
 kind_by_name ASlice = slice_kind
 kind_by_name AMemory = memory_kind
 kind_by_name AManager = manager_kind
+kind_by_name AMux = mux_kind
 
 -- a node is of one of these kinds
 abbrev pub node_kind : Kind NodeState Access
@@ -41,3 +46,4 @@ abbrev pub node_view : Node → Acted NodeState
 node_view (Slice n) = record { state = record { kind = ASlice; state = n.state }; out = n.out }
 node_view (Memory n) = record { state = record { kind = AMemory; state = n.value.state }; out = n.value.out }
 node_view (Manager n) = record { state = record { kind = AManager; state = n.value.state }; out = n.value.out }
+node_view (Mux n) = record { state = record { kind = AMux; state = n.state }; out = n.out }

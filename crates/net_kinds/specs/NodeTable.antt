@@ -4,30 +4,35 @@ use Rattle.axi_link.specs.LinkView.{LinkView}
 use Rattle.axi_link.specs.declared.out.Out.{Out}
 use Rattle.net_kinds.specs.NodeKind.{node_kind, node_view}
 use Rattle.net_kinds.specs.declared.node.Node.{Node}
-use Rattle.net_kinds.specs.declared.node.Node.TheVariants.{Manager, Memory, Slice}
+use Rattle.net_kinds.specs.declared.node.Node.TheVariants.{Manager, Memory, Mux, Slice}
 use Rattle.slice_node.specs.SliceTable.{CanSlice, slice_table}
 use Rattle.memory_node.specs.MemoryState.{IsMemory}
 use Rattle.memory_node.specs.MemoryTable.{CanMemory, memory_table}
 use Rattle.manager_node.specs.ManagerState.{CanManager, IsManager, is_done}
 use Rattle.manager_node.specs.ManagerTable.{manager_table}
+use Rattle.mux_node.specs.MuxState.{IsMux}
+use Rattle.mux_node.specs.MuxTable.{CanMux, mux_table}
 
 -- it may decide in this round on these links
 abbrev pub CanNode : ℕ → List LinkView → Node → Type 0
 CanNode round links (Slice n) = CanSlice links n.state
 CanNode round links (Memory n) = CanMemory links n.value.state
 CanNode round links (Manager n) = CanManager round links n.value.state
+CanNode round links (Mux n) = CanMux links n.state.shape
 
 -- the node after it decided
 abbrev pub node_table : ℕ → List LinkView → Node → Node
 node_table round links (Slice n) = Slice (slice_table links n.state)
 node_table round links (Memory n) = Memory (record n { value = memory_table links n.value.state })
 node_table round links (Manager n) = Manager (record n { value = manager_table round links n.value.state })
+node_table round links (Mux n) = Mux (mux_table links n.state)
 
 -- the moves that it chose
 abbrev pub node_out : Node → Out
 node_out (Slice n) = n.out
 node_out (Memory n) = n.value.out
 node_out (Manager n) = n.value.out
+node_out (Mux n) = n.out
 
 -- it waits for no answer
 abbrev pub node_done : Node → Bool
@@ -39,6 +44,7 @@ abbrev pub node_fact : Node → Type 0
 node_fact (Slice n) = Unit {0}
 node_fact (Memory n) = IsMemory n.value.state
 node_fact (Manager n) = IsManager n.value.state
+node_fact (Mux n) = IsMux n.state
 
 -- a node does what its kind does
 pub record DoesAsItsKind (round : ℕ) (links : List LinkView) (node : Node) : Type 0 where

@@ -6,6 +6,7 @@ ghost use Rattle.net_kinds.specs.NodeTable.{node_done};
 use axi_link::{Link, Out};
 use memory_node::MemoryNode;
 use manager_node::ManagerNode;
+use mux_node::MuxNode;
 use node_core::Step;
 use slice_node::SliceNode;
 use std::marker::{Send, Sync};
@@ -15,6 +16,8 @@ use std::marker::{Send, Sync};
 pub enum Node {
     /// Between two links, where it passes every beat on a round later.
     Slice(SliceNode),
+    /// Below several links, which it joins into the one below it.
+    Mux(MuxNode),
     /// Above one link: it issues the transactions of its script.
     Manager(Box<ManagerNode>),
     /// Below one link: it answers from bytes that it keeps.
@@ -35,6 +38,7 @@ impl Step for Node {
     fn decide(&mut self, round: u64, links: &[Link]) {
         match self {
             Node::Slice(slice) => slice.decide(round, links),
+            Node::Mux(mux) => mux.decide(round, links),
             Node::Manager(manager) => manager.decide(round, links),
             Node::Memory(memory) => memory.decide(round, links),
         }
@@ -43,6 +47,7 @@ impl Step for Node {
     fn out(&self) -> &Out {
         match self {
             Node::Slice(slice) => slice.out(),
+            Node::Mux(mux) => mux.out(),
             Node::Manager(manager) => manager.out(),
             Node::Memory(memory) => memory.out(),
         }
@@ -57,6 +62,7 @@ impl Node {
         match self {
             Node::Manager(manager) => manager.done(),
             Node::Slice(_) => true,
+            Node::Mux(_) => true,
             Node::Memory(_) => true,
         }
     }
