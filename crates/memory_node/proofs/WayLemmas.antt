@@ -1,7 +1,7 @@
 -- How transactions end at a memory.
 use Rattle.std.proofs.Common.{◌≡◌, ◌<◌, ◌^◌, ℕ, Bool, true, false, List, [], ◌∷◌, ◌++◌, length, map, Option, Some, None, refl, sym, ◌∙◌, ap, subst, arith}
 use Rattle.std.specs.Prelude.{All, Contains, flat_map, unwrap_or}
-use Rattle.std.specs.List.{AllZip, range_with_len}
+use Rattle.std.specs.List.{range_with_len}
 use Rattle.std.proofs.lemmas.List.{map-append}
 use Rattle.std.proofs.lemmas.List.Elements.{All-nil}
 use Rattle.std.proofs.lemmas.Simd.{map-map}
@@ -17,22 +17,15 @@ use Rattle.memory_node.specs.MemoryArea.{MemoryArea}
 use Rattle.memory_node.specs.MemoryState.{IsRequest}
 use Rattle.memory_node.specs.MemoryTable.{memory_service}
 use Rattle.memory_node.specs.MemoryTrail.{SuitsMemory, memory_kind}
-use Rattle.node_shape.specs.LegalSchedule.{IsDataOf}
 use Rattle.node_shape.specs.LinkForm.{FitsLink, LinkForm, wanted_lanes}
 use Rattle.node_shape.specs.WayLaws.{CutsFit, GoesBelow, HasWay, OriginsFit, WaysSuit}
 use Rattle.node_shape.specs.WaysAround.{IsCarried}
 use Rattle.node_shape.proofs.OneLinkLemmas.{one-has}
 use Rattle.subordinate.specs.Parts.{BeatOf, beats_of_parts}
-use Rattle.subordinate.specs.Tracks.{ends_with}
+use Rattle.subordinate.proofs.WayLemmas.{ends-has_way, service-suits}
 
 pub memory-has_way : HasWay memory_kind
-memory-has_way s = record {
-  goes_on = λ share responses. refl;
-  cut = λ share responses. refl;
-  chain = λ share. refl;
-  merged = λ write share responses below. refl;
-  ends = λ write share responses. refl;
-}
+memory-has_way s = ends-has_way (memory_service s.area)
 
 pub memory-goes_below : GoesBelow memory_kind
 memory-goes_below s share link goes = absurd (cc)
@@ -42,14 +35,6 @@ memory-origins_fit forms schedules s new sound origin among = absurd (omega (ari
 
 pub memory-cuts_fit : CutsFit memory_kind
 memory-cuts_fit forms schedules s new sound write link next share among carried goes = absurd (cc)
-
--- each part has its data
-data-whole : (bus : ℕ) (parts : List Addr) (written : List (List WBeat)) → AllZip (IsDataOf bus) parts written → map (λ (beats : List WBeat). length beats) written ≡ map beats_of parts
-data-whole bus [] [] is = refl
-data-whole bus [] (d ∷ written) is = absurd is
-data-whole bus (p ∷ parts) [] is = absurd is
-data-whole bus (p ∷ parts) (d ∷ written) is =
-    ap (λ n. n ∷ map (λ (beats : List WBeat). length beats) written) is.0.whole ∙ ap (λ ns. beats_of p ∷ ns) (data-whole bus parts written is.1)
 
 -- an AXI4 form of this bus
 abbrev plain_form : Bool → ℕ → LinkForm
@@ -79,35 +64,28 @@ module _ (area : MemoryArea) (form : LinkForm) (full : form.lite ≡ false) (bus
 
   -- what the link carries of a write suits the memory
   record WriteSuits (share : Share) : Type 0 where
-    write_data : map (λ (beats : List WBeat). length beats) share.write_data ≡ map beats_of share.parts
-    responses : share.responses ≡ ends_with (memory_service area) true share
     requests : All (IsRequest area.bus) share.parts
     strobes : All (λ (w : WBeat). w.strobe < 2 ^ area.bus) (flat_map (λ beats. beats) share.write_data)
 
-  write-suits : (o : Option Share) → ((share : Share) → o ≡ Some share → IsCarried form true link share) → ((share : Share) → o ≡ Some share → share.responses ≡ ends_with (memory_service area) true share) →
-      WriteSuits (unwrap_or o no_share)
-  write-suits None carried ends = record { write_data = refl; responses = refl; requests = All-nil (IsRequest area.bus); strobes = All-nil (λ (w : WBeat). w.strobe < 2 ^ area.bus) }
-  write-suits (Some share) carried ends =
+  write-suits : (o : Option Share) → ((share : Share) → o ≡ Some share → IsCarried form true link share) → WriteSuits (unwrap_or o no_share)
+  write-suits None carried = record { requests = All-nil (IsRequest area.bus); strobes = All-nil (λ (w : WBeat). w.strobe < 2 ^ area.bus) }
+  write-suits (Some share) carried =
       let fits : FitsLink form true share = (carried share refl).fits in
       record {
-        write_data = data-whole form.bus share.parts share.write_data (fits.write_data refl);
-        responses = ends share refl;
         requests = requests share.parts fits.legal fits.small;
         strobes = subst (λ (n : ℕ). All (λ (w : WBeat). w.strobe < 2 ^ n) (flat_map (λ beats. beats) share.write_data)) bus (fits.strobes refl);
       }
 
   -- and so does what it carries of a read
   record ReadSuits (share : Share) : Type 0 where
-    responses : share.responses ≡ ends_with (memory_service area) false share
     requests : All (IsRequest area.bus) share.parts
     lanes : share.lanes ≡ map (beat_span area) (beats_of_parts share.parts)
 
-  read-suits : (o : Option Share) → ((share : Share) → o ≡ Some share → IsCarried form false link share) → ((share : Share) → o ≡ Some share → share.responses ≡ ends_with (memory_service area) false share) →
-      ReadSuits (unwrap_or o no_share)
-  read-suits None carried ends = record { responses = refl; requests = All-nil (IsRequest area.bus); lanes = refl }
-  read-suits (Some share) carried ends =
+  read-suits : (o : Option Share) → ((share : Share) → o ≡ Some share → IsCarried form false link share) → ReadSuits (unwrap_or o no_share)
+  read-suits None carried = record { requests = All-nil (IsRequest area.bus); lanes = refl }
+  read-suits (Some share) carried =
       let fits : FitsLink form false share = (carried share refl).fits in
-      record { responses = ends share refl; requests = requests share.parts fits.legal fits.small; lanes = fits.lanes ∙ lanes-whole share.parts }
+      record { requests = requests share.parts fits.legal fits.small; lanes = fits.lanes ∙ lanes-whole share.parts }
 
 pub memory-ways_suit : WaysSuit memory_kind
 memory-ways_suit forms schedules s new sound ways =
@@ -115,12 +93,12 @@ memory-ways_suit forms schedules s new sound ways =
     let among : Contains (u ∷ []) u = one-has u in
     let write : (t : ℕ) → WriteSuits s.area (forms u) sound.full sound.bus u ((schedules u).writes t) = λ t.
     subst (λ (x : Share). WriteSuits s.area (forms u) sound.full sound.bus u x) (sym (ways.writes_are u t))
-    (write-suits s.area (forms u) sound.full sound.bus u (ways.carried_writes u t) (λ share is. ways.writes.above u t share among is) (λ share is. ways.writes.ends u t share among is refl)) in
+    (write-suits s.area (forms u) sound.full sound.bus u (ways.carried_writes u t) (λ share is. ways.writes.above u t share among is)) in
     let read : (t : ℕ) → ReadSuits s.area (forms u) sound.full sound.bus u ((schedules u).reads t) = λ t.
     subst (λ (x : Share). ReadSuits s.area (forms u) sound.full sound.bus u x) (sym (ways.reads_are u t))
-    (read-suits s.area (forms u) sound.full sound.bus u (ways.carried_reads u t) (λ share is. ways.reads.above u t share among is) (λ share is. ways.reads.ends u t share among is refl)) in
+    (read-suits s.area (forms u) sound.full sound.bus u (ways.carried_reads u t) (λ share is. ways.reads.above u t share among is)) in
     record {
-      service = λ t. record { write_data = (write t).write_data; responses = (write t).responses; read_responses = (read t).responses };
+      service = service-suits (memory_service s.area) u forms schedules ways;
       lanes = λ t. (read t).lanes;
       writes = λ t. (write t).requests;
       lines_kept = sound.lines;

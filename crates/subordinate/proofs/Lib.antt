@@ -6,4 +6,5 @@ pub mod PartPlaces
 pub mod ReadOrder
 pub mod TableLemmas
 pub mod TrailLemmas
+pub mod WayLemmas
 pub mod WriteOrder

@@ -1,0 +1,6 @@
+pub mod ErrorHolds
+pub mod IdleLemmas
+pub mod StayLemmas
+pub mod TableLemmas
+pub mod TrailLemmas
+pub mod WayLemmas
