@@ -5,3 +5,8 @@ pub mod PlanFacts
 pub mod Uppers
 pub mod Orders
 pub mod PathFacts
+pub mod Sizes
+pub mod Once
+pub mod Depths
+pub mod PathSteps
+pub mod Kept

@@ -3,7 +3,8 @@ use Rattle.std.proofs.Common.{◌≡◌, ◌<◌, ◌+◌, ◌-◌, ◌*◌, ◌
 use Rattle.std.specs.Prelude.{flat_map, is_some, slice_get, slice_index_or, sum}
 use Rattle.std.specs.List.{range_with_len}
 use Rattle.std.proofs.lemmas.Bool.{cases_lt, false≢true, true≢false}
-use Rattle.std.proofs.lemmas.List.{length-append}
+use Rattle.std.proofs.lemmas.Grind.{flat_map-append}
+use Rattle.std.proofs.lemmas.List.{append-nil, length-append}
 use Rattle.std.proofs.lemmas.Option.{slice_get_within}
 use Rattle.std.proofs.lemmas.List.Sums.{sum_by-cons}
 use Rattle.node_graph.specs.Graph.{is_in}
@@ -120,3 +121,20 @@ pub nth-in : (xs : List ℕ) (place : ℕ) → place < length xs → is_in xs (s
 nth-in [] place less = absurd (omega (arith, less))
 nth-in (x ∷ xs) zero less = in-first x xs x refl
 nth-in (x ∷ xs) (suc place) less = in-rest x xs (slice_index_or xs place 0) (nth-in xs place (omega (arith, less)))
+
+-- ---- one more of a range
+
+range-more : (from count : ℕ) → range_with_len from (suc count) ≡ range_with_len from count ++ (from + count) ∷ []
+range-more from zero = ap (λ (n : ℕ). n ∷ []) (omega arith)
+range-more from (suc count) =
+    let one : (from + 1) + count ≡ from + suc count = omega arith in
+    ap (λ ns. from ∷ ns) (range-more (from + 1) count ∙ ap (λ n. range_with_len (from + 1) count ++ n ∷ []) one)
+
+pub flat-more : {X : Type 0} (f : ℕ → List X) (count : ℕ) → flat_map f (range_with_len 0 (count + 1)) ≡ flat_map f (range_with_len 0 count) ++ f count
+flat-more f count =
+    let one : count + 1 ≡ suc count = omega arith in
+    let last : 0 + count ≡ count = omega arith in
+    ap (λ n. flat_map f (range_with_len 0 n)) one
+    ∙ ap (flat_map f) (range-more 0 count ∙ ap (λ n. range_with_len 0 count ++ n ∷ []) last)
+    ∙ flat_map-append f (range_with_len 0 count) (count ∷ [])
+    ∙ ap (λ ys. flat_map f (range_with_len 0 count) ++ ys) (append-nil (f count))

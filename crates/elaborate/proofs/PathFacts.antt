@@ -18,7 +18,7 @@ use Rattle.topology.specs.Document.{DocumentNode, NamedRegion, has_regions, is_m
 use Rattle.topology.specs.Refused.{IsAccepted, is_bad_range}
 use Rattle.topology_text.specs.declared.kind.Kind.{Kind}
 use Rattle.topology_text.specs.declared.kind.Kind.TheVariants as kind
-use Rattle.elaborate.specs.Path.{next_by_part, next_part, path_from, port_at_demux, ported_regions}
+use Rattle.elaborate.specs.Path.{next_by_part, next_part, path_from, port_at_demux, port_by_part, ported_regions}
 use Rattle.elaborate.specs.PathLaws.{PageHasOnePath, PathBeginsAtManager, PathEndsAtEndpoint, PathFollowsLinks, is_endpoint}
 use Rattle.elaborate.specs.Plan.{PlanNode, demux_itself, entrance, entrances, first_part, input_demux, itself, plan_graph, plan_nodes, targets}
 use Rattle.elaborate.specs.declared.part.Part.{Part}
@@ -34,26 +34,25 @@ use Rattle.elaborate.proofs.Uppers.{node-below}
 -- ---- a path, step by step
 
 -- where a path goes on from a plan node
-abbrev onward : List DocumentNode → ℕ → ℕ → Option ℕ
+abbrev pub onward : List DocumentNode → ℕ → ℕ → Option ℕ
 onward nodes address number = option_and_then (next_part nodes address) (slice_get (plan_nodes nodes) number)
 
 abbrev from : List DocumentNode → ℕ → ℕ → ℕ → List ℕ
 from nodes address most number = path_from nodes (plan_nodes nodes) address most number
 
-path-stops : (nodes : List DocumentNode) (address most number : ℕ) → onward nodes address number ≡ None → from nodes address (suc most) number ≡ number ∷ []
+pub path-stops : (nodes : List DocumentNode) (address most number : ℕ) → onward nodes address number ≡ None → from nodes address (suc most) number ≡ number ∷ []
 unfolding path_from
 path-stops nodes address most number e = ap (λ o. number ∷ option_map_or (path_from nodes (plan_nodes nodes) address most) o []) e
 
-path-goes_on : (nodes : List DocumentNode) (address most number next : ℕ) → onward nodes address number ≡ Some next → from nodes address (suc most) number ≡ number ∷ from nodes address most next
+pub path-goes_on : (nodes : List DocumentNode) (address most number next : ℕ) → onward nodes address number ≡ Some next → from nodes address (suc most) number ≡ number ∷ from nodes address most next
 unfolding path_from
 path-goes_on nodes address most number next e = ap (λ o. number ∷ option_map_or (path_from nodes (plan_nodes nodes) address most) o []) e
 
 -- a path goes on to a node below
 next-in : (nodes : List DocumentNode) (address next : ℕ) (node : PlanNode) (p : Part) → next_by_part nodes address node p ≡ Some next → is_in node.lower next ≡ true
-next-in nodes address next node part.Demux e = get-in node.lower (port_at_demux nodes (node_at nodes node.document) address) next e
-next-in nodes address next node other e = get-in node.lower 0 next e
+next-in nodes address next node p e = get-in node.lower (port_by_part nodes address node.document p) next e
 
-onward-below : (nodes : List DocumentNode) (address number next : ℕ) → onward nodes address number ≡ Some next → is_in (nodes_below (plan_graph nodes) number) next ≡ true
+pub onward-below : (nodes : List DocumentNode) (address number next : ℕ) → onward nodes address number ≡ Some next → is_in (nodes_below (plan_graph nodes) number) next ≡ true
 onward-below nodes address number next e = go (slice_get (plan_nodes nodes) number) refl e
   where
     go : (o : Option PlanNode) → slice_get (plan_nodes nodes) number ≡ o → option_and_then (next_part nodes address) o ≡ Some next → is_in (nodes_below (plan_graph nodes) number) next ≡ true
@@ -103,7 +102,7 @@ unfolding Follows
 path-follows_links nodes manager address place less = follows-by nodes address (length (plan_nodes nodes)) (first_part nodes manager) place less
 
 -- a manager's own plan node
-manager-at : (nodes : List DocumentNode) (place : ℕ) (k : Kind) → place < length nodes → (node_at nodes place).kind ≡ k → is_manager k ≡ true → first_part nodes place < length (plan_nodes nodes)
+pub manager-at : (nodes : List DocumentNode) (place : ℕ) (k : Kind) → place < length nodes → (node_at nodes place).kind ≡ k → is_manager k ≡ true → first_part nodes place < length (plan_nodes nodes)
 manager-at nodes place kind.Manager less is e =
     slice_get_within (plan_nodes nodes) (first_part nodes place) (itself nodes place part.Manager) (at-kind nodes place 0 (first_part nodes place) (itself nodes place part.Manager) kind.Manager less is refl (omega arith))
 manager-at nodes place other less is e = absurd (false≢true e)
@@ -178,7 +177,7 @@ record Ends (nodes : List DocumentNode) (path : List ℕ) : Type 0 where
 none-left : Unit {0} → 1 - 1 ≡ 0
 none-left u = omega arith
 
-last-later : (x : ℕ) (xs : List ℕ) → 0 < length xs → slice_index_or (x ∷ xs) (length (x ∷ xs) - 1) 0 ≡ slice_index_or xs (length xs - 1) 0
+pub last-later : (x : ℕ) (xs : List ℕ) → 0 < length xs → slice_index_or (x ∷ xs) (length (x ∷ xs) - 1) 0 ≡ slice_index_or xs (length xs - 1) 0
 last-later x [] some = absurd (omega (arith, some))
 last-later x (y ∷ ys) some =
     let front : suc (suc (length ys)) - 1 ≡ suc (length ys) = omega arith in

@@ -21,10 +21,14 @@ module _ (nodes : List DocumentNode) where
   abbrev pub port_at_demux : DocumentNode → ℕ → ℕ
   port_at_demux node address = unwrap_or (serving_port (ported_regions node) address) (length (targets_of nodes node))
 
+  -- the port of an address at a part of a document node: only a demux has several
+  abbrev pub port_by_part : ℕ → ℕ → Part → ℕ
+  port_by_part address document part.Demux = port_at_demux (node_at nodes document) address
+  port_by_part address document other = 0
+
   -- the plan node to which a request for an address goes on
   abbrev pub next_by_part : ℕ → PlanNode → Part → Option ℕ
-  next_by_part address node part.Demux = slice_get node.lower (port_at_demux (node_at nodes node.document) address)
-  next_by_part address node other = slice_get node.lower 0
+  next_by_part address node part = slice_get node.lower (port_by_part address node.document part)
 
   abbrev pub next_part : ℕ → PlanNode → Option ℕ
   next_part address node = next_by_part address node node.part

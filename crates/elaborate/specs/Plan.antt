@@ -6,6 +6,7 @@ use Rattle.topology.specs.Document.{DocumentNode, first_link, inputs_of, link_ki
 use Rattle.topology_text.specs.declared.kind.Kind.{Kind}
 use Rattle.topology.specs.declared.link.LinkKind.{LinkKind}
 use Rattle.topology_text.specs.declared.kind.Kind.TheVariants as kind
+pub use Rattle.elaborate.specs.declared.link.PlanLink.{PlanLink}
 use Rattle.elaborate.specs.declared.part.Part.{Part}
 use Rattle.elaborate.specs.declared.part.Part.TheVariants as part
 
@@ -105,13 +106,6 @@ module _ (nodes : List DocumentNode) where
 
 -- ---- links
 
--- a link: its two plan nodes, what it is, and how many beats each of its queues has room for
-pub record PlanLink : Type 0 where
-  pub upper : ℕ
-  pub lower : ℕ
-  pub link : LinkKind
-  pub depth : ℕ
-
 module _ (nodes : List DocumentNode) where
   -- the links below a plan node of this number, in order of port
   abbrev pub links_below : ℕ → PlanNode → List PlanLink
@@ -125,3 +119,10 @@ module _ (nodes : List DocumentNode) where
   -- the plan's links, numbered from 0 by upper node and then by port
   abbrev pub plan_links : List PlanLink
   plan_links = links_from 0 (plan_nodes nodes)
+
+  -- the plan node of this number, and the link of this number
+  abbrev pub plan_node_at : ℕ → PlanNode
+  plan_node_at number = slice_index_or (plan_nodes nodes) number (record { part = part.Slice; document = 0; name = []; lower = []; link = no_link })
+
+  abbrev pub plan_link_at : ℕ → PlanLink
+  plan_link_at number = slice_index_or plan_links number (record { upper = 0; lower = 0; link = no_link; depth = 0 })

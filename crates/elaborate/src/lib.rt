@@ -2,12 +2,28 @@
 //! way an address takes over them.
 #![tactic(auto)]
 
+pub use kinds::unbuilt;
 pub use known::known_plans;
+pub use link::PlanLink;
 pub use part::Part;
 pub use path_laws::{laws_of_order, laws_of_paths};
+pub use plan::{Plan, plan_of};
 pub use plan_laws::laws;
 
+mod counts;
+mod crossbar;
+mod entrances;
+mod firsts;
+mod kinds;
 mod known;
+mod link;
+mod links;
+mod names;
+mod node;
+mod order;
 mod part;
+mod parts;
 mod path_laws;
+mod plan;
 mod plan_laws;
+mod regions;

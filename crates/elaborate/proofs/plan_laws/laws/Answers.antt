@@ -1,3 +1,4 @@
+use Rattle.elaborate.proofs.Once.{none-is_twice_below}
 use Rattle.elaborate.proofs.PlanFacts.{lowers-are_nodes, one-is_above, plan-is_acyclic}
 use Rattle.elaborate.proofs.Uppers.{none-is_above, some-is_above}
 use Rattle.elaborate.proofs.plan_laws.laws.Goals as goal
@@ -16,3 +17,6 @@ returns-clause-some c = some-is_above
 
 pub returns-clause-none : goal.returns-clause-none
 returns-clause-none c = none-is_above
+
+pub returns-clause-twice : goal.returns-clause-twice
+returns-clause-twice c = none-is_twice_below
