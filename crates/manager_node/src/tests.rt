@@ -178,44 +178,56 @@ fn responds(id: u32, resp: Resp) -> Out {
     out
 }
 
+/// The taking of a response.
+fn takes_response() -> Out {
+    Out {
+        b_take: Some(0),
+        ..Out::default()
+    }
+}
+
+/// The read's beat that comes on the link.
+fn reads() -> Out {
+    Out {
+        r_put: Some((
+            0,
+            RBeat {
+                id: 2,
+                lanes: lanes([9, 8, 0x77, 0x78]),
+                last: true,
+                ..RBeat::default()
+            },
+        )),
+        ..Out::default()
+    }
+}
+
+/// A round in which this comes, and the manager moves that.
+fn comes(round: u64, offered: Out, moved: Out) -> Row {
+    Row {
+        round,
+        offered,
+        moved,
+    }
+}
+
 /// The rounds in which it is answered, each answer a round after it came, and issues its read: B in 8
 /// and 10, AR in 11, R in 13.
 fn answer_rows() -> [Row; 6] {
-    let mut taken = Out::default();
-    taken.b_take = Some(0);
-    let mut read = Out::default();
-    read.ar_put = Some((0, request(3, 2, 0x12, 0)));
-    let mut read_data = Out::default();
-    read_data.r_put = Some((
-        0,
-        RBeat {
-            id: 2,
-            lanes: lanes([9, 8, 0x77, 0x78]),
-            last: true,
-            ..RBeat::default()
-        },
-    ));
-    let mut got = Out::default();
-    got.r_take = Some(0);
-    let quiet = Out::default();
+    let read = Out {
+        ar_put: Some((0, request(3, 2, 0x12, 0))),
+        ..Out::default()
+    };
+    let got = Out {
+        r_take: Some(0),
+        ..Out::default()
+    };
     [
-        Row {
-            round: 7,
-            offered: responds(2, Resp::SlvErr),
-            moved: quiet,
-        },
-        Row {
-            round: 8,
-            offered: responds(1, Resp::Okay),
-            moved: taken,
-        },
-        moves(10, taken),
+        comes(7, responds(2, Resp::SlvErr), Out::default()),
+        comes(8, responds(1, Resp::Okay), takes_response()),
+        moves(10, takes_response()),
         moves(11, read),
-        Row {
-            round: 12,
-            offered: read_data,
-            moved: quiet,
-        },
+        comes(12, reads(), Out::default()),
         moves(13, got),
     ]
 }
