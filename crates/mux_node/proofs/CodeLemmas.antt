@@ -1,10 +1,11 @@
 -- What the code of a mux finds is what its table names.
-use Rattle.std.proofs.Common.{◌&&◌, ◌+◌, ◌<◌, ◌==◌, ◌||◌, ◌∙◌, ◌≡◌, ◌≤◌, Bool, List, None, Option, Some, ap, ap₂, arith, eq-eqb, false, inl, inr, length, refl, sym, true, ℕ}
+use Rattle.std.proofs.Common.{◌&&◌, ◌+◌, ◌<◌, ◌==◌, ◌||◌, ◌∙◌, ◌≡◌, ◌≤◌, Bool, List, None, Option, Some, ap, ap₂, arith, eq-eqb, false, inl, inr, length, refl, subst, suc, sym, take, true, ℕ}
 use Rattle.std.specs.Borrow.{Bor}
-use Rattle.std.specs.Option.{option_and_then, option_copied}
-use Rattle.std.specs.Prelude.{IfSome, is_some, nat_lt, option_map, slice_index_or}
+use Rattle.std.specs.Option.{option_and_then, option_copied, option_map}
+use Rattle.std.specs.Prelude.{All, IfSome, is_some, nat_lt, slice_index_or}
 use Rattle.std.proofs.lemmas.Bool.{cases_eq, cases_lt, le-ltb, lt-ltb, ne_eqb}
-use Rattle.std.proofs.lemmas.Option.{slice_get-get_or, slice_get_past}
+use Rattle.std.proofs.lemmas.List.Elements.{All-push}
+use Rattle.std.proofs.lemmas.Option.{slice_get-get_or, slice_get_past, slice_get_within}
 use Rattle.axi_beats.specs.declared.beat.Addr.{Addr}
 use Rattle.axi_beats.specs.declared.beat.BBeat.{BBeat}
 use Rattle.axi_beats.specs.declared.beat.RBeat.{RBeat}
@@ -17,7 +18,7 @@ use Rattle.mux_node.specs.MuxState.{MuxShape, MuxState}
 use Rattle.mux_node.specs.MuxTable.{Moved, ends_burst, granted_left, granted_more, ids_of, input_moved, mux_ar, mux_aw, mux_b, mux_next, mux_out, mux_r, mux_table, mux_w, narrowed_b, narrowed_r, offered, offered_in_turn, put_on_input, put_on_lower, take_of_input, take_of_lower, turn_behind, unchanged, widened}
 use Rattle.node_core.specs.Rows.{beat_where, fits}
 use Rattle.node_core.specs.Turn.{TurnState, first_in_turn, tried}
-use Rattle.plain_lists.proofs.PlaceLemmas.{find-has}
+use Rattle.plain_lists.proofs.PlaceLemmas.{all-at, at-all, find-has, take-has, take-one}
 
 -- what an input offers, by its link
 abbrev the_moved : {X : Type 0} → (LinkView → List X) → List LinkView → ℕ → Option ℕ → Option (Moved X)
@@ -166,3 +167,14 @@ has-acted links s write read first may_write may_read ends after out is =
     ∙ ap (λ (t : TurnState). record { state = record { shape = s.shape; turn_aw = (mux_next links s).turn_aw; turn_ar = t; granted = after.granted }; out = out }) (is.turn_ar ∙ ap (turn_behind s.turn_ar) read_is)
     ∙ ap (λ (g : List ℕ). record { state = record { shape = s.shape; turn_aw = (mux_next links s).turn_aw; turn_ar = (mux_next links s).turn_ar; granted = g }; out = out }) granted
     ∙ ap (λ (o : Out). record { state = mux_next links s; out = o }) outs
+
+-- what holds of the first ones and of the next one holds of one more
+pub all-next : (P : ℕ → Type 0) (xs : List ℕ) (i d : ℕ) → i < length xs → All P (take i xs) → P (slice_index_or xs i d) → All P (take (i + 1) xs)
+all-next P xs i d within all is =
+    let one : suc i ≡ i + 1 = omega arith in
+    subst (λ (n : ℕ). All P (take n xs)) one
+    (subst (λ (ys : List ℕ). All P ys) (sym (take-one i xs (slice_index_or xs i d) (slice_get-get_or xs i d within))) (All-push P (take i xs) (slice_index_or xs i d) all is))
+
+-- and what holds of all that were taken holds of all
+pub all-taken : (P : ℕ → Type 0) (xs : List ℕ) (n : ℕ) → length xs ≤ n → All P (take n xs) → All P xs
+all-taken P xs n long all = all-at P xs (λ k x at. let within = slice_get_within xs k x at in at-all P (take n xs) k x all (take-has n xs k x (omega (arith, within, long)) at))

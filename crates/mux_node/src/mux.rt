@@ -1,6 +1,6 @@
 //! `MuxNode`, seen in clauses as its state and its takes and puts of the round.
 
-ghost use Rattle.std.specs.Prelude.{◌≡◌, ◌<◌, ◌≤◌, length};
+ghost use Rattle.std.specs.Prelude.{◌≡◌, ◌<◌, ◌≤◌, IsTrue, length};
 ghost use Rattle.node_core.specs.Acted.{opened};
 ghost use Rattle.mux_node.specs.MuxState.{IsMux, new_mux};
 ghost use Rattle.mux_node.specs.MuxTable.{CanMux, mux_table};
@@ -59,6 +59,14 @@ impl MuxNode {
             granted: ArrayVec::new(),
             out: Out::default(),
         }
+    }
+
+    /// Whether its links are among these, and the addresses on them have narrow IDs.
+    #[cfg(test)]
+    pub(crate) fn may_decide_on(&self, links: &[Link]) -> bool
+        ensures { IsTrue result → CanMux links.now self.now.state.shape }
+    {
+        self.shape.fits_on(links)
     }
 
     /// Does each row of the table.

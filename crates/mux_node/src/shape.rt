@@ -1,11 +1,13 @@
 //! `Shape`, what of a mux never changes.
 
-ghost use Rattle.std.specs.Prelude.{◌≡◌, ◌<◌, ◌≤◌, ◌/◌, ◌^◌, IfSome, Some, length, nat_lt};
-ghost use Rattle.axi_link.specs.LinkWords.{link_of};
+ghost use Rattle.std.specs.Prelude.{◌≡◌, ◌<◌, ◌≤◌, ◌/◌, IfSome, IsTrue, Some, length, nat_lt, option_copied};
+ghost use Rattle.axi_link.specs.LinkWords.{head_of, link_of};
 ghost use Rattle.node_core.specs.Rows.{beat_where};
 ghost use Rattle.mux_node.specs.MuxTable.{CanMux, ids_of, upper_of};
 
 use arrayvec::ArrayVec;
+#[cfg(test)]
+use axi_beats::Addr;
 use axi_link::Link;
 use node_core::link_at;
 use std::marker::Model;
@@ -114,5 +116,40 @@ impl Shape {
         ensures { result.now ≡ link_of links.now self.now.lower }
     {
         link_at(links, self.lower)
+    }
+
+    /// Whether all links are among these, and the addresses that inputs offer have narrow IDs.
+    #[cfg(test)]
+    pub(crate) fn fits_on(&self, links: &[Link]) -> bool
+        ensures { IsTrue result → CanMux links.now self.now }
+    {
+        for upper in self.uppers.as_slice() {
+            if !is_narrow(links, *upper, self.ids()) {
+                return false;
+            }
+        }
+        (self.lower as usize) < links.len()
+    }
+}
+
+/// Whether a link is there, and offers addresses with IDs below this bound alone.
+#[cfg(test)]
+fn is_narrow(links: &[Link], number: u32, bound: u32) -> bool
+    ensures within { IsTrue result → number < length links.now }
+    ensures aw { IsTrue result → IfSome (head_of (link_of links.now number).aw) (λ a. a.id < bound) }
+    ensures ar { IsTrue result → IfSome (head_of (link_of links.now number).ar) (λ a. a.id < bound) }
+{
+    (number as usize) < links.len()
+        && has_narrow_id(link_at(links, number).head_aw(), bound)
+        && has_narrow_id(link_at(links, number).head_ar(), bound)
+}
+
+#[cfg(test)]
+fn has_narrow_id(head: Option<&Addr>, bound: u32) -> bool
+    ensures { IsTrue result → IfSome (option_copied head.entry) (λ a. a.id < bound) }
+{
+    match head {
+        Some(address) => address.id < bound,
+        None => true,
     }
 }

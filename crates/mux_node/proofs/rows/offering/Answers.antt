@@ -1,4 +1,4 @@
-use Rattle.std.proofs.Common.{◌≡◌, ◌&&◌, ◌||◌, ◌==◌, ◌∙◌, Bool, Option, arith, ap, ap₂, sym, ℕ}
+use Rattle.std.proofs.Common.{◌≡◌, ◌&&◌, ◌||◌, ◌==◌, ◌∙◌, Bool, Option, arith, ap, sym, ℕ}
 use Rattle.std.specs.Prelude.{is_some}
 use Rattle.axi_beats.specs.declared.beat.Addr.{Addr}
 use Rattle.axi_link.specs.LinkView.{LinkView}

@@ -1,4 +1,4 @@
-use Rattle.std.proofs.Common.{◌≡◌, ◌==◌, ◌∙◌, Bool, Option, ap, sym, ℕ}
+use Rattle.std.proofs.Common.{◌==◌, ◌∙◌, Bool, ap, sym}
 use Rattle.std.specs.Int.{bit_at}
 use Rattle.std.specs.Option.{option_and_then}
 use Rattle.std.specs.Prelude.{is_some}
@@ -6,7 +6,6 @@ use Rattle.mux_node.proofs.CodeLemmas.{picked-input}
 use Rattle.mux_node.specs.MuxTable.{addresses, input_moved, offered, offered_in_turn}
 use Rattle.node_core.proofs.ReadyLemmas.{turn-same}
 use Rattle.node_core.specs.Rows.{beat_where}
-use Rattle.node_core.specs.Turn.{first_in_turn}
 use Rattle.mux_node.proofs.rows.picked.Goals as goal
 
 -- src/rows.rt:50:1

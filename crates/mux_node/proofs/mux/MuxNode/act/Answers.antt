@@ -1,12 +1,12 @@
-use Rattle.std.proofs.Common.{◌&&◌, ◌≡◌, ◌∙◌, List, Option, ap, refl, subst, sym, ℕ}
+use Rattle.std.proofs.Common.{◌&&◌, ◌≡◌, ◌∙◌, ap, refl, subst, sym}
 use Rattle.axi_link.specs.LinkView.{LinkView}
 use Rattle.axi_link.specs.LinkWords.{has_room}
 use Rattle.axi_link.specs.declared.out.Out.{Out}
-use Rattle.mux_node.proofs.CodeLemmas.{HasActed, has-acted}
+use Rattle.mux_node.proofs.CodeLemmas.{has-acted}
 use Rattle.mux_node.proofs.TableLemmas.{mux_stays}
 use Rattle.mux_node.specs.MuxInside.{mux_state}
 use Rattle.mux_node.specs.MuxState.{IsMux, MuxState}
-use Rattle.mux_node.specs.MuxTable.{ends_burst, granted_left, granted_more, mux_table}
+use Rattle.mux_node.specs.MuxTable.{granted_more, mux_table}
 use Rattle.node_core.specs.Acted.{Acted}
 use Rattle.node_core.specs.Rows.{fits}
 use Rattle.mux_node.proofs.mux.MuxNode.act.Goals as goal
