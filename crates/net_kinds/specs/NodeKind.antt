@@ -4,7 +4,7 @@ use Rattle.node_core.specs.Acted.{Acted}
 use Rattle.node_shape.specs.Family.{OneOf, family}
 use Rattle.node_shape.specs.Kind.{Kind}
 use Rattle.net_kinds.specs.declared.node.Node.{Node}
-use Rattle.net_kinds.specs.declared.node.Node.TheVariants.{Manager, Memory, Mux, Slice}
+use Rattle.net_kinds.specs.declared.node.Node.TheVariants.{Error, Manager, Memory, Mux, Slice}
 use Rattle.slice_node.specs.SliceState.{SliceState}
 use Rattle.slice_node.specs.SliceTrail.{slice_kind}
 use Rattle.memory_node.specs.MemoryState.{MemoryState}
@@ -13,12 +13,15 @@ use Rattle.manager_node.specs.ManagerState.{ManagerState}
 use Rattle.manager_node.specs.ManagerTrail.{manager_kind}
 use Rattle.mux_node.specs.MuxState.{MuxState}
 use Rattle.mux_node.specs.MuxTrail.{mux_kind}
+use Rattle.error_node.specs.ErrorState.{ErrorState}
+use Rattle.error_node.specs.ErrorTrail.{error_kind}
 
 pub data KindName : Type 0 where
   ASlice : KindName
   AMemory : KindName
   AManager : KindName
   AMux : KindName
+  AnError : KindName
 
 -- the states of a kind's nodes
 abbrev pub StateOf : KindName → Type 0
@@ -26,6 +29,7 @@ StateOf ASlice = SliceState
 StateOf AMemory = MemoryState
 StateOf AManager = ManagerState
 StateOf AMux = MuxState
+StateOf AnError = ErrorState
 
 -- the state of a node: its kind, and its state
 abbrev pub NodeState : Type 0
@@ -36,6 +40,7 @@ kind_by_name ASlice = slice_kind
 kind_by_name AMemory = memory_kind
 kind_by_name AManager = manager_kind
 kind_by_name AMux = mux_kind
+kind_by_name AnError = error_kind
 
 -- a node is of one of these kinds
 abbrev pub node_kind : Kind NodeState Access
@@ -47,3 +52,4 @@ node_view (Slice n) = record { state = record { kind = ASlice; state = n.state }
 node_view (Memory n) = record { state = record { kind = AMemory; state = n.value.state }; out = n.value.out }
 node_view (Manager n) = record { state = record { kind = AManager; state = n.value.state }; out = n.value.out }
 node_view (Mux n) = record { state = record { kind = AMux; state = n.state }; out = n.out }
+node_view (Error n) = record { state = record { kind = AnError; state = n.value.state }; out = n.value.out }

@@ -7,6 +7,7 @@ use axi_link::{Link, Out};
 use memory_node::MemoryNode;
 use manager_node::ManagerNode;
 use mux_node::MuxNode;
+use error_node::ErrorNode;
 use node_core::Step;
 use slice_node::SliceNode;
 use std::marker::{Send, Sync};
@@ -16,6 +17,8 @@ use std::marker::{Send, Sync};
 pub enum Node {
     /// Between two links, where it passes every beat on a round later.
     Slice(SliceNode),
+    /// Below one link: it answers each transaction with DECERR.
+    Error(Box<ErrorNode>),
     /// Below several links, which it joins into the one below it.
     Mux(MuxNode),
     /// Above one link: it issues the transactions of its script.
@@ -38,6 +41,7 @@ impl Step for Node {
     fn decide(&mut self, round: u64, links: &[Link]) {
         match self {
             Node::Slice(slice) => slice.decide(round, links),
+            Node::Error(error) => error.decide(round, links),
             Node::Mux(mux) => mux.decide(round, links),
             Node::Manager(manager) => manager.decide(round, links),
             Node::Memory(memory) => memory.decide(round, links),
@@ -47,6 +51,7 @@ impl Step for Node {
     fn out(&self) -> &Out {
         match self {
             Node::Slice(slice) => slice.out(),
+            Node::Error(error) => error.out(),
             Node::Mux(mux) => mux.out(),
             Node::Manager(manager) => manager.out(),
             Node::Memory(memory) => memory.out(),
@@ -62,6 +67,7 @@ impl Node {
         match self {
             Node::Manager(manager) => manager.done(),
             Node::Slice(_) => true,
+            Node::Error(_) => true,
             Node::Mux(_) => true,
             Node::Memory(_) => true,
         }

@@ -1,5 +1,6 @@
 -- The nodes of a plan as their kinds begin, by their numbers, with the keys of the document.
 use Rattle.std.specs.Prelude.{ℕ, List, map}
+use Rattle.error_node.specs.ErrorState.{ErrorState, new_error}
 use Rattle.manager_node.specs.ManagerState.{ManagerState, new_manager}
 use Rattle.memory_node.specs.MemoryArea.{MemoryArea}
 use Rattle.memory_node.specs.MemoryState.{MemoryState, new_memory}
@@ -54,3 +55,6 @@ module _ (nodes : List DocumentNode) (number : ℕ) where
     lower = link_out_of nodes number;
     width = widest (map (λ link. (plan_link_at nodes link).link) (links_into nodes number));
   })
+
+  abbrev pub error_at : ErrorState
+  error_at = new_error (link_into nodes number)
