@@ -1,0 +1,17 @@
+pub mod ActLemmas
+pub mod AnswerLemmas
+pub mod AskLemmas
+pub mod DemuxHolds
+pub mod HeldLemmas
+pub mod IdleLemmas
+pub mod LocalLemmas
+pub mod MoveLemmas
+pub mod OpenLemmas
+pub mod PortLemmas
+pub mod ReadyLemmas
+pub mod RowLemmas
+pub mod StepLemmas
+pub mod TableLemmas
+pub mod TakeLemmas
+pub mod TrailLemmas
+pub mod WayLemmas

@@ -1,0 +1,14 @@
+use Rattle.std.proofs.Common.{◌∙◌, sym, ap, add-one, length, take, arith}
+use Rattle.std.proofs.lemmas.List.{take_all}
+use Rattle.std.specs.List.{list_any}
+use Rattle.demux_node.specs.DemuxTable.{is_open_elsewhere}
+use Rattle.demux_node.proofs.MoveLemmas.{any_here, any_past}
+use Rattle.demux_node.proofs.rows.has_open_elsewhere.Goals as goal
+
+pub returns-then-is_open_elsewhere : goal.returns-then-is_open_elsewhere
+returns-then-is_open_elsewhere c =
+    sym (any_here (is_open_elsewhere c.args.port) c.args.writes.now c.loop-place.place c.get.result.now c.get.ensures (sym c.is_open_elsewhere.ensures ∙ c.if-is_open_elsewhere.true))
+
+pub loop-place-preserved : goal.loop-place-preserved
+loop-place-preserved c =
+    any_past (is_open_elsewhere c.args.port) c.args.writes.now c.loop-place.place c.get.result.now c.get.ensures c.loop-place.invariant (sym c.is_open_elsewhere.ensures ∙ c.if-is_open_elsewhere.false)
