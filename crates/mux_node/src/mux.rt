@@ -62,8 +62,7 @@ impl MuxNode {
     }
 
     /// Whether its links are among these, and the addresses on them have narrow IDs.
-    #[cfg(test)]
-    pub(crate) fn may_decide_on(&self, links: &[Link]) -> bool
+    pub fn can_decide(&self, links: &[Link]) -> bool
         ensures { IsTrue result → CanMux links.now self.now.state.shape }
     {
         self.shape.fits_on(links)

@@ -6,7 +6,6 @@ ghost use Rattle.node_core.specs.Rows.{beat_where};
 ghost use Rattle.mux_node.specs.MuxTable.{CanMux, ids_of, upper_of};
 
 use arrayvec::ArrayVec;
-#[cfg(test)]
 use axi_beats::Addr;
 use axi_link::Link;
 use node_core::link_at;
@@ -119,7 +118,6 @@ impl Shape {
     }
 
     /// Whether all links are among these, and the addresses that inputs offer have narrow IDs.
-    #[cfg(test)]
     pub(crate) fn fits_on(&self, links: &[Link]) -> bool
         ensures { IsTrue result → CanMux links.now self.now }
     {
@@ -133,7 +131,6 @@ impl Shape {
 }
 
 /// Whether a link is there, and offers addresses with IDs below this bound alone.
-#[cfg(test)]
 fn is_narrow(links: &[Link], number: u32, bound: u32) -> bool
     ensures within { IsTrue result → number < length links.now }
     ensures aw { IsTrue result → IfSome (head_of (link_of links.now number).aw) (λ a. a.id < bound) }
@@ -144,7 +141,6 @@ fn is_narrow(links: &[Link], number: u32, bound: u32) -> bool
         && has_narrow_id(link_at(links, number).head_ar(), bound)
 }
 
-#[cfg(test)]
 fn has_narrow_id(head: Option<&Addr>, bound: u32) -> bool
     ensures { IsTrue result → IfSome (option_copied head.entry) (λ a. a.id < bound) }
 {

@@ -8,7 +8,7 @@ use std::test::Fail;
 
 impl Benched for MuxNode {
     fn may_decide(&self, _round: u64, links: &[Link]) -> bool {
-        self.may_decide_on(links)
+        self.can_decide(links)
     }
 }
 
