@@ -1,6 +1,6 @@
 //! `ErrorNode`, seen in clauses as its state and its takes and puts of the round.
 
-ghost use Rattle.std.specs.Prelude.{◌≡◌};
+ghost use Rattle.std.specs.Prelude.{◌≡◌, ◌<◌, true};
 ghost use Rattle.error_node.specs.ErrorState.{IsError, new_error};
 ghost use Rattle.error_node.specs.ErrorTable.{CanError, error_table};
 ghost use Rattle.node_core.specs.Acted.{opened};
@@ -49,6 +49,14 @@ impl ErrorNode {
             reads: Flight::new(),
             out: Out::default(),
         }
+    }
+
+    /// Whether its link is among so many.
+    #[cfg(test)]
+    pub(crate) fn has_link(&self, count: usize) -> bool
+        ensures { result ≡ true → self.now.state.upper < count }
+    {
+        (self.upper as usize) < count
     }
 
     /// Does each row of the table.
