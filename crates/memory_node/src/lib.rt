@@ -18,6 +18,8 @@ mod memory;
 mod memory_laws;
 mod rows;
 mod store;
+#[cfg(test)]
+mod tests;
 
 pub use config::{MemoryConfig, Range};
 pub use memory::{MemoryNode, crosses_threads};
