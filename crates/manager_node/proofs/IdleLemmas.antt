@@ -1,5 +1,5 @@
 -- A manager that does nothing for as long as its patience holds nothing back.
-use Rattle.std.proofs.Common.{◌≡◌, ◌<◌, ◌≤◌, ℕ, zero, suc, Bool, true, false, List, [], ◌∷◌, refl, ◌∙◌, ap, arith}
+use Rattle.std.proofs.Common.{◌≡◌, ◌<◌, ◌≤◌, ℕ, zero, suc, Bool, false, List, [], ◌∷◌, refl, ◌∙◌, ap, arith}
 use Rattle.std.specs.Prelude.{is_some, slice_index_or}
 use Rattle.axi_link.specs.LinkView.{LinkView}
 use Rattle.axi_link.specs.LinkWords.{link_of}

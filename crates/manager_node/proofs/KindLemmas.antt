@@ -1,11 +1,11 @@
 -- What a manager has passed on its link, as every kind has to show it.
-use Rattle.std.proofs.Common.{◌≡◌, ◌<◌, ◌||◌, ◌==◌, ℕ, zero, suc, Bool, true, false, List, [], ◌∷◌, ◌++◌, Option, Some, length, map, refl, sym, ◌∙◌, ap, subst, arith, eq-eqb}
+use Rattle.std.proofs.Common.{◌≡◌, ◌<◌, ◌||◌, ◌==◌, ℕ, zero, suc, Bool, true, false, List, [], ◌∷◌, ◌++◌, Some, length, map, refl, sym, ◌∙◌, ap, subst, arith, eq-eqb}
 use Rattle.std.specs.List.{list_any}
 use Rattle.std.specs.Prelude.{Contains, IsTrue, slice_get}
 use Rattle.std.proofs.lemmas.List.Elements.{All-nil}
 use Rattle.axi_beats.specs.declared.beat.Addr.{Addr}
 use Rattle.axi_trail.specs.LinkContracts.{Answers, Asks}
-use Rattle.axi_trail.specs.Schedule.{Progress, Schedule}
+use Rattle.axi_trail.specs.Schedule.{Schedule}
 use Rattle.axi_trail.specs.Trail.{Beats, no_beats}
 use Rattle.axi_trail.specs.Words.{number_of_address}
 use Rattle.manager_node.specs.ManagerOrder.{IsAt, note_at}

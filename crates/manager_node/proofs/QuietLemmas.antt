@@ -1,7 +1,7 @@
 -- A manager none of whose rows is wanted, and that has nothing open below it, has all its answers.
-use Rattle.std.proofs.Common.{◌≡◌, ◌⊎◌, ◌<◌, ◌≤◌, ◌+◌, ◌-◌, ◌==◌, ◌&&◌, ℕ, zero, suc, Bool, true, false, cond, List, [], ◌∷◌, ◌++◌, Option, Some, None, length, map, take, get_or, refl, sym, ◌∙◌, ap, subst, inl, inr, arith, length-append, eq-eqb}
+use Rattle.std.proofs.Common.{◌≡◌, ◌<◌, ◌≤◌, ◌+◌, ◌==◌, ◌&&◌, ℕ, zero, suc, Bool, true, false, cond, List, [], ◌∷◌, ◌++◌, Option, Some, None, length, map, take, get_or, refl, sym, ◌∙◌, ap, subst, inl, inr, arith, length-append, eq-eqb}
 use Rattle.std.specs.List.{range_with_len}
-use Rattle.std.specs.Prelude.{All, Contains, count_by, filter, find, flat_map, is_some, nat_le, nat_lt, not, option_map, slice_get}
+use Rattle.std.specs.Prelude.{count_by, filter, find, flat_map, is_some, nat_le, nat_lt, not, option_map, slice_get}
 use Rattle.std.proofs.lemmas.Bool.{cases_lt, leb-false, lt-ltb, ltb-true}
 use Rattle.std.proofs.lemmas.List.{length-map, map-append}
 use Rattle.std.proofs.lemmas.List.Elements.{All-contains, All-nil}
@@ -10,7 +10,6 @@ use Rattle.std.proofs.lemmas.List.Sums.{count_by-le-length, sum_by-cons}
 use Rattle.std.proofs.lemmas.Option.{slice_get_within}
 use Rattle.std.proofs.lemmas.Simd.{map-map}
 use Rattle.axi_beats.specs.declared.beat.Addr.{Addr}
-use Rattle.axi_beats.specs.declared.beat.WBeat.{WBeat}
 use Rattle.axi_link.specs.LinkView.{LinkView}
 use Rattle.axi_link.specs.LinkWords.{has_room, head_of, link_of}
 use Rattle.axi_trail.proofs.StepFacts.{held-shown, next_answer}
@@ -18,7 +17,7 @@ use Rattle.axi_trail.specs.LinkContracts.{Answers}
 use Rattle.axi_trail.specs.Schedule.{Progress, Schedule}
 use Rattle.axi_trail.specs.Trail.{Beats, Trail, seen_above}
 use Rattle.axi_trail.specs.Waiting.{Waiting, waiting_shown}
-use Rattle.axi_trail.specs.Words.{Asked, InOrderOfId, Reply, beats_due, burst_asked, held_asked, id_of_asked, id_of_reply, id_of_waiting, len_of_asked, read_reply, read_replies, reads_asked, write_asked, write_reply, write_replies, writes_asked}
+use Rattle.axi_trail.specs.Words.{Asked, InOrderOfId, Reply, beats_due, burst_asked, held_asked, id_of_asked, id_of_reply, id_of_waiting, len_of_asked, read_reply, reads_asked, write_asked, write_reply, writes_asked}
 use Rattle.burst_address.specs.Formulas.{beats_of}
 use Rattle.manager_node.specs.Answer.{AnswerView, unanswered}
 use Rattle.manager_node.specs.Beats.{data_beat, data_beats, item_request}
@@ -37,7 +36,7 @@ use Rattle.node_core.specs.Rows.{beat_where, fits}
 use Rattle.node_core.specs.declared.paces.EachRow.{EachRow}
 use Rattle.node_shape.specs.Quiet.{HasNoRead, HasNoWrite, HoldsNothingBack, LacksData}
 use Rattle.node_shape.proofs.OneLinkLemmas.{all-one, of-one}
-use Rattle.plain_lists.proofs.PlaceLemmas.{filter-has, item-there, take-from, take-has}
+use Rattle.plain_lists.proofs.PlaceLemmas.{filter-has, item-there, take-has}
 use Rattle.plain_lists.specs.Keys.{of_key}
 
 -- where no entry has an ID, none of it is held

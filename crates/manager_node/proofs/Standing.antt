@@ -1,5 +1,5 @@
 -- All that holds of a manager with its trail, and what is proved of it over a round.
-use Rattle.std.specs.Prelude.{◌≡◌, ◌<◌, ℕ, suc, List, All, IsTrue}
+use Rattle.std.specs.Prelude.{◌<◌, ℕ, suc, List, All, IsTrue}
 use Rattle.axi_beats.specs.Bus.{IsBusWidth}
 use Rattle.axi_link.specs.LinkView.{LinkView}
 use Rattle.axi_trail.specs.LinkContracts.{Answers, Asks}

@@ -1,12 +1,11 @@
 -- How transactions go through a manager: those of its script start there.
-use Rattle.std.proofs.Common.{◌≡◌, ◌<◌, ◌≤◌, ◌+◌, ◌-◌, ◌%◌, ◌^◌, ◌==◌, ℕ, Bool, true, false, cond, List, [], ◌∷◌, ◌++◌, Option, Some, None, length, map, get_or, refl, sym, ◌∙◌, ap, subst, inl, inr, arith, append-nil, eq-eqb}
-use Rattle.std.specs.List.{AllZip, range_with_len}
-use Rattle.std.specs.Prelude.{◌⊎◌, All, AllPairs, Contains, IsTrue, flat_map, nat_lt, slice_get, unwrap_or}
+use Rattle.std.proofs.Common.{◌≡◌, ◌<◌, ◌≤◌, ◌+◌, ◌%◌, ◌^◌, ◌==◌, ℕ, Bool, true, false, cond, List, [], ◌∷◌, Option, Some, length, map, get_or, refl, sym, ◌∙◌, ap, subst, inl, inr, arith, append-nil, eq-eqb}
+use Rattle.std.specs.List.{AllZip}
+use Rattle.std.specs.Prelude.{◌⊎◌, All, IsTrue, flat_map, nat_lt, slice_get, unwrap_or}
 use Rattle.std.proofs.Math.Pow.{pow_mono}
 use Rattle.std.proofs.lemmas.Bool.{and_from, lt-ltb}
 use Rattle.std.proofs.lemmas.List.Elements.{All-from_recursion}
 use Rattle.std.proofs.lemmas.List.FromFn.{get_or-map-range_with_len, length-map-range_with_len}
-use Rattle.axi_beats.specs.Bus.{IsBusWidth}
 use Rattle.axi_beats.specs.Lanes.{Span}
 use Rattle.axi_beats.specs.declared.beat.Addr.{Addr}
 use Rattle.axi_beats.specs.declared.beat.WBeat.{WBeat}
@@ -17,18 +16,18 @@ use Rattle.axi_trail.specs.Schedule.{SameChain, Schedule, Share, no_share}
 use Rattle.burst_address.proofs.LaneBytes.{lanes-on_bus, lanes-ordered}
 use Rattle.burst_address.specs.Bytes.{burst_bytes}
 use Rattle.burst_address.specs.Formulas.{beats_of}
-use Rattle.burst_address.specs.Lanes.{first_lane, lane_count, last_lane}
+use Rattle.burst_address.specs.Lanes.{first_lane, last_lane}
 use Rattle.burst_address.specs.Legal.{IsLegal, page}
 use Rattle.manager_node.specs.Beats.{data_beat, data_beats, item_request}
 use Rattle.manager_node.specs.BurstLaws.{SendsItsBytes}
 use Rattle.manager_node.specs.ManagerState.{ManagerState}
 use Rattle.manager_node.specs.ManagerTrail.{HasItem, IsItsOwn, IsManagerLink, IsNewManager, item_origin, item_share, manager_kind, shares_of, spans_of}
-use Rattle.manager_node.specs.Script.{ScriptItem, sent_bytes}
+use Rattle.manager_node.specs.Script.{ScriptItem}
 use Rattle.manager_node.proofs.DataLaws.{data-strobes_within}
 use Rattle.manager_node.proofs.NumberLemmas.{number-once}
 use Rattle.manager_node.proofs.ScriptLemmas.{script-item}
 use Rattle.node_shape.specs.LegalSchedule.{IsDataOf}
-use Rattle.node_shape.specs.LinkForm.{ArePartsOf, FitsLink, IsSingle, IsWordRequest, LinkForm}
+use Rattle.node_shape.specs.LinkForm.{FitsLink, LinkForm}
 use Rattle.node_shape.specs.Way.{Origin, Way, start_here, with_responses}
 use Rattle.node_shape.specs.WayLaws.{CutsFit, GoesBelow, HasWay, IsOrigin, OriginsFit, WaysSuit}
 use Rattle.node_shape.specs.WaysAround.{GoesOnBy, IsCarried, StartsBy, StaysOff, WaysAround, WaysThrough}

@@ -1,5 +1,6 @@
 -- The beats that a manager puts, and the bytes that it reads (Arm IHI 0022, write strobes and byte lanes).
-use Rattle.std.specs.Prelude.{◌+◌, ◌*◌, ◌-◌, ◌^◌, ◌==◌, ◌++◌, ◌∷◌, [], ℕ, List, Option, Some, None, drop, length, map, replicate, slice_range, take, if◌then◌else◌}
+use Rattle.std.specs.Prelude.{◌+◌, ◌*◌, ◌-◌, ◌^◌, ◌==◌, ◌++◌, ◌∷◌, [], ℕ, List, Option, Some, None}
+use Rattle.std.specs.Prelude.{drop, length, map, replicate, slice_range, take, if◌then◌else◌}
 use Rattle.std.specs.List.{range_with_len}
 use Rattle.axi_beats.specs.declared.beat.Addr.{Addr}
 use Rattle.axi_beats.specs.declared.beat.Tag.{Tag}

@@ -35,11 +35,17 @@ pub record AreInOrder (rounds : ℕ) (s : ManagerState) : Type 0 where
   pub issues_past : (place : ℕ) → (note_at s place).issued ≤ rounds
   pub answers_past : (place : ℕ) → (note_at s place).answered ≤ rounds
   -- a transaction is answered in a later round than that of its issue
-  pub issue_first : (place : ℕ) → 0 < (note_at s place).answered → (0 < (note_at s place).issued) × ((note_at s place).issued < (note_at s place).answered)
+  pub issue_first :
+      (place : ℕ) → 0 < (note_at s place).answered →
+      (0 < (note_at s place).issued) × ((note_at s place).issued < (note_at s place).answered)
   -- the transactions of a direction are issued in their order, in one round each
-  pub issues : (earlier later : ℕ) → AreOfDirection s earlier later → 0 < (note_at s later).issued → (0 < (note_at s earlier).issued) × ((note_at s earlier).issued < (note_at s later).issued)
+  pub issues :
+      (earlier later : ℕ) → AreOfDirection s earlier later → 0 < (note_at s later).issued →
+      (0 < (note_at s earlier).issued) × ((note_at s earlier).issued < (note_at s later).issued)
   -- those of one ID are answered in their order
-  pub answers : (earlier later : ℕ) → AreOfId s earlier later → 0 < (note_at s later).answered → (0 < (note_at s earlier).answered) × ((note_at s earlier).answered < (note_at s later).answered)
+  pub answers :
+      (earlier later : ℕ) → AreOfId s earlier later → 0 < (note_at s later).answered →
+      (0 < (note_at s earlier).answered) × ((note_at s earlier).answered < (note_at s later).answered)
   -- those wait for their answers that are issued and not answered, in their order
   pub waiting :
       (write : Bool) →

@@ -1,5 +1,6 @@
 -- A manager as contracts see it between rounds: its state, and what holds of it.
-use Rattle.std.specs.Prelude.{◌≡◌, ◌≢◌, ◌↔◌, ◌==◌, ◌<◌, ◌≤◌, ◌+◌, ◌++◌, ◌∷◌, [], ℕ, List, Bool, true, false, Option, Some, None, All, IfSome, length, map, drop, filter, count_by, not, nat_lt, slice_get, slice_index_or, if◌then◌else◌}
+use Rattle.std.specs.Prelude.{◌≡◌, ◌≢◌, ◌↔◌, ◌==◌, ◌<◌, ◌≤◌, ◌+◌, ◌++◌, ◌∷◌, [], ℕ, List, Bool, true, false, Option, Some, None, All}
+use Rattle.std.specs.Prelude.{IfSome, length, map, drop, filter, count_by, not, nat_lt, slice_get, slice_index_or, if◌then◌else◌}
 use Rattle.std.specs.List.{enumerate_from}
 use Rattle.axi_beats.specs.Bus.{IsBusWidth}
 use Rattle.axi_link.specs.LinkView.{LinkView}

@@ -1,6 +1,7 @@
 -- The manager's decision table. All rows read the links and the state as they stand at the round's start.
 -- (Arm IHI 0022, dependencies between channel handshake signals; transaction ordering.)
-use Rattle.std.specs.Prelude.{◌==◌, ◌+◌, ◌&&◌, ◌++◌, ◌∷◌, [], ℕ, List, Bool, true, false, Option, Some, None, length, find, is_some, nat_lt, nat_le, slice_get, slice_index_or, if◌then◌else◌}
+use Rattle.std.specs.Prelude.{◌==◌, ◌+◌, ◌&&◌, ◌++◌, ◌∷◌, [], ℕ, List, Bool, true, false, Option, Some, None}
+use Rattle.std.specs.Prelude.{length, find, is_some, nat_lt, nat_le, slice_get, slice_index_or, if◌then◌else◌}
 use Rattle.std.specs.Option.{option_map}
 use Rattle.axi_beats.specs.declared.beat.BBeat.{BBeat}
 use Rattle.axi_beats.specs.declared.beat.RBeat.{RBeat}
@@ -155,7 +156,8 @@ manager_next round links s = record {
   read_entries = with_issued (manager_ar links s) (left_waiting (manager_r_last links s) s.read_entries);
   answered = s.answered + more (is_some (manager_b links s)) + more (is_some (manager_r_last links s));
   answers =
-      note_issue round (manager_ar links s) (note_issue round (manager_aw links s) (note_read round s.bus s.script (manager_r links s) (note_write round (manager_b links s) s.answers)));
+      note_issue round (manager_ar links s)
+      (note_issue round (manager_aw links s) (note_read round s.bus s.script (manager_r links s) (note_write round (manager_b links s) s.answers)));
 }
 
 -- the takes and puts of the round, all on the link below

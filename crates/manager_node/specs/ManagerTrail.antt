@@ -1,5 +1,6 @@
 -- What a manager has passed on its link, and the manager as a kind of node (Arm IHI 0022, ordering model).
-use Rattle.std.specs.Prelude.{◌≡◌, ◌↔◌, ◌==◌, ◌<◌, ◌^◌, ◌++◌, ◌∷◌, [], ℕ, suc, List, Bool, true, false, Option, Some, None, All, AllPairs, Contains, flat_map, length, map, slice_get, take, if◌then◌else◌}
+use Rattle.std.specs.Prelude.{◌≡◌, ◌↔◌, ◌==◌, ◌<◌, ◌^◌, ◌++◌, ◌∷◌, [], ℕ, suc, List, Bool, true, false, Option, Some}
+use Rattle.std.specs.Prelude.{None, All, AllPairs, Contains, flat_map, length, map, slice_get, take, if◌then◌else◌}
 use Rattle.std.specs.List.{list_any, range_with_len}
 use Rattle.axi_beats.specs.Bus.{IsBusWidth}
 use Rattle.axi_beats.specs.Lanes.{Span}
@@ -9,7 +10,8 @@ use Rattle.axi_trail.specs.LinkContracts.{without_id}
 use Rattle.axi_trail.specs.Schedule.{Schedule, Share, SameChain, bytes_on}
 use Rattle.axi_trail.specs.Trail.{Beats}
 use Rattle.axi_trail.specs.Waiting.{held, waiting_request}
-use Rattle.axi_trail.specs.Words.{InOrderOfId, number_of_address, number_of_response, number_of_read_data, reads_asked, read_replies, writes_asked, write_replies}
+use Rattle.axi_trail.specs.Words.{InOrderOfId, number_of_address, number_of_response, number_of_read_data}
+use Rattle.axi_trail.specs.Words.{reads_asked, read_replies, writes_asked, write_replies}
 use Rattle.burst_address.specs.Formulas.{beats_of}
 use Rattle.burst_address.specs.Lanes.{valid_span}
 use Rattle.burst_address.specs.Legal.{IsLegal}

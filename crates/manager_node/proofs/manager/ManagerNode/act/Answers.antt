@@ -1,4 +1,4 @@
-use Rattle.std.proofs.Common.{◌≡◌, ◌+◌, ◌<◌, ◌^◌, ℕ, List, true, false, Option, ap, arith, length, refl, subst, sym, ◌∙◌}
+use Rattle.std.proofs.Common.{◌≡◌, ◌+◌, ◌<◌, ◌^◌, ℕ, List, Option, ap, arith, length, refl, subst, sym, ◌∙◌}
 use Rattle.std.specs.Option.{option_copied, option_map}
 use Rattle.std.specs.Prelude.{IfSome, is_some, slice_get}
 use Rattle.axi_link.specs.LinkView.{LinkView}
@@ -14,7 +14,7 @@ use Rattle.manager_node.proofs.StateLemmas.{manager-stays}
 use Rattle.manager_node.specs.declared.direction.Direction.{Direction}
 use Rattle.manager_node.specs.declared.sending.Sending.{Sending}
 use Rattle.manager_node.proofs.RowLemmas.{w-next}
-use Rattle.manager_node.proofs.StepLemmas.{places-within, aw-is, aw-room, ar-is, ar-room, chosen-within, paces-are, places-many, possible-of, w-is, b-is, r-is, writes-within, writes-due, reads-within, reads-due, answered-small, room-left, state-same, out-same, acted-same, byte-more, next-within, sent-beats, sent-small, sent-writes, sending-next, got-last, got-some, last-is, sum-small, sum-same}
+use Rattle.manager_node.proofs.StepLemmas.{aw-is, aw-room, ar-is, ar-room, chosen-within, paces-are, places-many, possible-of, w-is, b-is, r-is, writes-within, writes-due, reads-within, reads-due, answered-small, room-left, state-same, out-same, acted-same, byte-more, next-within, sent-beats, sent-small, sent-writes, sending-next, got-last, got-some, last-is, sum-small, sum-same}
 use Rattle.node_core.specs.Acted.{Acted}
 use Rattle.node_core.specs.Rows.{put_of, take_of}
 use Rattle.manager_node.proofs.manager.ManagerNode.act.Goals as goal

@@ -1,4 +1,4 @@
-use Rattle.std.proofs.Common.{◌≡◌, ℕ, Option, ap, false, subst, sym, true, ◌<◌, ◌∙◌}
+use Rattle.std.proofs.Common.{ℕ, Option, ap, false, subst, sym, true, ◌<◌, ◌∙◌}
 use Rattle.std.specs.Prelude.{IfSome, is_some, length}
 use Rattle.axi_beats.specs.declared.beat.BBeat.{BBeat}
 use Rattle.axi_beats.specs.declared.beat.RBeat.{RBeat}
