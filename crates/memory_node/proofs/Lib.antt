@@ -1,7 +1,9 @@
 pub mod AccessLemmas
 pub mod BeatLemmas
 pub mod BetweenLemmas
+pub mod BurstLemmas
 pub mod ChainLemmas
+pub mod DueLemmas
 pub mod FillLemmas
 pub mod IdleLemmas
 pub mod LaneLemmas

@@ -1,5 +1,7 @@
 //! What holds of a memory's definitions.
 
+ghost use Rattle.memory_node.specs.BurstBytes.{DueReadsAreOfParts, DueWritesAreOfParts};
+ghost use Rattle.memory_node.specs.BurstBytes.{LinesAreOfBurst, ReadsBurstBytes, WritesBeatBytes, WritesBurstBytes};
 ghost use Rattle.memory_node.specs.MemoryLaws.{memory_alone, memory_paced};
 ghost use Rattle.memory_node.specs.Store.{ReadsOthers, ReadsWritten};
 ghost use Rattle.node_shape.specs.KindLaws.{AnswersAbove, AsksBelow, Begins, Fit, IdleHoldsNothing};
@@ -31,6 +33,16 @@ pub fn laws_of_rows()
 pub fn laws_of_bytes()
     ensures reads_written { ReadsWritten }
     ensures reads_others { ReadsOthers }
+
+    // Its beats are those of legal bursts: their lines, and the bytes of them that it reads and writes.
+    ensures burst_lines { LinesAreOfBurst }
+    ensures reads { ReadsBurstBytes }
+    ensures beat_writes { WritesBeatBytes }
+    ensures writes { WritesBurstBytes }
+
+    // So what is due of a transaction is what its parts read and write.
+    ensures due_reads { DueReadsAreOfParts }
+    ensures due_writes { DueWritesAreOfParts }
 {}
 
 /// How transactions go to a memory: each ends there.
