@@ -4,11 +4,11 @@ use Rattle.mux_node.specs.MuxState.{IsMux, IsMuxShape, MuxShape, MuxState}
 use Rattle.mux_node.specs.declared.mux.MuxNode.TheInside as node
 use Rattle.mux_node.specs.declared.shape.Shape.TheInside as inputs
 
-abbrev pub shape_view : inputs.Inside → MuxShape
-shape_view p = record { uppers = p.uppers.items; lower = p.lower; width = p.width }
+abbrev pub mux_shape_view : inputs.Inside → MuxShape
+mux_shape_view p = record { uppers = p.uppers.items; lower = p.lower; width = p.width }
 
-abbrev pub IsShapeInside : inputs.Inside → Type 0
-IsShapeInside p = IsMuxShape (shape_view p)
+abbrev pub IsMuxShapeInside : inputs.Inside → Type 0
+IsMuxShapeInside p = IsMuxShape (mux_shape_view p)
 
 -- the state that contracts see
 abbrev pub mux_state : node.Inside → MuxState

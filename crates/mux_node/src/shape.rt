@@ -27,11 +27,11 @@ impl Model for Shape {
 
     ghost Value = { MuxShape };
 
-    ghost use Rattle.mux_node.specs.MuxInside.{IsShapeInside, shape_view};
+    ghost use Rattle.mux_node.specs.MuxInside.{IsMuxShapeInside, mux_shape_view};
 
-    ghost view = { shape_view };
+    ghost view = { mux_shape_view };
 
-    ghost invariant = { IsShapeInside };
+    ghost invariant = { IsMuxShapeInside };
 }
 
 impl Shape {
