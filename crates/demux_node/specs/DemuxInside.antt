@@ -4,11 +4,11 @@ use Rattle.demux_node.specs.DemuxState.{DemuxShape, DemuxState, IsDemux, IsDemux
 use Rattle.demux_node.specs.declared.demux.DemuxNode.TheInside as node
 use Rattle.demux_node.specs.declared.shape.Shape.TheInside as ports
 
-abbrev pub shape_view : ports.Inside → DemuxShape
-shape_view p = record { upper = p.upper; lowers = p.lowers.items; regions = p.map }
+abbrev pub demux_shape_view : ports.Inside → DemuxShape
+demux_shape_view p = record { upper = p.upper; lowers = p.lowers.items; regions = p.map }
 
-abbrev pub IsShapeInside : ports.Inside → Type 0
-IsShapeInside p = IsDemuxShape (shape_view p)
+abbrev pub IsDemuxShapeInside : ports.Inside → Type 0
+IsDemuxShapeInside p = IsDemuxShape (demux_shape_view p)
 
 -- the state that contracts see
 abbrev pub demux_state : node.Inside → DemuxState

@@ -1,6 +1,6 @@
 //! `DemuxNode`, seen in clauses as its state and its takes and puts of the round.
 
-ghost use Rattle.std.specs.Prelude.{◌≡◌, ◌<◌, ◌≤◌, All, length, true};
+ghost use Rattle.std.specs.Prelude.{◌≡◌, ◌<◌, ◌≤◌, All, length};
 ghost use Rattle.address_map.specs.declared.region.Region.{Region};
 ghost use Rattle.node_core.specs.Acted.{opened};
 ghost use Rattle.demux_node.specs.DemuxState.{IsDemux, new_demux};

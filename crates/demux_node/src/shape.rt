@@ -28,11 +28,11 @@ impl Model for Shape {
 
     ghost Value = { DemuxShape };
 
-    ghost use Rattle.demux_node.specs.DemuxInside.{IsShapeInside, shape_view};
+    ghost use Rattle.demux_node.specs.DemuxInside.{IsDemuxShapeInside, demux_shape_view};
 
-    ghost view = { shape_view };
+    ghost view = { demux_shape_view };
 
-    ghost invariant = { IsShapeInside };
+    ghost invariant = { IsDemuxShapeInside };
 }
 
 impl Shape {
@@ -112,13 +112,5 @@ impl Shape {
         ensures { result.now ≡ at_port links.now self.now port }
     {
         link_at(links, self.lowers.as_slice()[usize::from(port)])
-    }
-
-    /// Whether all links are among so many.
-    #[cfg(test)]
-    pub(crate) fn are_among(&self, count: usize) -> bool
-        ensures { result ≡ true → (self.now.upper < count) × All (λ link. link < count) self.now.lowers }
-    {
-        (self.upper as usize) < count && self.lowers.as_slice().iter().all(|link| (*link as usize) < count)
     }
 }
