@@ -15,7 +15,7 @@ use Rattle.axi_link.specs.LinkWords.{has_room, head_of, link_of}
 use Rattle.axi_link.specs.declared.out.Out.{Out}
 use Rattle.mux_node.proofs.RowLemmas.{IsOffered, offered-is}
 use Rattle.mux_node.specs.MuxState.{MuxShape, MuxState}
-use Rattle.mux_node.specs.MuxTable.{Moved, ends_burst, granted_left, granted_more, ids_of, input_moved, mux_ar, mux_aw, mux_b, mux_next, mux_out, mux_r, mux_table, mux_w, narrowed_b, narrowed_r, offer_of, offered_in_turn, put_on_input, put_on_lower, take_of_input, take_of_lower, turn_behind, unchanged, widened}
+use Rattle.mux_node.specs.MuxTable.{Moved, ends_burst, granted_left, granted_more, ids_of, input_moved, mux_ar, mux_aw, mux_b, mux_next, mux_out, mux_r, mux_table, mux_w, narrowed_b, narrowed_r, input_offer, offered_in_turn, put_on_input, put_on_lower, take_of_input, take_of_lower, turn_behind, unchanged, widened}
 use Rattle.node_core.specs.Rows.{beat_where, fits}
 use Rattle.node_core.specs.Turn.{TurnState, first_in_turn, tried}
 use Rattle.plain_lists.proofs.PlaceLemmas.{all-at, at-all, find-has, take-has, take-one}
@@ -25,7 +25,7 @@ abbrev the_moved : {X : Type 0} → (LinkView → List X) → List LinkView → 
 the_moved queue_of links input o = option_and_then (λ link. option_map (λ beat. record { input = input; link = link; beat = beat }) (head_of (queue_of (link_of links link)))) o
 
 -- past the last input nothing is offered
-pub none-past : {X : Type 0} (queue_of : LinkView → List X) (links : List LinkView) (uppers : List ℕ) (input : ℕ) → length uppers ≤ input → is_some (offer_of queue_of links uppers input) ≡ false
+pub none-past : {X : Type 0} (queue_of : LinkView → List X) (links : List LinkView) (uppers : List ℕ) (input : ℕ) → length uppers ≤ input → is_some (input_offer queue_of links uppers input) ≡ false
 none-past queue_of links uppers input past =
     ap (λ (o : Option ℕ). is_some (the_moved queue_of links input o))
     (slice_get_past uppers input past)
@@ -39,24 +39,24 @@ offer-some input link (Some x) = refl
 
 -- what an input offers, where it has a link
 pub offers-at : {X : Type 0} (queue_of : LinkView → List X) (links : List LinkView) (uppers : List ℕ) (input : ℕ) → input < length uppers →
-    is_some (offer_of queue_of links uppers input) ≡ is_some (head_of (queue_of (link_of links (slice_index_or uppers input 0))))
+    is_some (input_offer queue_of links uppers input) ≡ is_some (head_of (queue_of (link_of links (slice_index_or uppers input 0))))
 offers-at {X} queue_of links uppers input within =
     ap (λ (o : Option ℕ). is_some (the_moved queue_of links input o)) (slice_get-get_or uppers input 0 within)
     ∙ offer-some input (slice_index_or uppers input 0) (head_of (queue_of (link_of links (slice_index_or uppers input 0))))
 
 -- the input that is picked offers a beat
 pub picked-input : {X : Type 0} (queue_of : LinkView → List X) (links : List LinkView) (uppers : List ℕ) (turn : TurnState) →
-    input_moved (offered_in_turn queue_of links uppers turn) ≡ first_in_turn (λ input. is_some (offer_of queue_of links uppers input)) turn
-picked-input {X} queue_of links uppers turn = go (first_in_turn (λ input. is_some (offer_of queue_of links uppers input)) turn) refl
+    input_moved (offered_in_turn queue_of links uppers turn) ≡ first_in_turn (λ input. is_some (input_offer queue_of links uppers input)) turn
+picked-input {X} queue_of links uppers turn = go (first_in_turn (λ input. is_some (input_offer queue_of links uppers input)) turn) refl
   where
     has : (port : ℕ) (o : Option (Moved X)) → IfSome o (λ m. IsOffered queue_of links uppers m × (m.input ≡ port)) → is_some o ≡ true → input_moved o ≡ Some port
     has port None is ready = absurd (cc)
     has port (Some m) is ready = ap Some is.1
 
-    go : (o : Option ℕ) → first_in_turn (λ input. is_some (offer_of queue_of links uppers input)) turn ≡ o → input_moved (option_and_then (offer_of queue_of links uppers) o) ≡ o
+    go : (o : Option ℕ) → first_in_turn (λ input. is_some (input_offer queue_of links uppers input)) turn ≡ o → input_moved (option_and_then (input_offer queue_of links uppers) o) ≡ o
     go None is = refl
     go (Some port) is =
-        has port (offer_of queue_of links uppers port) (offered-is queue_of links uppers port) (find-has (λ input. is_some (offer_of queue_of links uppers input)) (tried turn) port is).0
+        has port (input_offer queue_of links uppers port) (offered-is queue_of links uppers port) (find-has (λ input. is_some (input_offer queue_of links uppers input)) (tried turn) port is).0
 
 -- one more input is marked, where it offers a beat
 one-same : (b q : Bool) → b ≡ q → ((false && q) || (b && true)) ≡ (true && q)
@@ -91,11 +91,11 @@ one-more_marked offers other input b is = elim (cases_eq other input) [
 
 -- with all inputs marked
 pub all-marked : {X : Type 0} (queue_of : LinkView → List X) (links : List LinkView) (uppers : List ℕ) (count input : ℕ) → length uppers ≤ count →
-    (nat_lt input count && is_some (offer_of queue_of links uppers input)) ≡ is_some (offer_of queue_of links uppers input)
+    (nat_lt input count && is_some (input_offer queue_of links uppers input)) ≡ is_some (input_offer queue_of links uppers input)
 all-marked queue_of links uppers count input all = elim (cases_lt input count) [
-  | inl less ↦ ap (λ (b : Bool). b && is_some (offer_of queue_of links uppers input)) (lt-ltb input count less)
+  | inl less ↦ ap (λ (b : Bool). b && is_some (input_offer queue_of links uppers input)) (lt-ltb input count less)
   | inr more ↦
-      ap (λ (b : Bool). b && is_some (offer_of queue_of links uppers input)) (le-ltb input count more) ∙ sym (none-past queue_of links uppers input (omega (arith, all, more)))
+      ap (λ (b : Bool). b && is_some (input_offer queue_of links uppers input)) (le-ltb input count more) ∙ sym (none-past queue_of links uppers input (omega (arith, all, more)))
 ]
 
 pub copied-some : {X : Type 0} (o : Option (Bor X)) → is_some (option_copied o) ≡ is_some o
@@ -123,32 +123,32 @@ pub record HasActed (links : List LinkView) (s : MuxState) (write read first : O
   pub may_write_is : may_write ≡ (has_room (link_of links s.shape.lower).depth (link_of links s.shape.lower).aw && fits s.granted)
   pub may_read_is : may_read ≡ has_room (link_of links s.shape.lower).depth (link_of links s.shape.lower).ar
   pub write_is : write ≡ input_moved (beat_where may_write (offered_in_turn (λ l. l.aw) links s.shape.uppers s.turn_aw))
-  pub write_row : option_and_then (offer_of (λ l. l.aw) links s.shape.uppers) write ≡ beat_where may_write (offered_in_turn (λ l. l.aw) links s.shape.uppers s.turn_aw)
+  pub write_row : option_and_then (input_offer (λ l. l.aw) links s.shape.uppers) write ≡ beat_where may_write (offered_in_turn (λ l. l.aw) links s.shape.uppers s.turn_aw)
   pub read_is : read ≡ input_moved (beat_where may_read (offered_in_turn (λ l. l.ar) links s.shape.uppers s.turn_ar))
-  pub read_row : option_and_then (offer_of (λ l. l.ar) links s.shape.uppers) read ≡ beat_where may_read (offered_in_turn (λ l. l.ar) links s.shape.uppers s.turn_ar)
+  pub read_row : option_and_then (input_offer (λ l. l.ar) links s.shape.uppers) read ≡ beat_where may_read (offered_in_turn (λ l. l.ar) links s.shape.uppers s.turn_ar)
   pub first_is : first ≡ head_of s.granted
-  pub ends_is : ends ≡ ends_burst (beat_where (has_room (link_of links s.shape.lower).depth (link_of links s.shape.lower).w) (option_and_then (offer_of (λ l. l.w) links s.shape.uppers) first))
+  pub ends_is : ends ≡ ends_burst (beat_where (has_room (link_of links s.shape.lower).depth (link_of links s.shape.lower).w) (option_and_then (input_offer (λ l. l.w) links s.shape.uppers) first))
   pub turn_aw : after.turn_aw ≡ turn_behind s.turn_aw write
   pub turn_ar : after.turn_ar ≡ turn_behind s.turn_ar read
   pub granted : after.granted ≡ granted_more write (granted_left ends s.granted)
-  pub aw_take : out.aw_take ≡ take_of_input (option_and_then (offer_of (λ l. l.aw) links s.shape.uppers) write)
-  pub aw_put : out.aw_put ≡ put_on_lower (widened (ids_of s.shape)) s.shape.lower (option_and_then (offer_of (λ l. l.aw) links s.shape.uppers) write)
-  pub w_take : out.w_take ≡ take_of_input (beat_where (has_room (link_of links s.shape.lower).depth (link_of links s.shape.lower).w) (option_and_then (offer_of (λ l. l.w) links s.shape.uppers) first))
-  pub w_put : out.w_put ≡ put_on_lower unchanged s.shape.lower (beat_where (has_room (link_of links s.shape.lower).depth (link_of links s.shape.lower).w) (option_and_then (offer_of (λ l. l.w) links s.shape.uppers) first))
+  pub aw_take : out.aw_take ≡ take_of_input (option_and_then (input_offer (λ l. l.aw) links s.shape.uppers) write)
+  pub aw_put : out.aw_put ≡ put_on_lower (widened (ids_of s.shape)) s.shape.lower (option_and_then (input_offer (λ l. l.aw) links s.shape.uppers) write)
+  pub w_take : out.w_take ≡ take_of_input (beat_where (has_room (link_of links s.shape.lower).depth (link_of links s.shape.lower).w) (option_and_then (input_offer (λ l. l.w) links s.shape.uppers) first))
+  pub w_put : out.w_put ≡ put_on_lower unchanged s.shape.lower (beat_where (has_room (link_of links s.shape.lower).depth (link_of links s.shape.lower).w) (option_and_then (input_offer (λ l. l.w) links s.shape.uppers) first))
   pub b_take : out.b_take ≡ take_of_lower s.shape.lower (mux_b links s)
   pub b_put : out.b_put ≡ put_on_input (narrowed_b (ids_of s.shape)) (mux_b links s)
-  pub ar_take : out.ar_take ≡ take_of_input (option_and_then (offer_of (λ l. l.ar) links s.shape.uppers) read)
-  pub ar_put : out.ar_put ≡ put_on_lower (widened (ids_of s.shape)) s.shape.lower (option_and_then (offer_of (λ l. l.ar) links s.shape.uppers) read)
+  pub ar_take : out.ar_take ≡ take_of_input (option_and_then (input_offer (λ l. l.ar) links s.shape.uppers) read)
+  pub ar_put : out.ar_put ≡ put_on_lower (widened (ids_of s.shape)) s.shape.lower (option_and_then (input_offer (λ l. l.ar) links s.shape.uppers) read)
   pub r_take : out.r_take ≡ take_of_lower s.shape.lower (mux_r links s)
   pub r_put : out.r_put ≡ put_on_input (narrowed_r (ids_of s.shape)) (mux_r links s)
 
 pub has-acted : (links : List LinkView) (s : MuxState) (write read first : Option ℕ) (may_write may_read ends : Bool) (after : MuxState) (out : Out) →
     HasActed links s write read first may_write may_read ends after out → record { state = after; out = out } ≡ mux_table links s
 has-acted links s write read first may_write may_read ends after out is =
-    let aw : option_and_then (offer_of (λ l. l.aw) links s.shape.uppers) write ≡ mux_aw links s = is.write_row ∙ ap (λ (b : Bool). beat_where b (offered_in_turn (λ l. l.aw) links s.shape.uppers s.turn_aw)) is.may_write_is in
-    let ar : option_and_then (offer_of (λ l. l.ar) links s.shape.uppers) read ≡ mux_ar links s = is.read_row ∙ ap (λ (b : Bool). beat_where b (offered_in_turn (λ l. l.ar) links s.shape.uppers s.turn_ar)) is.may_read_is in
-    let w : beat_where (has_room (link_of links s.shape.lower).depth (link_of links s.shape.lower).w) (option_and_then (offer_of (λ l. l.w) links s.shape.uppers) first) ≡ mux_w links s =
-    ap (λ (o : Option ℕ). beat_where (has_room (link_of links s.shape.lower).depth (link_of links s.shape.lower).w) (option_and_then (offer_of (λ l. l.w) links s.shape.uppers) o)) is.first_is in
+    let aw : option_and_then (input_offer (λ l. l.aw) links s.shape.uppers) write ≡ mux_aw links s = is.write_row ∙ ap (λ (b : Bool). beat_where b (offered_in_turn (λ l. l.aw) links s.shape.uppers s.turn_aw)) is.may_write_is in
+    let ar : option_and_then (input_offer (λ l. l.ar) links s.shape.uppers) read ≡ mux_ar links s = is.read_row ∙ ap (λ (b : Bool). beat_where b (offered_in_turn (λ l. l.ar) links s.shape.uppers s.turn_ar)) is.may_read_is in
+    let w : beat_where (has_room (link_of links s.shape.lower).depth (link_of links s.shape.lower).w) (option_and_then (input_offer (λ l. l.w) links s.shape.uppers) first) ≡ mux_w links s =
+    ap (λ (o : Option ℕ). beat_where (has_room (link_of links s.shape.lower).depth (link_of links s.shape.lower).w) (option_and_then (input_offer (λ l. l.w) links s.shape.uppers) o)) is.first_is in
     let write_is : write ≡ input_moved (mux_aw links s) = is.write_is ∙ ap (λ (b : Bool). input_moved (beat_where b (offered_in_turn (λ l. l.aw) links s.shape.uppers s.turn_aw))) is.may_write_is in
     let read_is : read ≡ input_moved (mux_ar links s) = is.read_is ∙ ap (λ (b : Bool). input_moved (beat_where b (offered_in_turn (λ l. l.ar) links s.shape.uppers s.turn_ar))) is.may_read_is in
     let granted : after.granted ≡ granted_more (input_moved (mux_aw links s)) (granted_left (ends_burst (mux_w links s)) s.granted) =

@@ -16,7 +16,7 @@ use Rattle.mux_node.proofs.RowLemmas.{IsOffered, offered-is}
 use Rattle.mux_node.proofs.TableLemmas.{aw-is}
 use Rattle.mux_node.specs.MuxLaws.{mux_inside}
 use Rattle.mux_node.specs.MuxState.{IsInputTurn, IsMux, MuxShape, MuxState}
-use Rattle.mux_node.specs.MuxTable.{Moved, answered, ends_burst, granted_left, granted_more, ids_of, input_moved, mux_aw, mux_out, mux_w, offer_of, offered_in_turn, put_on_lower, sent_back, take_of_input, take_of_lower, unchanged}
+use Rattle.mux_node.specs.MuxTable.{Moved, answered, ends_burst, granted_left, granted_more, ids_of, input_moved, mux_aw, mux_out, mux_w, input_offer, offered_in_turn, put_on_lower, sent_back, take_of_input, take_of_lower, unchanged}
 use Rattle.mux_node.specs.MuxTrail.{mux_kind}
 use Rattle.node_core.proofs.RowLemmas.{beat_where-has}
 use Rattle.node_core.proofs.TurnLemmas.{picked-is_ready, ready-is_picked}
@@ -37,7 +37,7 @@ takes-answer {X} queue_of id_of links uppers lower ids x link head at there =
 
 -- what an input offers
 offered-at : {X : Type 0} (queue_of : LinkView → List X) (links : List LinkView) (uppers : List ℕ) (input link : ℕ) (x : X) → slice_get uppers input ≡ Some link →
-    head_of (queue_of (link_of links link)) ≡ Some x → offer_of queue_of links uppers input ≡ Some (record { input = input; link = link; beat = x })
+    head_of (queue_of (link_of links link)) ≡ Some x → input_offer queue_of links uppers input ≡ Some (record { input = input; link = link; beat = x })
 offered-at queue_of links uppers input link x at head =
     ap (λ (o : Option ℕ). option_and_then (λ l. option_map (λ beat. record { input = input; link = l; beat = beat }) (head_of (queue_of (link_of links l)))) o) at
     ∙ ap (λ o. option_map (λ beat. record { input = input; link = link; beat = beat }) o) head
@@ -50,11 +50,11 @@ in_turn-some : {X : Type 0} (queue_of : LinkView → List X) (links : List LinkV
     slice_get shape.uppers input ≡ Some link → head_of (queue_of (link_of links link)) ≡ Some x → (m : Moved X) × (offered_in_turn queue_of links shape.uppers turn ≡ Some m)
 in_turn-some queue_of links shape turn is input link x at head =
     let uppers = shape.uppers in
-    let ready : ℕ → Bool = λ i. is_some (offer_of queue_of links uppers i) in
+    let ready : ℕ → Bool = λ i. is_some (input_offer queue_of links uppers i) in
     let within : input < length uppers = slice_get_within uppers input link at in
     let found = some-of (first_in_turn ready turn) (ready-is_picked ready turn input is.turn (omega (arith, within, is.ports)) (ap is_some (offered-at queue_of links uppers input link x at head))) in
-    let has = some-of (offer_of queue_of links uppers found.0) (picked-is_ready ready turn found.0 is.turn found.1).1 in
-    (has.0, ap (option_and_then (offer_of queue_of links uppers)) found.1 ∙ has.1)
+    let has = some-of (input_offer queue_of links uppers found.0) (picked-is_ready ready turn found.0 is.turn found.1).1 in
+    (has.0, ap (option_and_then (input_offer queue_of links uppers)) found.1 ∙ has.1)
 
 pub takes-write_address : (links : List LinkView) (s : MuxState) → IsMux s → (input link : ℕ) (a : Addr) → slice_get s.shape.uppers input ≡ Some link → head_of (link_of links link).aw ≡ Some a →
     length s.granted < 16 → length (link_of links s.shape.lower).aw < (link_of links s.shape.lower).depth → (from : ℕ) × ((mux_out links s).aw_take ≡ Some from)
@@ -81,8 +81,8 @@ first-data : (links : List LinkView) (s : MuxState) (input link : ℕ) (w : WBea
     length (link_of links s.shape.lower).w < (link_of links s.shape.lower).depth → mux_w links s ≡ Some (record { input = input; link = link; beat = w })
 first-data links s input link w first at head there =
     let d = link_of links s.shape.lower in
-    ap (λ (b : Bool). beat_where b (option_and_then (offer_of (λ l. l.w) links s.shape.uppers) (head_of s.granted))) (lt-ltb (length d.w) d.depth there)
-    ∙ ap (λ (o : Option ℕ). option_and_then (offer_of (λ l. l.w) links s.shape.uppers) o) first
+    ap (λ (b : Bool). beat_where b (option_and_then (input_offer (λ l. l.w) links s.shape.uppers) (head_of s.granted))) (lt-ltb (length d.w) d.depth there)
+    ∙ ap (λ (o : Option ℕ). option_and_then (input_offer (λ l. l.w) links s.shape.uppers) o) first
     ∙ offered-at (λ l. l.w) links s.shape.uppers input link w at head
 
 pub takes-first_data : (links : List LinkView) (s : MuxState) (input link : ℕ) (rest : List ℕ) (w : WBeat) → s.granted ≡ input ∷ rest → slice_get s.shape.uppers input ≡ Some link →
@@ -95,15 +95,15 @@ pub record IsFirstData (links : List LinkView) (s : MuxState) (m : Moved WBeat) 
   pub first : head_of s.granted ≡ Some m.input
 
 pub w-first : (links : List LinkView) (s : MuxState) → IfSome (mux_w links s) (IsFirstData links s)
-w-first links s = beat_where-has (IsFirstData links s) _ (option_and_then (offer_of (λ l. l.w) links s.shape.uppers) (head_of s.granted)) (go (head_of s.granted) refl)
+w-first links s = beat_where-has (IsFirstData links s) _ (option_and_then (input_offer (λ l. l.w) links s.shape.uppers) (head_of s.granted)) (go (head_of s.granted) refl)
   where
     one : (input : ℕ) → head_of s.granted ≡ Some input → (r : Option (Moved WBeat)) → IfSome r (λ m. IsOffered (λ l. l.w) links s.shape.uppers m × (m.input ≡ input)) → IfSome r (IsFirstData links s)
     one input first None is = tt
     one input first (Some m) is = record { link = is.0.link; first = first ∙ ap Some (sym is.1) }
 
-    go : (o : Option ℕ) → head_of s.granted ≡ o → IfSome (option_and_then (offer_of (λ l. l.w) links s.shape.uppers) o) (IsFirstData links s)
+    go : (o : Option ℕ) → head_of s.granted ≡ o → IfSome (option_and_then (input_offer (λ l. l.w) links s.shape.uppers) o) (IsFirstData links s)
     go None first = tt
-    go (Some input) first = one input first (offer_of (λ l. l.w) links s.shape.uppers input) (offered-is (λ l. l.w) links s.shape.uppers input)
+    go (Some input) first = one input first (input_offer (λ l. l.w) links s.shape.uppers input) (offered-is (λ l. l.w) links s.shape.uppers input)
 
 is-taken : (number : ℕ) (take : Option ℕ) → take ≡ Some number → IsSome take
 is-taken number take is = ap is_some is

@@ -10,7 +10,7 @@ use Rattle.axi_link.specs.LinkWords.{has_room, head_of, link_of}
 use Rattle.axi_link.specs.Moves.{appended, takes_from}
 use Rattle.axi_trail.specs.SelectionLaws.{goes_way}
 use Rattle.axi_trail.specs.Trail.{beat_taken}
-use Rattle.mux_node.specs.MuxTable.{Moved, answered, offer_of, offered_in_turn, put_on_input, put_on_lower, sent_back, take_of_input, take_of_lower}
+use Rattle.mux_node.specs.MuxTable.{Moved, answered, input_offer, offered_in_turn, put_on_input, put_on_lower, sent_back, take_of_input, take_of_lower}
 use Rattle.mux_node.specs.MuxTrail.{at_input}
 use Rattle.node_core.specs.Rows.{beat_where}
 use Rattle.node_core.specs.Turn.{TurnState, first_in_turn}
@@ -31,7 +31,7 @@ module _ {X : Type 0} (queue_of : LinkView → List X) (links : List LinkView) (
     pub link : slice_get uppers m.input ≡ Some m.link
     pub head : head_of (queue_of (link_of links m.link)) ≡ Some m.beat
 
-  pub offered-is : (input : ℕ) → IfSome (offer_of queue_of links uppers input) (λ m. IsOffered m × (m.input ≡ input))
+  pub offered-is : (input : ℕ) → IfSome (input_offer queue_of links uppers input) (λ m. IsOffered m × (m.input ≡ input))
   offered-is input = go (slice_get uppers input) refl
     where
       here : (link : ℕ) → slice_get uppers input ≡ Some link → (h : Option X) → head_of (queue_of (link_of links link)) ≡ h →
@@ -46,7 +46,7 @@ module _ {X : Type 0} (queue_of : LinkView → List X) (links : List LinkView) (
 
   pub in_turn-is : (turn : TurnState) → IfSome (offered_in_turn queue_of links uppers turn) IsOffered
   in_turn-is turn =
-      and_then-has IsOffered (offer_of queue_of links uppers) (λ input. only input (offer_of queue_of links uppers input) (offered-is input)) (first_in_turn (λ input. is_some (offer_of queue_of links uppers input)) turn)
+      and_then-has IsOffered (input_offer queue_of links uppers) (λ input. only input (input_offer queue_of links uppers input) (offered-is input)) (first_in_turn (λ input. is_some (input_offer queue_of links uppers input)) turn)
     where
       only : (input : ℕ) (o : Option (Moved X)) → IfSome o (λ m. IsOffered m × (m.input ≡ input)) → IfSome o IsOffered
       only input None is = tt

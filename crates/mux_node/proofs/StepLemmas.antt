@@ -21,7 +21,7 @@ use Rattle.axi_trail.specs.Words.{Mark, burst_asked, mark_of_data, marks, marks_
 use Rattle.mux_node.proofs.OrderLemmas.{mux-takes_address, mux-takes_data}
 use Rattle.mux_node.proofs.RowLemmas.{IsOffered, answered-is, answers-step, in_turn-is, offered-is, put-is, requests-step, taken, taken-here}
 use Rattle.mux_node.specs.MuxState.{MuxShape, MuxState, new_mux}
-use Rattle.mux_node.specs.MuxTable.{Moved, ends_burst, granted_left, granted_more, ids_of, input_moved, mux_ar, mux_aw, mux_b, mux_next, mux_out, mux_r, mux_w, narrowed_b, narrowed_r, offer_of, offered_in_turn, put_on_lower, unchanged, widened}
+use Rattle.mux_node.specs.MuxTable.{Moved, ends_burst, granted_left, granted_more, ids_of, input_moved, mux_ar, mux_aw, mux_b, mux_next, mux_out, mux_r, mux_w, narrowed_b, narrowed_r, input_offer, offered_in_turn, put_on_lower, unchanged, widened}
 use Rattle.mux_node.specs.MuxTrail.{AreMerged, IsGrantedInOrder, Merges, MuxKeeps, MuxSuits, at_input, share_at_input}
 use Rattle.node_core.proofs.RowLemmas.{beat_where-has}
 use Rattle.plain_lists.proofs.KeyLemmas.{of_key-push}
@@ -158,15 +158,15 @@ module _ (schedules : ℕ → Schedule) (now : Progress) (links : List LinkView)
     pub granted : s.granted ≡ m.input ∷ drop 1 s.granted
 
   w-granted : IfSome w_row IsGranted
-  w-granted = beat_where-has IsGranted _ (option_and_then (offer_of (λ l. l.w) links s.shape.uppers) (head_of s.granted)) (go (head_of s.granted) refl)
+  w-granted = beat_where-has IsGranted _ (option_and_then (input_offer (λ l. l.w) links s.shape.uppers) (head_of s.granted)) (go (head_of s.granted) refl)
     where
       one : (input : ℕ) → head_of s.granted ≡ Some input → (r : Option (Moved WBeat)) → IfSome r (λ m. IsOffered (λ l. l.w) links s.shape.uppers m × (m.input ≡ input)) → IfSome r IsGranted
       one input first None is = tt
       one input first (Some m) is = record { is = is.0; granted = begins-with s.granted m.input (first ∙ ap Some (sym is.1)) }
 
-      go : (o : Option ℕ) → head_of s.granted ≡ o → IfSome (option_and_then (offer_of (λ l. l.w) links s.shape.uppers) o) IsGranted
+      go : (o : Option ℕ) → head_of s.granted ≡ o → IfSome (option_and_then (input_offer (λ l. l.w) links s.shape.uppers) o) IsGranted
       go None first = tt
-      go (Some input) first = one input first (offer_of (λ l. l.w) links s.shape.uppers input) (offered-is (λ l. l.w) links s.shape.uppers input)
+      go (Some input) first = one input first (input_offer (λ l. l.w) links s.shape.uppers input) (offered-is (λ l. l.w) links s.shape.uppers input)
 
   w-came : (m : Moved WBeat) → w_row ≡ Some m → IsGranted m → taken (λ l. l.w) links s.shape.uppers w_row m.link ≡ m.beat ∷ []
   w-came m row is = ap (λ (r : Option (Moved WBeat)). taken (λ l. l.w) links s.shape.uppers r m.link) row ∙ taken-here (λ l. l.w) links s.shape.uppers m is.is

@@ -14,7 +14,7 @@ use Rattle.axi_link.specs.LinkView.{LinkView}
 use Rattle.axi_link.specs.LinkWords.{has_room, head_of, link_of}
 use Rattle.mux_node.proofs.RowLemmas.{IsAnswer, IsOffered, and_then-has, answered-is, in_turn-is, offered-is}
 use Rattle.mux_node.specs.MuxState.{IsInputTurn, IsMux, IsMuxShape, MuxShape, MuxState, new_mux}
-use Rattle.mux_node.specs.MuxTable.{Moved, ends_burst, granted_left, granted_more, ids_of, input_moved, mux_ar, mux_aw, mux_b, mux_next, mux_out, mux_r, mux_w, narrowed_b, narrowed_r, offer_of, offered_in_turn, put_on_input, put_on_lower, take_of_input, take_of_lower, turn_behind, unchanged, widened}
+use Rattle.mux_node.specs.MuxTable.{Moved, ends_burst, granted_left, granted_more, ids_of, input_moved, mux_ar, mux_aw, mux_b, mux_next, mux_out, mux_r, mux_w, narrowed_b, narrowed_r, input_offer, offered_in_turn, put_on_input, put_on_lower, take_of_input, take_of_lower, turn_behind, unchanged, widened}
 use Rattle.mux_node.specs.MuxTrail.{mux_kind}
 use Rattle.node_core.proofs.RowLemmas.{beat_where-has}
 use Rattle.node_core.specs.Acted.{opened}
@@ -63,8 +63,8 @@ module _ (links : List LinkView) (s : MuxState) where
 
   pub w-is : IfSome (mux_w links s) (IsOffered (λ l. l.w) links s.shape.uppers)
   w-is =
-      beat_where-has (IsOffered (λ l. l.w) links us) _ (option_and_then (offer_of (λ l. l.w) links us) (head_of s.granted))
-      (and_then-has (IsOffered (λ l. l.w) links us) (offer_of (λ l. l.w) links us) (λ input. only input (offer_of (λ l. l.w) links us input) (offered-is (λ l. l.w) links us input)) (head_of s.granted))
+      beat_where-has (IsOffered (λ l. l.w) links us) _ (option_and_then (input_offer (λ l. l.w) links us) (head_of s.granted))
+      (and_then-has (IsOffered (λ l. l.w) links us) (input_offer (λ l. l.w) links us) (λ input. only input (input_offer (λ l. l.w) links us input) (offered-is (λ l. l.w) links us input)) (head_of s.granted))
     where
       only : (input : ℕ) (o : Option (Moved WBeat)) → IfSome o (λ m. IsOffered (λ l. l.w) links s.shape.uppers m × (m.input ≡ input)) → IfSome o (IsOffered (λ l. l.w) links s.shape.uppers)
       only input None is = tt
@@ -87,7 +87,7 @@ mux_fits links s =
       aw_put = put-fits (λ l. l.aw) links us l (widened ids) (has_room d.depth d.aw && fits s.granted) (offered_in_turn (λ l. l.aw) links us s.turn_aw)
           (λ is. ltb-true (length d.aw) d.depth (and_parts (has_room d.depth d.aw) (fits s.granted) is).0);
       w_take = take-fits (λ l. l.w) links us l (mux_w links s) (w-is links s);
-      w_put = put-fits (λ l. l.w) links us l unchanged (has_room d.depth d.w) (option_and_then (offer_of (λ l. l.w) links us) (head_of s.granted)) (ltb-true (length d.w) d.depth);
+      w_put = put-fits (λ l. l.w) links us l unchanged (has_room d.depth d.w) (option_and_then (input_offer (λ l. l.w) links us) (head_of s.granted)) (ltb-true (length d.w) d.depth);
       b_take = answer-take-fits (λ l. l.b) links us l (λ b. b.id) ids (narrowed_b ids) (mux_b links s) (b-is links s);
       b_put = answer-put-fits (λ l. l.b) links us l (λ b. b.id) ids (narrowed_b ids) (mux_b links s) (b-is links s);
       ar_take = take-fits (λ l. l.ar) links us l (mux_ar links s) (ar-is links s);

@@ -39,13 +39,13 @@ addresses Read link = link.ar
 -- Requests and write data.
 module _ {X : Type 0} (queue_of : LinkView → List X) (links : List LinkView) (uppers : List ℕ) where
   -- the head that an input offers
-  abbrev pub offer_of : ℕ → Option (Moved X)
-  offer_of input =
+  abbrev pub input_offer : ℕ → Option (Moved X)
+  input_offer input =
       option_and_then (λ link. option_map (λ beat. record { input = input; link = link; beat = beat }) (head_of (queue_of (link_of links link)))) (slice_get uppers input)
 
   -- that of the input whose turn it is
   abbrev pub offered_in_turn : TurnState → Option (Moved X)
-  offered_in_turn turn = option_and_then offer_of (first_in_turn (λ input. is_some (offer_of input)) turn)
+  offered_in_turn turn = option_and_then input_offer (first_in_turn (λ input. is_some (input_offer input)) turn)
 
 -- Answers: each goes to the input in its ID, where there is one and room on its link.
 module _ {X : Type 0} (queue_of : LinkView → List X) (id_of : X → ℕ) (links : List LinkView) (uppers : List ℕ) (lower ids : ℕ) where
@@ -67,7 +67,7 @@ module _ (links : List LinkView) (s : MuxState) where
   mux_aw = beat_where (has_room mux_below.depth mux_below.aw && fits s.granted) (offered_in_turn (λ l. l.aw) links s.shape.uppers s.turn_aw)
 
   abbrev pub mux_w : Option (Moved WBeat)
-  mux_w = beat_where (has_room mux_below.depth mux_below.w) (option_and_then (offer_of (λ l. l.w) links s.shape.uppers) (head_of s.granted))
+  mux_w = beat_where (has_room mux_below.depth mux_below.w) (option_and_then (input_offer (λ l. l.w) links s.shape.uppers) (head_of s.granted))
 
   abbrev pub mux_b : Option (Moved BBeat)
   mux_b = answered (λ l. l.b) (λ b. b.id) links s.shape.uppers s.shape.lower (ids_of s.shape)

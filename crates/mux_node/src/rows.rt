@@ -5,7 +5,7 @@ ghost use Rattle.std.specs.Int.{bit_at};
 ghost use Rattle.std.specs.Option.{option_copied, option_and_then, option_map};
 ghost use Rattle.axi_link.specs.LinkWords.{has_room, head_of, link_of};
 ghost use Rattle.mux_node.specs.MuxTable.{CanMux, addresses, answered, ends_burst, granted_left, granted_more, ids_of};
-ghost use Rattle.mux_node.specs.MuxTable.{input_moved, narrowed_b, narrowed_r, offer_of, offered_in_turn, put_on_input, put_on_lower};
+ghost use Rattle.mux_node.specs.MuxTable.{input_moved, narrowed_b, narrowed_r, input_offer, offered_in_turn, put_on_input, put_on_lower};
 ghost use Rattle.mux_node.specs.MuxTable.{take_of_input, take_of_lower, turn_behind, unchanged, upper_of, widened};
 ghost use Rattle.node_core.specs.Rows.{beat_where, fits};
 ghost use Rattle.node_core.specs.Turn.{first_in_turn};
@@ -36,7 +36,7 @@ fn address(link: &Link, direction: Direction) -> Option<&Addr>
 /// The inputs that offer an address of a direction.
 fn offering(links: &[Link], shape: &Shape, direction: Direction) -> u32
     requires { CanMux links.now shape.now }
-    ensures { (input : ℕ) → (bit_at result input == 1) ≡ is_some (offer_of (addresses direction) links.now shape.now.uppers input) }
+    ensures { (input : ℕ) → (bit_at result input == 1) ≡ is_some (input_offer (addresses direction) links.now shape.now.uppers input) }
 {
     let mut ready = 0;
     for input in 0..shape.inputs() {
@@ -72,7 +72,7 @@ pub(crate) fn picked(
     requires ports { turn.now.ports ≡ length shape.now.uppers }
     ensures input { result ≡ input_moved (beat_where may (offered_in_turn (addresses direction) links.now shape.now.uppers turn.now)) }
     ensures within { IfSome result (λ input. input < length shape.now.uppers) }
-    ensures row { option_and_then (offer_of (addresses direction) links.now shape.now.uppers) result ≡ beat_where may (offered_in_turn (addresses direction) links.now shape.now.uppers turn.now) }
+    ensures row { option_and_then (input_offer (addresses direction) links.now shape.now.uppers) result ≡ beat_where may (offered_in_turn (addresses direction) links.now shape.now.uppers turn.now) }
 {
     if may {
         turn.first(offering(links, shape, direction))
@@ -92,8 +92,8 @@ pub(crate) fn pass_address(
 )
     requires can { CanMux links.now shape.now }
     requires within { IfSome input (λ i. i < length shape.now.uppers) }
-    ensures take { take.new ≡ take_of_input (option_and_then (offer_of (addresses direction) links.now shape.now.uppers) input) }
-    ensures put { put.new ≡ put_on_lower (widened (ids_of shape.now)) shape.now.lower (option_and_then (offer_of (addresses direction) links.now shape.now.uppers) input) }
+    ensures take { take.new ≡ take_of_input (option_and_then (input_offer (addresses direction) links.now shape.now.uppers) input) }
+    ensures put { put.new ≡ put_on_lower (widened (ids_of shape.now)) shape.now.lower (option_and_then (input_offer (addresses direction) links.now shape.now.uppers) input) }
 {
     let Some(input) = input else {
         stay(take, put);
@@ -123,9 +123,9 @@ pub(crate) fn pass_data(
 ) -> bool
     requires can { CanMux links.now shape.now }
     requires within { IfSome input (λ i. i < length shape.now.uppers) }
-    ensures take { take.new ≡ take_of_input (beat_where (has_room (link_of links.now shape.now.lower).depth (link_of links.now shape.now.lower).w) (option_and_then (offer_of (λ l. l.w) links.now shape.now.uppers) input)) }
-    ensures put { put.new ≡ put_on_lower unchanged shape.now.lower (beat_where (has_room (link_of links.now shape.now.lower).depth (link_of links.now shape.now.lower).w) (option_and_then (offer_of (λ l. l.w) links.now shape.now.uppers) input)) }
-    ensures ends { result ≡ ends_burst (beat_where (has_room (link_of links.now shape.now.lower).depth (link_of links.now shape.now.lower).w) (option_and_then (offer_of (λ l. l.w) links.now shape.now.uppers) input)) }
+    ensures take { take.new ≡ take_of_input (beat_where (has_room (link_of links.now shape.now.lower).depth (link_of links.now shape.now.lower).w) (option_and_then (input_offer (λ l. l.w) links.now shape.now.uppers) input)) }
+    ensures put { put.new ≡ put_on_lower unchanged shape.now.lower (beat_where (has_room (link_of links.now shape.now.lower).depth (link_of links.now shape.now.lower).w) (option_and_then (input_offer (λ l. l.w) links.now shape.now.uppers) input)) }
+    ensures ends { result ≡ ends_burst (beat_where (has_room (link_of links.now shape.now.lower).depth (link_of links.now shape.now.lower).w) (option_and_then (input_offer (λ l. l.w) links.now shape.now.uppers) input)) }
 {
     if !shape.below(links).room_w() {
         stay(take, put);

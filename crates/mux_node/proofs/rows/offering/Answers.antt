@@ -4,7 +4,7 @@ use Rattle.axi_beats.specs.declared.beat.Addr.{Addr}
 use Rattle.axi_link.specs.LinkView.{LinkView}
 use Rattle.axi_link.specs.LinkWords.{head_of}
 use Rattle.mux_node.proofs.CodeLemmas.{all-marked, copied-some, offers-at, one-more_marked}
-use Rattle.mux_node.specs.MuxTable.{addresses, offer_of}
+use Rattle.mux_node.specs.MuxTable.{addresses, input_offer}
 use Rattle.mux_node.proofs.rows.offering.Goals as goal
 
 -- src/rows.rt:42:5
@@ -13,7 +13,7 @@ loop-input-preserved c =
     let queue_of = addresses c.args.direction in
     let uppers = c.args.shape.now.uppers in
     let input = c.loop-input.input in
-    let offers : ℕ → Bool = λ other. is_some (offer_of queue_of c.args.links.now uppers other) in
+    let offers : ℕ → Bool = λ other. is_some (input_offer queue_of c.args.links.now uppers other) in
     let here : c.is_some-offers.result ≡ offers input =
     c.is_some-offers.ensures ∙ sym (copied-some c.address.result) ∙ ap (λ (o : Option Addr). is_some o) c.address.ensures
     ∙ ap (λ (link : LinkView). is_some (head_of (queue_of link))) c.above.ensures
