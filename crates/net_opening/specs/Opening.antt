@@ -1,11 +1,11 @@
 -- The network of a plan before its first round.
 use Rattle.std.specs.Prelude.{ℕ, List, length, map}
-use Rattle.elaborate.specs.Plan.{plan_links, plan_nodes}
+use Rattle.elaborate.specs.Plan.{plan_links, plan_node_at, plan_nodes}
 use Rattle.elaborate.specs.declared.part.Part.{Part}
 use Rattle.elaborate.specs.declared.part.Part.TheVariants as part
 use Rattle.net_kinds.specs.NodeKind.{AManager, AMemory, AMux, ASlice, AnError, NodeState}
 use Rattle.net_model.specs.Network.{Network}
-use Rattle.net_opening.specs.PlanLinks.{net_link_of, plan_node_at, queue_of}
+use Rattle.net_opening.specs.PlanLinks.{net_link_of, queue_of}
 use Rattle.net_opening.specs.States.{error_at, manager_at, memory_at, mux_at, slice_at}
 use Rattle.node_core.specs.Acted.{opened}
 use Rattle.node_graph.specs.Graph.{numbers}

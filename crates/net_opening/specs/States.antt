@@ -1,12 +1,13 @@
 -- The nodes of a plan as their kinds begin, by their numbers, with the keys of the document.
 use Rattle.std.specs.Prelude.{ℕ, List, map}
+use Rattle.elaborate.specs.Plan.{plan_link_at, plan_node_at}
 use Rattle.error_node.specs.ErrorState.{ErrorState, new_error}
 use Rattle.manager_node.specs.ManagerState.{ManagerState, new_manager}
 use Rattle.memory_node.specs.MemoryArea.{MemoryArea}
 use Rattle.memory_node.specs.MemoryState.{MemoryState, new_memory}
 use Rattle.memory_node.specs.declared.config.Range.{Range}
 use Rattle.mux_node.specs.MuxState.{MuxState, new_mux}
-use Rattle.net_opening.specs.PlanLinks.{link_into, link_out_of, links_into, plan_link_at, plan_node_at}
+use Rattle.net_opening.specs.PlanLinks.{link_into, link_out_of, links_into}
 use Rattle.net_opening.specs.Scripts.{script_of}
 use Rattle.net_opening.specs.Touched.{lines_touched}
 use Rattle.node_core.specs.Paces.{new_paces}
