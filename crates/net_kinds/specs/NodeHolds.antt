@@ -1,6 +1,6 @@
 -- Each kind shows what every kind has to show.
 use Rattle.memory_node.specs.Events.{Access}
-use Rattle.net_kinds.specs.NodeKind.{AManager, AMemory, AMux, ASlice, AnError, KindName, kind_by_name, node_kind}
+use Rattle.net_kinds.specs.NodeKind.{ADemux, AManager, AMemory, AMux, ASlice, AnError, KindName, kind_by_name, node_kind}
 use Rattle.node_shape.proofs.FamilyLemmas.{family-holds}
 use Rattle.node_shape.specs.KindHolds.{KindHolds}
 use Rattle.slice_node.proofs.SliceHolds.{slice-holds}
@@ -8,6 +8,7 @@ use Rattle.memory_node.proofs.MemoryHolds.{memory-holds}
 use Rattle.manager_node.proofs.ManagerHolds.{manager-holds}
 use Rattle.mux_node.proofs.MuxHolds.{mux-holds}
 use Rattle.error_node.proofs.ErrorHolds.{error-holds}
+use Rattle.demux_node.proofs.DemuxHolds.{demux-holds}
 
 pub each_holds : (name : KindName) → KindHolds (kind_by_name name)
 each_holds ASlice = slice-holds Access
@@ -15,6 +16,7 @@ each_holds AMemory = memory-holds
 each_holds AManager = manager-holds Access
 each_holds AMux = mux-holds Access
 each_holds AnError = error-holds Access
+each_holds ADemux = demux-holds Access
 
 pub node_holds : KindHolds node_kind
 node_holds = family-holds kind_by_name each_holds

@@ -8,6 +8,7 @@ use memory_node::MemoryNode;
 use manager_node::ManagerNode;
 use mux_node::MuxNode;
 use error_node::ErrorNode;
+use demux_node::DemuxNode;
 use node_core::Step;
 use slice_node::SliceNode;
 use std::marker::{Send, Sync};
@@ -17,6 +18,8 @@ use std::marker::{Send, Sync};
 pub enum Node {
     /// Between two links, where it passes every beat on a round later.
     Slice(SliceNode),
+    /// Above several links, of which it chooses one by the address.
+    Demux(Box<DemuxNode>),
     /// Below one link: it answers each transaction with DECERR.
     Error(Box<ErrorNode>),
     /// Below several links, which it joins into the one below it.
@@ -41,6 +44,7 @@ impl Step for Node {
     fn decide(&mut self, round: u64, links: &[Link]) {
         match self {
             Node::Slice(slice) => slice.decide(round, links),
+            Node::Demux(demux) => demux.decide(round, links),
             Node::Error(error) => error.decide(round, links),
             Node::Mux(mux) => mux.decide(round, links),
             Node::Manager(manager) => manager.decide(round, links),
@@ -51,6 +55,7 @@ impl Step for Node {
     fn out(&self) -> &Out {
         match self {
             Node::Slice(slice) => slice.out(),
+            Node::Demux(demux) => demux.out(),
             Node::Error(error) => error.out(),
             Node::Mux(mux) => mux.out(),
             Node::Manager(manager) => manager.out(),
@@ -67,6 +72,7 @@ impl Node {
         match self {
             Node::Manager(manager) => manager.done(),
             Node::Slice(_) => true,
+            Node::Demux(_) => true,
             Node::Error(_) => true,
             Node::Mux(_) => true,
             Node::Memory(_) => true,

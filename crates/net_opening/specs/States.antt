@@ -1,5 +1,7 @@
 -- The nodes of a plan as their kinds begin, by their numbers, with the keys of the document.
 use Rattle.std.specs.Prelude.{ℕ, List, map}
+use Rattle.demux_node.specs.DemuxState.{DemuxState, new_demux}
+use Rattle.elaborate.specs.Path.{ported_regions}
 use Rattle.elaborate.specs.Plan.{plan_link_at, plan_node_at}
 use Rattle.error_node.specs.ErrorState.{ErrorState, new_error}
 use Rattle.manager_node.specs.ManagerState.{ManagerState, new_manager}
@@ -7,7 +9,7 @@ use Rattle.memory_node.specs.MemoryArea.{MemoryArea}
 use Rattle.memory_node.specs.MemoryState.{MemoryState, new_memory}
 use Rattle.memory_node.specs.declared.config.Range.{Range}
 use Rattle.mux_node.specs.MuxState.{MuxState, new_mux}
-use Rattle.net_opening.specs.PlanLinks.{link_into, link_out_of, links_into}
+use Rattle.net_opening.specs.PlanLinks.{link_into, link_out_of, links_into, links_out_of}
 use Rattle.net_opening.specs.Scripts.{script_of}
 use Rattle.net_opening.specs.Touched.{lines_touched}
 use Rattle.node_core.specs.Paces.{new_paces}
@@ -59,3 +61,7 @@ module _ (nodes : List DocumentNode) (number : ℕ) where
 
   abbrev pub error_at : ErrorState
   error_at = new_error (link_into nodes number)
+
+  -- a demux has the regions of its document node
+  abbrev pub demux_at : DemuxState
+  demux_at = new_demux (record { upper = link_into nodes number; lowers = links_out_of nodes number; regions = ported_regions nodes document_node_of })
