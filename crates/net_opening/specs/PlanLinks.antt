@@ -1,7 +1,8 @@
 -- The links of a plan, as those of a network.
 use Rattle.std.specs.Prelude.{◌==◌, ◌||◌, ℕ, List, Bool, true, false, filter, length, slice_index_or}
 use Rattle.axi_link.specs.LinkView.{LinkView, empty_link}
-use Rattle.elaborate.specs.Plan.{PlanLink, plan_link_at, plan_links, plan_node_at}
+use Rattle.elaborate.specs.Plan.{plan_link_at, plan_links, plan_node_at}
+use Rattle.elaborate.specs.declared.link.PlanLink.{PlanLink}
 use Rattle.elaborate.specs.declared.part.Part.{Part}
 use Rattle.elaborate.specs.declared.part.Part.TheVariants as part
 use Rattle.net_model.specs.declared.net_link.NetLink.{NetLink}
