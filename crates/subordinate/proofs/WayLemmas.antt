@@ -9,7 +9,7 @@ use Rattle.burst_address.specs.Formulas.{beats_of}
 use Rattle.node_shape.specs.LegalSchedule.{IsDataOf}
 use Rattle.node_shape.specs.LinkForm.{LinkForm}
 use Rattle.node_shape.specs.Way.{IsWay, end_here}
-use Rattle.node_shape.specs.WaysAround.{IsCarried, WaysAround}
+use Rattle.node_shape.specs.WaysAround.{WaysAround}
 use Rattle.node_shape.proofs.OneLinkLemmas.{one-has}
 use Rattle.subordinate.specs.Service.{Service}
 use Rattle.subordinate.specs.Tracks.{SuitsService, ends_with}

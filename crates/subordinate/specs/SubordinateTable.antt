@@ -1,6 +1,7 @@
 -- What a subordinate does in a round (Arm IHI 0022, relationships between the channels): a function of its state and its
 -- link as they stand at the round's start.
-use Rattle.std.specs.Prelude.{◌==◌, ◌+◌, ◌&&◌, ◌++◌, ◌∷◌, [], List, Bool, Option, Some, None, false, not, drop, nat_lt, is_some, if◌then◌else◌, option_map, find}
+use Rattle.std.specs.Prelude.{◌==◌, ◌+◌, ◌&&◌, ◌++◌, ◌∷◌, [], List, Bool, Option, Some, None, false}
+use Rattle.std.specs.Prelude.{not, drop, nat_lt, is_some, if◌then◌else◌, option_map, find}
 use Rattle.axi_beats.specs.Response.{worst_of}
 use Rattle.axi_beats.specs.declared.beat.Addr.{Addr}
 use Rattle.axi_beats.specs.declared.beat.WBeat.{WBeat}

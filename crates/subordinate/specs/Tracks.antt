@@ -1,6 +1,7 @@
 -- A subordinate in the light of what has passed on its link (Arm IHI 0022, ordering model). What is said of answers is said
 -- by ID and by transaction, so that it holds in whatever order those of different IDs come.
-use Rattle.std.specs.Prelude.{◌≡◌, ◌≤◌, ◌==◌, ◌&&◌, ◌++◌, ◌∷◌, [], ℕ, suc, List, Bool, All, true, false, filter, length, map, nat_lt, take, drop, zip, if◌then◌else◌}
+use Rattle.std.specs.Prelude.{◌≡◌, ◌≤◌, ◌==◌, ◌&&◌, ◌++◌, ◌∷◌, [], ℕ, suc, List, Bool, All, true}
+use Rattle.std.specs.Prelude.{false, filter, length, map, nat_lt, take, drop, zip, if◌then◌else◌}
 use Rattle.axi_beats.specs.declared.beat.Addr.{Addr}
 use Rattle.axi_beats.specs.declared.beat.WBeat.{WBeat}
 use Rattle.axi_beats.specs.declared.beat.BBeat.{BBeat}
@@ -10,7 +11,8 @@ use Rattle.axi_trail.specs.LinkContracts.{without_id}
 use Rattle.axi_trail.specs.Schedule.{Schedule, Share}
 use Rattle.axi_trail.specs.Trail.{Beats}
 use Rattle.axi_trail.specs.Waiting.{Waiting, beats_by, held, pending}
-use Rattle.axi_trail.specs.Words.{InOrderOfId, burst_asked, id_of_address, number_of_address, number_of_data, number_of_read_data, number_of_response, read_reply, write_asked, write_reply}
+use Rattle.axi_trail.specs.Words.{InOrderOfId, burst_asked, id_of_address, number_of_address, number_of_data, number_of_read_data}
+use Rattle.axi_trail.specs.Words.{number_of_response, read_reply, write_asked, write_reply}
 use Rattle.burst_address.specs.Formulas.{beats_of}
 use Rattle.plain_lists.specs.Keys.{of_key}
 use Rattle.plain_lists.specs.Prefixes.{IsPrefix}
@@ -74,7 +76,11 @@ module _ {D : Type 0} (service : Service D) where
     -- so each has the status of its own data so far
     pub own :
         (t : ℕ) →
-        OwnWrites (of_key number_of_write t entries) (of_key number_of_address t addresses) (of_key number_of_data t beats) (of_key number_of_response t responses)
+        OwnWrites
+            (of_key number_of_write t entries)
+            (of_key number_of_address t addresses)
+            (of_key number_of_data t beats)
+            (of_key number_of_response t responses)
 
 -- what the open reads have to do with what has passed on AR and R
 pub record TracksReads (shares : ℕ → Share) (entries : List ReadEntry) (addresses : List Addr) (beats : List RBeat) : Type 0 where
@@ -82,7 +88,10 @@ pub record TracksReads (shares : ℕ → Share) (entries : List ReadEntry) (addr
   pub open_reads : map read_waiting entries ≡ held len_of_address id_of_address addresses (map (λ r. r.id) beats)
   pub in_order_of_id : InOrderOfId (map burst_asked addresses) (map read_reply beats)
   -- and so are those of a transaction, whatever their IDs
-  pub own : (t : ℕ) → map read_waiting (of_key number_of_read t entries) ≡ pending len_of_address (length (of_key number_of_read_data t beats)) (of_key number_of_address t addresses)
+  pub own :
+      (t : ℕ) →
+      map read_waiting (of_key number_of_read t entries)
+      ≡ pending len_of_address (length (of_key number_of_read_data t beats)) (of_key number_of_address t addresses)
   -- each beat has all lanes of the widest bus, and the status that is due to it
   pub lanes_are_whole : All (λ (r : RBeat). length r.lanes ≡ 128) beats
   pub statuses : (t : ℕ) → IsPrefix (map (λ (r : RBeat). r.resp) (of_key number_of_read_data t beats)) (shares t).responses
