@@ -1,0 +1,13 @@
+pub mod Data
+pub mod Line
+pub mod Seen
+pub mod Ports
+pub mod LineRefusals
+pub mod Orders
+pub mod Traffic
+pub mod Steps
+pub mod Inside
+pub mod Accepted
+pub mod Refusals
+pub mod Due
+pub mod Bound

@@ -1,0 +1,62 @@
+//! The reader of a traffic.
+
+ghost use Rattle.std.specs.Prelude.{◌≡◌, ◌≤◌, length, IfErr, IfOk, None};
+ghost use Rattle.plain_text.specs.Lines.{lines};
+ghost use Rattle.plan_traffic.specs.Accepted.{IsTraffic};
+ghost use Rattle.plan_traffic.specs.Traffic.{IsRefusal, traffic_refusal, traffic_of};
+
+use crate::build::collect_items;
+use crate::order::is_too_much;
+use crate::refusal::least_refusal;
+use crate::transactions::Traffic;
+use axi_beats::NoMemory;
+use elaborate::Plan;
+use refusals::{Cause, DocFault, Refusal};
+use std::alloc::Global;
+use topology::Wiring;
+
+/// The transactions that the lines of the text ask of the managers of a plan. The text has at most
+/// 16,777,216 bytes.
+///
+/// # Errors
+///
+/// The refusal with the least code, from 17 to 21, and of those with one code the one of the first line.
+/// Want of memory comes only where the traffic isn't refused.
+pub fn read_traffic(alloc: Global, text: &str, plan: &Plan) -> Result<Traffic, DocFault>
+    requires text { length text.now ≤ 16777216 }
+    ensures accepted { IfOk result (λ _. traffic_refusal plan.now (lines text.now) ≡ None) }
+    ensures traffic { IfOk result (λ traffic. traffic ≡ traffic_of plan.now (lines text.now)) }
+    ensures known { IfOk result (IsTraffic plan.now) }
+    ensures refused { IfErr result (IsRefusal (traffic_refusal plan.now (lines text.now))) }
+{
+    read_lines(alloc, text.as_bytes(), plan.wiring())
+}
+
+// The transactions that the lines of the text ask of the managers among a document's nodes.
+fn read_lines(alloc: Global, text: &[u8], nodes: &Wiring) -> Result<Traffic, DocFault>
+    requires text { length text.now ≤ 16777216 }
+    ensures accepted { IfOk result (λ _. traffic_refusal nodes.now (lines text.now) ≡ None) }
+    ensures traffic { IfOk result (λ traffic. traffic ≡ traffic_of nodes.now (lines text.now)) }
+    ensures known { IfOk result (IsTraffic nodes.now) }
+    ensures refused { IfErr result (IsRefusal (traffic_refusal nodes.now (lines text.now))) }
+{
+    if let Some(refusal) = traffic_refusal(text, nodes) {
+        return Err(DocFault::Refused(refusal));
+    }
+    match collect_items(alloc, text, nodes) {
+        Ok(items) => Ok(Traffic::from_items(items)),
+        Err(NoMemory) => Err(DocFault::NoMemory),
+    }
+}
+
+// Why the lines of the text are refused, if they are.
+fn traffic_refusal(text: &[u8], nodes: &Wiring) -> Option<Refusal>
+    requires text { length text.now ≤ 16777216 }
+    ensures { result ≡ traffic_refusal nodes.now (lines text.now) }
+{
+    match least_refusal(text, nodes) {
+        Some(refusal) => Some(refusal),
+        None if is_too_much(text, nodes) => Some(Refusal::new(Cause::TooMuchTraffic)),
+        None => None,
+    }
+}

@@ -1,0 +1,75 @@
+//! The transactions of a traffic. Contracts see them as a list.
+
+ghost use Rattle.std.specs.Prelude.{◌≡◌, ◌-◌, ◌≤◌, length, Some};
+ghost use Rattle.std.specs.List.{slice_get};
+ghost use Rattle.std.specs.Option.{option_map};
+ghost use Rattle.plan_traffic.specs.Inside.{traffic_items};
+
+use crate::build::Item;
+use manager_node::{Txn, WriteByte};
+use std::marker::Model;
+
+/// The transactions of all managers, at most 16,384, numbered from 1 in the order of their lines.
+#[derive(Drop)]
+pub struct Traffic {
+    items: Vec<Item>,
+}
+
+impl Model for Traffic {
+    ghost use Rattle.std.specs.Prelude.{List, ◌≤◌, length};
+    ghost use Rattle.plan_traffic.specs.Traffic.{TrafficItem};
+
+    ghost Value = { List TrafficItem };
+
+    ghost use Rattle.plan_traffic.specs.Inside.{traffic_items};
+
+    ghost view = { λ traffic. traffic_items traffic.items.items };
+
+    ghost invariant = { λ traffic. length traffic.items.items ≤ 16384 };
+}
+
+impl Traffic {
+    /// The traffic of these transactions.
+    pub(crate) fn from_items(items: Vec<Item>) -> Traffic
+        requires { length items.items ≤ 16384 }
+        ensures { result ≡ traffic_items items.items }
+    {
+        Traffic { items }
+    }
+
+    /// The number of transactions.
+    pub fn count(&self) -> u32
+        ensures count { result ≡ length self.now }
+        ensures most { result ≤ 16384 }
+    {
+        self.items.len() as u32
+    }
+
+    /// The transaction with this number, from 1 to the count.
+    pub fn txn(&self, number: u32) -> &Txn
+        requires first { 1 ≤ number }
+        requires last { number ≤ length self.now }
+        ensures { option_map (λ item. item.txn) (slice_get self.now (number - 1)) ≡ Some result.now }
+    {
+        &self.items[number as usize - 1].txn
+    }
+
+    /// The bytes that a write names, one for each valid byte in the order of the burst; none for a
+    /// read.
+    pub fn bytes(&self, number: u32) -> &[WriteByte]
+        requires first { 1 ≤ number }
+        requires last { number ≤ length self.now }
+        ensures { option_map (λ item. item.bytes) (slice_get self.now (number - 1)) ≡ Some result.now }
+    {
+        self.items[number as usize - 1].bytes.as_slice()
+    }
+
+    /// The place of the transaction's manager among those that the reader was given.
+    pub fn manager(&self, number: u32) -> u32
+        requires first { 1 ≤ number }
+        requires last { number ≤ length self.now }
+        ensures { option_map (λ item. item.manager) (slice_get self.now (number - 1)) ≡ Some result }
+    {
+        self.items[number as usize - 1].manager
+    }
+}
