@@ -1,7 +1,8 @@
 -- What a mux does in a round (Arm IHI 0022, transaction identifiers): a function of its links as they stand at the round's
 -- start. It sends the requests of all inputs below, each with its input in its ID, and the answers back by the input in
 -- theirs.
-use Rattle.std.specs.Prelude.{◌<◌, ◌+◌, ◌*◌, ◌/◌, ◌%◌, ◌^◌, ◌&&◌, ◌||◌, ◌++◌, ◌∷◌, [], ℕ, List, Bool, All, IfSome, Option, Some, None, drop, false, is_some, length, slice_get, slice_index_or, if◌then◌else◌}
+use Rattle.std.specs.Prelude.{◌<◌, ◌+◌, ◌*◌, ◌/◌, ◌%◌, ◌^◌, ◌&&◌, ◌||◌, ◌++◌, ◌∷◌, if◌then◌else◌, ℕ, Bool, false, Option, Some, None, is_some, IfSome}
+use Rattle.std.specs.Prelude.{[], List, All, drop, length, slice_get, slice_index_or}
 use Rattle.std.specs.Option.{option_and_then, option_map}
 use Rattle.axi_beats.specs.declared.beat.Addr.{Addr}
 use Rattle.axi_beats.specs.declared.beat.WBeat.{WBeat}
@@ -41,7 +42,9 @@ module _ {X : Type 0} (queue_of : LinkView → List X) (links : List LinkView) (
   -- the head that an input offers
   abbrev pub input_offer : ℕ → Option (Moved X)
   input_offer input =
-      option_and_then (λ link. option_map (λ beat. record { input = input; link = link; beat = beat }) (head_of (queue_of (link_of links link)))) (slice_get uppers input)
+      option_and_then
+      (λ link. option_map (λ beat. record { input = input; link = link; beat = beat }) (head_of (queue_of (link_of links link))))
+      (slice_get uppers input)
 
   -- that of the input whose turn it is
   abbrev pub offered_in_turn : TurnState → Option (Moved X)
@@ -52,7 +55,8 @@ module _ {X : Type 0} (queue_of : LinkView → List X) (id_of : X → ℕ) (link
   abbrev pub sent_back : X → Option (Moved X)
   sent_back beat =
       option_and_then
-      (λ link. beat_where (has_room (link_of links link).depth (queue_of (link_of links link))) (Some (record { input = id_of beat / ids; link = link; beat = beat })))
+      (λ link.
+      beat_where (has_room (link_of links link).depth (queue_of (link_of links link))) (Some (record { input = id_of beat / ids; link = link; beat = beat })))
       (slice_get uppers (id_of beat / ids))
 
   abbrev pub answered : Option (Moved X)

@@ -61,8 +61,10 @@ pub record MuxKeeps (schedules : ℕ → Schedule) (s : MuxState) (uppers : Trai
   pub w : (input : ℕ) → selected number_of_data (goes_way suits.write_route input) lower.w ≡ at_input s.shape.uppers (λ link. (uppers link).w) input
   pub order : IsGrantedInOrder suits.write_route s.granted lower.aw lower.w
   -- its answers are those with the input in their IDs
-  pub b : (input : ℕ) → at_input s.shape.uppers (λ link. (uppers link).b) input ≡ map (narrowed_b (ids_of s.shape)) (of_key (λ b. b.id / ids_of s.shape) input lower.b)
-  pub r : (input : ℕ) → at_input s.shape.uppers (λ link. (uppers link).r) input ≡ map (narrowed_r (ids_of s.shape)) (of_key (λ r. r.id / ids_of s.shape) input lower.r)
+  pub b : (input : ℕ) →
+      at_input s.shape.uppers (λ link. (uppers link).b) input ≡ map (narrowed_b (ids_of s.shape)) (of_key (λ b. b.id / ids_of s.shape) input lower.b)
+  pub r : (input : ℕ) →
+      at_input s.shape.uppers (λ link. (uppers link).r) input ≡ map (narrowed_r (ids_of s.shape)) (of_key (λ r. r.id / ids_of s.shape) input lower.r)
 
 -- The links of the inputs are alike the one below, but that its IDs are wide enough for those of the inputs with the input
 -- in front.

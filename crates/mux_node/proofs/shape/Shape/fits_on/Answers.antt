@@ -4,9 +4,8 @@ use Rattle.std.proofs.lemmas.Bool.{ltb-true}
 use Rattle.std.proofs.lemmas.List.Elements.{All-weaker}
 use Rattle.axi_link.specs.LinkWords.{head_of, link_of}
 use Rattle.mux_node.proofs.CodeLemmas.{all-next, all-taken}
-use Rattle.mux_node.specs.MuxInside.{mux_shape_view}
 use Rattle.mux_node.specs.MuxState.{MuxShape}
-use Rattle.mux_node.specs.MuxTable.{CanMux, ids_of}
+use Rattle.mux_node.specs.MuxTable.{ids_of}
 use Rattle.mux_node.proofs.shape.Shape.fits_on.Goals as goal
 
 -- src/shape.rt:126:9
