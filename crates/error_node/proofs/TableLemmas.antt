@@ -1,5 +1,5 @@
 -- An error subordinate's table, of every state and all links.
-use Rattle.std.proofs.Common.{◌≡◌, ℕ, suc, List, [], ◌∷◌, refl, sym, ap, subst}
+use Rattle.std.proofs.Common.{ℕ, suc, List, refl, sym, ap, subst}
 use Rattle.std.proofs.lemmas.List.Elements.{All-nil}
 use Rattle.axi_link.specs.LinkView.{LinkView}
 use Rattle.error_node.specs.ErrorState.{ErrorState, IsError, new_error}

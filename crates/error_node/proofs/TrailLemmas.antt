@@ -1,5 +1,5 @@
 -- An error subordinate over what it has passed on its link.
-use Rattle.std.proofs.Common.{◌≡◌, ◌<◌, ◌≤◌, ℕ, suc, Bool, true, false, List, [], ◌∷◌, ◌++◌, length, map, replicate, refl, sym, ◌∙◌, ap, subst, arith, append-nil}
+use Rattle.std.proofs.Common.{◌≡◌, ◌<◌, ◌≤◌, ℕ, suc, Bool, true, false, List, [], ◌∷◌, ◌++◌, length, replicate, refl, sym, ◌∙◌, ap, subst, arith, append-nil}
 use Rattle.std.specs.Prelude.{All, option_map}
 use Rattle.std.proofs.lemmas.List.{length-map}
 use Rattle.std.proofs.lemmas.List.Elements.{All-nil, All-push}
@@ -14,14 +14,13 @@ use Rattle.axi_trail.specs.Trail.{Beats, no_beats}
 use Rattle.axi_trail.specs.Words.{number_of_read_data}
 use Rattle.error_node.specs.ErrorState.{ErrorState, new_error}
 use Rattle.error_node.specs.ErrorTable.{error_service}
-use Rattle.error_node.specs.ErrorTrail.{ErrorKeeps, error_kind}
+use Rattle.error_node.specs.ErrorTrail.{error_kind}
 use Rattle.node_core.specs.Rows.{beat_where}
 use Rattle.node_shape.specs.Kind.{passed_after}
 use Rattle.node_shape.specs.KindLaws.{AnswersAbove, AsksBelow, Lasts, MayDecide, Opens}
 use Rattle.node_shape.specs.WayLaws.{FillsAtEnds}
 use Rattle.node_shape.proofs.OneLinkLemmas.{all-one, of-one, one-has}
 use Rattle.plain_lists.specs.Keys.{of_key}
-use Rattle.plain_lists.specs.Prefixes.{IsPrefix}
 use Rattle.plain_lists.proofs.PrefixLemmas.{prefix_length}
 use Rattle.subordinate.specs.Parts.{BeatOf, beats_of_parts}
 use Rattle.subordinate.specs.SubordinateTable.{its_rows, next_beat}

@@ -1,13 +1,12 @@
 use Rattle.std.proofs.Common.{◌≡◌, ◌∙◌, ℕ, ◌<◌, ◌≤◌, ◌&&◌, List, Option, length, sym, ap, subst, arith, IsTrue}
-use Rattle.std.specs.Prelude.{All, is_some}
+use Rattle.std.specs.Prelude.{is_some}
 use Rattle.std.specs.Option.{option_copied, option_map}
 use Rattle.axi_beats.specs.declared.beat.Addr.{Addr}
 use Rattle.axi_beats.specs.declared.beat.BBeat.{BBeat}
 use Rattle.axi_beats.specs.declared.beat.RBeat.{RBeat}
 use Rattle.axi_beats.specs.declared.beat.WBeat.{WBeat}
 use Rattle.axi_link.specs.LinkView.{LinkView}
-use Rattle.axi_link.specs.LinkWords.{head_of, link_of}
-use Rattle.node_core.specs.Acted.{Acted}
+use Rattle.axi_link.specs.LinkWords.{head_of}
 use Rattle.node_core.specs.Pace.{is_let}
 use Rattle.node_core.specs.Paces.{paces_after, rows_let}
 use Rattle.node_core.specs.Rows.{beat_where, fits}
