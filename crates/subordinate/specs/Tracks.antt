@@ -77,10 +77,10 @@ module _ {D : Type 0} (service : Service D) where
     pub own :
         (t : ℕ) →
         OwnWrites
-            (of_key number_of_write t entries)
-            (of_key number_of_address t addresses)
-            (of_key number_of_data t beats)
-            (of_key number_of_response t responses)
+        (of_key number_of_write t entries)
+        (of_key number_of_address t addresses)
+        (of_key number_of_data t beats)
+        (of_key number_of_response t responses)
 
 -- what the open reads have to do with what has passed on AR and R
 pub record TracksReads (shares : ℕ → Share) (entries : List ReadEntry) (addresses : List Addr) (beats : List RBeat) : Type 0 where
