@@ -162,11 +162,12 @@ impl Plan {
     }
 
     /// Where the path of an address from a manager ends, and the number of plan nodes on it, both ends
-    /// counted. The manager is a document node.
+    /// counted, at most 1,024. The manager is a document node.
     pub fn path(&self, manager: u32, addr: u64) -> (u32, u32)
         requires inside { manager < length self.now }
         requires manager { is_manager (node_at self.now manager).kind ≡ true }
-        ensures { result ≡ (target_of self.now manager addr, length (path_of self.now manager addr)) }
+        ensures path { result ≡ (target_of self.now manager addr, length (path_of self.now manager addr)) }
+        ensures few { result.1 ≤ 1024 }
     {
         let mut node = first_of(&self.wiring, &self.firsts, manager);
         let mut passed = 1;

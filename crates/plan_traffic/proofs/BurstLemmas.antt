@@ -1,20 +1,22 @@
 -- How many bytes a legal burst has.
-use Rattle.std.proofs.Common.{◌≡◌, ℕ, ◌+◌, ◌-◌, ◌*◌, ◌/◌, ◌%◌, ◌<◌, ◌≤◌, zero, suc, ◌++◌, length, refl, sym, ◌∙◌, ap, arith}
+use Rattle.std.proofs.Common.{◌≡◌, ℕ, Bool, true, false, cond, Option, Some, None, nat_lt, ◌^◌, ◌+◌, ◌-◌, ◌*◌, ◌/◌, ◌%◌, ◌<◌, ◌≤◌, zero, suc, ◌++◌, length, refl, sym, ◌∙◌, ap, arith}
 use Rattle.std.specs.List.{range_with_len}
-use Rattle.std.proofs.lemmas.Bool.{eqb-true}
+use Rattle.std.proofs.lemmas.Bool.{eqb-true, le-ltb, true≢false}
 use Rattle.std.proofs.lemmas.List.{length-append}
 use Rattle.std.proofs.lemmas.List.FromFn.{length-range_with_len}
 use Rattle.std.proofs.lemmas.Nat.{pow_pos, div-add-mod', mod_below}
-use Rattle.std.proofs.Math.Nat.{mul-le-mul_right}
+use Rattle.std.proofs.Math.Nat.{mul-le-mul_right, pow-le-pow_right}
 use Rattle.axi_beats.specs.declared.beat.Addr.{Addr}
 use Rattle.axi_beats.specs.declared.beat.Burst.{Burst}
 use Rattle.axi_beats.specs.declared.beat.Burst.TheVariants.{Fixed, Incr, Wrap}
 use Rattle.burst_address.specs.Bytes.{beat_bytes, burst_bytes, bytes_before, valid_bytes}
 use Rattle.burst_address.specs.Formulas.{address_by_kind, aligned, beats_of, size_of, wrap_boundary}
+use Rattle.burst_address.specs.declared.rule.BurstRule.{BurstRule}
+use Rattle.burst_address.specs.declared.rule.BurstRule.TheVariants.{Size}
 use Rattle.burst_address.specs.Legal.{is_start_of, IsLegal}
 use Rattle.burst_address.proofs.Beats.{incr-bytes, wrap-bytes}
-use Rattle.burst_address.proofs.Legality.{legal-start}
-use Rattle.burst_address.proofs.Numbers.{aligned-le, aligned-near}
+use Rattle.burst_address.proofs.Legality.{legal-size, legal-start}
+use Rattle.burst_address.proofs.Numbers.{aligned-le, aligned-near, exponent_below}
 
 -- the valid bytes of the first beat, and of each other one
 abbrev pub first_of : Addr → ℕ
@@ -80,3 +82,17 @@ burst-length a bus legal = by a.burst refl
     by Fixed e = fixed-length a e
     by Incr e = incr-length a e
     by Wrap e = wrap-length a bus legal e
+
+-- A burst whose beats have at most 128 bytes is legal on the widest bus, where it is legal on some bus.
+pub legal-widest : (a : Addr) (bus : ℕ) → a.size ≤ 7 → IsLegal a bus → IsLegal a 128
+legal-widest a bus small legal =
+    let most : size_of a ≤ 2 ^ 7 = pow-le-pow_right {n = 2} (omega arith) small in
+    either_way (nat_lt bus (size_of a)) (nat_lt 128 (size_of a)) _ (le-ltb bus (size_of a) (legal-size a bus legal)) (le-ltb 128 (size_of a) most) legal
+  where
+    either_way : (one other : Bool) (rest : Option BurstRule) → one ≡ false → other ≡ false → cond one (Some Size) rest ≡ None → cond other (Some Size) rest ≡ None
+    either_way false false rest here there e = e
+    either_way true other rest here there e = absurd (true≢false here)
+    either_way false true rest here there e = absurd (true≢false there)
+
+pub legal-exponent : (a : Addr) → IsLegal a 128 → a.size ≤ 7
+legal-exponent a legal = let below : a.size < 8 = exponent_below a.size (legal-size a 128 legal) in omega arith

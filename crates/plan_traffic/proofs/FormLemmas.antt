@@ -1,5 +1,5 @@
 -- What is known of a burst that a line asks for.
-use Rattle.std.proofs.Common.{◌≡◌, ℕ, ◌+◌, ◌-◌, ◌*◌, ◌^◌, ◌<◌, ◌==◌, ◌&&◌, Bool, true, false, cond, List, [], ◌∷◌, Option, Some, None, drop, length, zero, suc, nat_lt, nat_le, nat_eq, refl, sym, ◌∙◌, ap, subst, arith}
+use Rattle.std.proofs.Common.{◌≡◌, ℕ, ◌+◌, ◌-◌, ◌*◌, ◌^◌, ◌<◌, ◌≤◌, ◌==◌, ◌&&◌, Bool, true, false, cond, List, [], ◌∷◌, Option, Some, None, drop, length, zero, suc, nat_lt, nat_le, nat_eq, refl, sym, ◌∙◌, ap, subst, arith}
 use Rattle.std.specs.Prelude.{All, IfSome, codes}
 use Rattle.std.specs.List.{list_all, starts_with}
 use Rattle.std.specs.Option.{option_and_then}
@@ -13,7 +13,7 @@ use Rattle.manager_node.specs.declared.script.WriteByte.{WriteByte}
 use Rattle.plain_text.specs.Numbers.{is_numeral, number_in, read_byte_pair, read_decimal, read_hexadecimal}
 use Rattle.plain_text.specs.Words.{words, next_word, has_no_word}
 use Rattle.plan_traffic.specs.Data.{are_pairs, are_data_words, data_bytes, is_data_word, is_pair, lane_byte, pair_byte, word_bytes}
-use Rattle.plan_traffic.specs.Line.{Access, Line, Passed, Waits, Asks, at_end, beats_named, burst_named, first_pairs, is_passed, form_by, other_pairs, said_by, size_named, start_of, write_with, line_said, form_said, read_said, wait_said, write_said}
+use Rattle.plan_traffic.specs.Line.{Access, Line, Start, Passed, Waits, Asks, at_end, beats_named, burst_named, first_pairs, is_passed, form_by, other_pairs, said_by, size_named, start_of, write_with, line_said, form_said, read_said, wait_said, write_said}
 
 -- ---- optional values
 
@@ -127,6 +127,7 @@ data-values (word ∷ more) =
 -- an address below 2 ^ 63, one beat or more, and for a write a byte for each pair of its data words
 pub record IsForm (access : Access) : Type 0 where
   pub addr : access.start.addr < 2 ^ 63
+  pub size : access.start.size ≤ 7
   pub some : 0 < access.beats
   pub bytes : length access.bytes ≡ cond access.write (first_pairs access.start + (access.beats - 1) * other_pairs access.start) 0
   pub values : All (λ (byte : WriteByte). byte.value < 256) access.bytes
@@ -136,7 +137,24 @@ IsFormLine Passed = Unit {0}
 IsFormLine (Waits name) = Unit {0}
 IsFormLine (Asks access) = IsForm access
 
-start-form : (line : List (List ℕ)) → IfSome (start_of line) (λ found. found.0.addr < 2 ^ 63)
+-- where a burst starts, and how many bytes its beats have
+abbrev IsStart : Start → Type 0
+IsStart start = (start.addr < 2 ^ 63) × (start.size ≤ 7)
+
+choose : {A : Type 0} (b : Bool) (x y : Option A) (P : A → Type 0) → IfSome x P → IfSome y P → IfSome (cond b x y) P
+choose true x y P h k = h
+choose false x y P h k = k
+
+size-most : (word : List ℕ) → IfSome (size_named word) (λ size. size ≤ 7)
+unfolding size_named
+size-most word =
+    or_next 0 (codes "1") _ (omega arith) (or_next 1 (codes "2") _ (omega arith) (or_next 2 (codes "4") _ (omega arith) (or_next 3 (codes "8") _ (omega arith)
+    (or_next 4 (codes "16") _ (omega arith) (or_next 5 (codes "32") _ (omega arith) (or_next 6 (codes "64") _ (omega arith) (or_next 7 (codes "128") None (omega arith) tt)))))))
+  where
+    or_next : (size : ℕ) (name : List ℕ) (other : Option ℕ) → size ≤ 7 → IfSome other (λ n. n ≤ 7) → IfSome (cond (bytes_eq word name) (Some size) other) (λ n. n ≤ 7)
+    or_next size name other small else_small = choose (bytes_eq word name) (Some size) other (λ n. n ≤ 7) small else_small
+
+start-form : (line : List (List ℕ)) → IfSome (start_of line) (λ found. IsStart found.0)
 unfolding start_of
 start-form line =
     bind (next_word line) _ (λ _. Unit {0}) _ (free (next_word line)) (λ manager _.
@@ -145,36 +163,32 @@ start-form line =
     bind (next_word id_word.1) _ (λ _. Unit {0}) _ (free (next_word id_word.1)) (λ addr_word _.
     bind (read_hexadecimal addr_word.0 (2 ^ 63)) _ (λ n. n < 2 ^ 63) _ (hexadecimal-below addr_word.0 (2 ^ 63)) (λ addr below.
     bind (next_word addr_word.1) _ (λ _. Unit {0}) _ (free (next_word addr_word.1)) (λ size_word _.
-    bind (size_named size_word.0) _ (λ _. Unit {0}) _ (free (size_named size_word.0)) (λ size _.
+    bind (size_named size_word.0) _ (λ size. size ≤ 7) _ (size-most size_word.0) (λ size small.
     bind (next_word size_word.1) _ (λ _. Unit {0}) _ (free (next_word size_word.1)) (λ burst_word _.
-    bind (burst_named burst_word.0) _ (λ _. Unit {0}) _ (free (burst_named burst_word.0)) (λ burst _. below)))))))))
+    bind (burst_named burst_word.0) _ (λ _. Unit {0}) _ (free (burst_named burst_word.0)) (λ burst _. (below, small))))))))))
 
 write-form : (line : List (List ℕ)) → IfSome (write_said line) IsFormLine
 unfolding write_said
 write-form line =
-    bind (start_of line) (λ start. write_with start.0 start.1) (λ found. found.0.addr < 2 ^ 63) IsFormLine (start-form line) (λ start below.
+    bind (start_of line) (λ start. write_with start.0 start.1) (λ found. IsStart found.0) IsFormLine (start-form line) (λ start below.
     where-true (are_data_words (first_pairs start.0) (other_pairs start.0) start.1) (Asks (record { start = start.0; write = true; beats = length start.1; bytes = data_bytes start.1 })) IsFormLine (λ e.
     let long = words-length (first_pairs start.0) (other_pairs start.0) start.1 e in
-    record { addr = below; some = long.0; bytes = long.1; values = data-values start.1 }))
+    record { addr = below.0; size = below.1; some = long.0; bytes = long.1; values = data-values start.1 }))
 
 read-form : (line : List (List ℕ)) → IfSome (read_said line) IsFormLine
 unfolding read_said
 read-form line =
-    bind (start_of line) _ (λ found. found.0.addr < 2 ^ 63) IsFormLine (start-form line) (λ start below.
+    bind (start_of line) _ (λ found. IsStart found.0) IsFormLine (start-form line) (λ start below.
     bind (next_word start.1) _ (λ _. Unit {0}) IsFormLine (free (next_word start.1)) (λ count_word _.
     bind (beats_named count_word.0) _ (λ beats. 0 < beats) IsFormLine (beats-some count_word.0) (λ beats some.
     where-true (has_no_word count_word.1) (Asks (record { start = start.0; write = false; beats = beats; bytes = [] })) IsFormLine (λ e.
-    record { addr = below; some = some; bytes = refl; values = All-nil (λ (byte : WriteByte). byte.value < 256) }))))
+    record { addr = below.0; size = below.1; some = some; bytes = refl; values = All-nil (λ (byte : WriteByte). byte.value < 256) }))))
 
 wait-form : (line : List (List ℕ)) → IfSome (wait_said line) IsFormLine
 unfolding wait_said
 wait-form line =
     bind (next_word line) (λ manager. at_end (Waits manager.0) manager.1) (λ _. Unit {0}) IsFormLine (free (next_word line)) (λ manager _.
     where-true (has_no_word manager.1) (Waits manager.0) IsFormLine (λ e. tt))
-
-choose : {A : Type 0} (b : Bool) (x y : Option A) (P : A → Type 0) → IfSome x P → IfSome y P → IfSome (cond b x y) P
-choose true x y P h k = h
-choose false x y P h k = k
 
 form-of : (line : List (List ℕ)) → IfSome (form_said line) IsFormLine
 unfolding form_said

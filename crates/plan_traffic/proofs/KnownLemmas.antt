@@ -22,7 +22,7 @@ use Rattle.plan_traffic.specs.declared.build.Count.{Count}
 use Rattle.topology_text.specs.Document.{DocumentNode}
 use Rattle.plan_traffic.proofs.AcceptLemmas.{IsAccepted, IsAllowed, lines-allowed}
 use Rattle.plan_traffic.proofs.BuildLemmas.{issued-append}
-use Rattle.plan_traffic.proofs.BurstLemmas.{burst-length, other_by}
+use Rattle.plan_traffic.proofs.BurstLemmas.{burst-length, legal-widest, other_by}
 use Rattle.plan_traffic.proofs.FormLemmas.{IsForm}
 use Rattle.plan_traffic.specs.LineRefusals.{least_refusal, request_said}
 use Rattle.refusals.specs.declared.refusal.Refusal.{Refusal}
@@ -49,6 +49,7 @@ accepted-suits nodes before place access a =
       manager = a.manager;
       id = a.id;
       legal = a.legal;
+      legal_on_widest = legal-widest (request_said access) a.node.bus form.size a.legal;
       addr = form.addr;
       untagged = refl;
       bytes = form.bytes ∙ ap (λ n. cond access.write n 0) (sym (write-bytes access a.node.bus a.legal));

@@ -8,3 +8,4 @@ pub mod KnownLemmas
 mod KnownValues
 pub mod LeastLemmas
 pub mod PortFacts
+pub mod BoundLemmas

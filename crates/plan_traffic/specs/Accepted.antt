@@ -11,13 +11,14 @@ use Rattle.topology.specs.Document.{is_manager}
 use Rattle.topology_text.specs.Document.{DocumentNode}
 
 -- A transaction suits its manager, which is a node of that kind: its ID has no more bits than the manager's, and its burst is legal on the manager's
--- bus. A write has a byte, that is a number below 256, for each valid byte of its burst, and a read has none.
+-- bus, as on the widest one. A write has a byte, that is a number below 256, for each valid byte of its burst, and a read has none.
 pub record Suits (nodes : List DocumentNode) (item : TrafficItem) : Type 0 where
   pub node : DocumentNode
   pub is_node : slice_get nodes item.manager ≡ Some node
   pub manager : is_manager node.kind ≡ true
   pub id : item.txn.request.id < 2 ^ node.id_width
   pub legal : IsLegal item.txn.request node.bus
+  pub legal_on_widest : IsLegal item.txn.request 128
   pub addr : item.txn.request.addr < 2 ^ 63
   pub untagged : item.txn.request.tag ≡ record { txn = 0; low = 0; high = 0 }
   pub bytes : length item.bytes ≡ (if item.txn.write then length (burst_bytes item.txn.request) else 0)

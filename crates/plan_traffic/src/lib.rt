@@ -9,6 +9,7 @@
 //! their transactions; else it answers the refusal with the least code, of the first line that has it.
 #![tactic(auto)]
 
+mod bound;
 mod build;
 mod data;
 mod laws;
@@ -19,6 +20,7 @@ mod read;
 mod refusal;
 mod transactions;
 
+pub use bound::round_bound;
 pub use laws::{accepted_traffic_suits, least_is_told};
 pub use order::{MOST_BEATS, MOST_TRANSACTIONS};
 pub use read::read_traffic;

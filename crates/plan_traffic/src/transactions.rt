@@ -37,6 +37,13 @@ impl Traffic {
         Traffic { items }
     }
 
+    /// The transactions with their managers and bytes, as they are kept.
+    pub(crate) fn items(&self) -> &[Item]
+        ensures { traffic_items result.now ≡ self.now }
+    {
+        &self.items
+    }
+
     /// The number of transactions.
     pub fn count(&self) -> u32
         ensures count { result ≡ length self.now }

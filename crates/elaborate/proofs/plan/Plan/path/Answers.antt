@@ -23,8 +23,8 @@ loop-step-init c =
       few = omega (arith, less);
     }
 
-pub returns-in-None : goal.returns-in-None
-returns-in-None c =
+pub returns-in-None-clause-path : goal.returns-in-None-clause-path
+returns-in-None-clause-path c =
     let stops : onward c.args.self.now c.args.addr c.loop-step.node ≡ None = sym c.next.ensures.next ∙ c.in-None.is in
     let end : IsEndOfPath c.args.self.now c.args.manager c.args.addr c.loop-step.node c.loop-step._step =
     path-stopped c.args.self.now c.args.manager c.args.addr c.loop-step.node c.loop-step._step c.loop-step.invariant.on c.loop-step.invariant.few stops in
@@ -40,8 +40,8 @@ loop-step-preserved c =
       few = omega (arith, less);
     }
 
-pub returns : goal.returns
-returns c =
+pub returns-clause-path : goal.returns-clause-path
+returns-clause-path c =
     let over : c.loop-step._step ≡ length (plan_nodes c.args.self.now) =
     omega (arith, c.loop-step-test.false, c.nodes-step-end.ensures.count, c.loop-step.invariant.few) in
     let end : IsEndOfPath c.args.self.now c.args.manager c.args.addr c.loop-step.node c.loop-step._step =

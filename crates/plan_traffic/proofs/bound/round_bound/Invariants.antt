@@ -1,0 +1,7 @@
+-- The moves of the transactions so far.
+use Rattle.plan_traffic.specs.Inside.{traffic_items}
+use Rattle.plan_traffic.proofs.BoundLemmas.{AreMoves}
+use Rattle.plan_traffic.proofs.bound.round_bound.Given as goal
+
+abbrev pub invariant-loop-item : goal.invariant-loop-item
+invariant-loop-item l = AreMoves l.plan l.traffic l.item-index l.moves
