@@ -5,7 +5,7 @@ ghost use Rattle.std.specs.Prelude.{◌≡◌, ◌≤◌, ◌<◌, IfOk, IfSome,
 ghost use Rattle.std.specs.Option.{option_and_then};
 ghost use Rattle.topology.specs.Document.{is_manager, node_at};
 ghost use Rattle.elaborate.specs.Path.{next_part, path_of, port_by_part, plan_order, target_of};
-ghost use Rattle.elaborate.specs.Plan.{plan_link_at, plan_links, plan_node_at, plan_nodes};
+ghost use Rattle.elaborate.specs.Plan.{first_part, plan_link_at, plan_links, plan_node_at, plan_nodes};
 
 use crate::counts::first_of;
 use crate::firsts::first_parts;
@@ -103,6 +103,14 @@ impl Plan {
         ensures known { result < length self.now }
     {
         self.node(node).document()
+    }
+
+    /// The first plan node that a document node becomes.
+    pub fn first(&self, document: u32) -> u32
+        requires { document < length self.now }
+        ensures { result ≡ first_part self.now document }
+    {
+        first_of(&self.wiring, &self.firsts, document)
     }
 
     /// The number of links, at most 4,096. They are numbered by their upper plan node, and then by its

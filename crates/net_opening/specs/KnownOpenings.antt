@@ -5,7 +5,7 @@ use Rattle.elaborate.specs.KnownPlans.{one_page, small, three_by_two}
 use Rattle.net_opening.specs.Opening.{opening}
 use Rattle.net_opening.specs.PlanLinks.{links_into, links_out_of}
 use Rattle.net_opening.specs.Touched.{lines_touched}
-use Rattle.traffic.specs.Traffic.{TrafficItem}
+use Rattle.plan_traffic.specs.Traffic.{TrafficItem}
 
 -- a burst of so many beats of 4 bytes, from the manager of the first document node
 abbrev pub a_burst : ℕ → Bool → ℕ → ℕ → TrafficItem

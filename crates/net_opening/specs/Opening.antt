@@ -10,7 +10,7 @@ use Rattle.net_opening.specs.States.{demux_at, error_at, manager_at, memory_at, 
 use Rattle.node_core.specs.Acted.{opened}
 use Rattle.node_graph.specs.Graph.{numbers}
 use Rattle.topology.specs.Document.{DocumentNode}
-use Rattle.traffic.specs.Traffic.{TrafficItem}
+use Rattle.plan_traffic.specs.Traffic.{TrafficItem}
 
 module _ (nodes : List DocumentNode) (items : List TrafficItem) where
   -- A plan node as its kind begins, by its number. A part that can't be run yet stands as a slice; no document with one

@@ -16,7 +16,7 @@ use Rattle.node_core.specs.Paces.{new_paces}
 use Rattle.slice_node.specs.SliceState.{SliceState, new_slice}
 use Rattle.topology.specs.Document.{DocumentNode, node_at, widest}
 use Rattle.topology_text.specs.declared.kind.Span.{Span}
-use Rattle.traffic.specs.Traffic.{TrafficItem}
+use Rattle.plan_traffic.specs.Traffic.{TrafficItem}
 
 abbrev pub memory_range : Span → Range
 memory_range span = record { base = span.base; size = span.size }

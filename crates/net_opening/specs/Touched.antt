@@ -7,7 +7,7 @@ use Rattle.elaborate.specs.Path.{target_of}
 use Rattle.memory_node.specs.Store.{line_number}
 use Rattle.node_graph.specs.Graph.{numbers}
 use Rattle.topology.specs.Document.{DocumentNode}
-use Rattle.traffic.specs.Traffic.{TrafficItem}
+use Rattle.plan_traffic.specs.Traffic.{TrafficItem}
 
 -- the lines of the beats of a burst, none of which lies on two
 abbrev pub lines_of_burst : Addr → List ℕ

@@ -6,3 +6,4 @@ mod known;
 mod lines;
 
 pub use known::known_openings;
+pub use lines::upwards;

@@ -4,7 +4,7 @@ ghost use Rattle.std.specs.Prelude.{◌≡◌};
 ghost use Rattle.net_opening.specs.Touched.{upwards};
 
 /// The numbers of the list, upwards and each once.
-pub(crate) fn upwards(lines: Vec<u64>) -> Vec<u64>
+pub fn upwards(lines: Vec<u64>) -> Vec<u64>
     ensures { result.items ≡ upwards lines.items }
 {
     let mut lines = lines;
