@@ -1,8 +1,15 @@
 use Rattle.std.proofs.Common.{◌≡◌, ◌<◌, ◌+◌, ap, arith, length, map, take, ◌∙◌}
+use Rattle.net_kinds.specs.NodeTable.{node_done}
 use Rattle.net_kinds.specs.declared.node.Node.{Node}
-use Rattle.net_steps.proofs.PhaseLemmas.{as-itself, unfinished-all, unfinished-more}
+use Rattle.net_steps.proofs.PhaseLemmas.{as-itself, one-small, unfinished-all, unfinished-few, unfinished-more}
 use Rattle.net_steps.proofs.phase.count_unfinished.Goals as goal
 use Rattle.net_steps.specs.Unfinished.{unfinished_in}
+
+pub overflow_add-unfinished : goal.overflow_add-unfinished
+overflow_add-unfinished c =
+    let few = unfinished-few (λ (n : Node). n) c.loop-node.node-index c.args.nodes.now in
+    let small = one-small (node_done c.node-item.result) in
+    omega (arith, c.requires, c.loop-node.invariant, c.one_unless_done-unfinished.ensures, few, small)
 
 pub loop-node-preserved : goal.loop-node-preserved
 loop-node-preserved c =

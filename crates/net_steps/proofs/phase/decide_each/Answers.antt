@@ -2,9 +2,15 @@ use Rattle.std.proofs.Common.{◌≡◌, ◌<◌, ap, arith, get_or, length, set
 use Rattle.std.proofs.lemmas.List.Edits.{map_over_more}
 use Rattle.net_kinds.specs.NodeTable.{node_done, node_table}
 use Rattle.net_kinds.specs.declared.node.Node.{Node}
-use Rattle.net_steps.proofs.PhaseLemmas.{next-is, unfinished-more}
+use Rattle.net_steps.proofs.PhaseLemmas.{next-is, one-small, unfinished-few, unfinished-more}
 use Rattle.net_steps.proofs.phase.decide_each.Goals as goal
 use Rattle.net_steps.specs.Unfinished.{one_unless}
+
+pub overflow_add-unfinished : goal.overflow_add-unfinished
+overflow_add-unfinished c =
+    let few = unfinished-few (node_table c.args.round c.args.queues.now) c.loop-node.node-index c.args.nodes.now in
+    let small = one-small (node_done c.decide_one-unfinished.new.node) in
+    omega (arith, c.requires.few, c.loop-node.invariant.1, c.decide_one-unfinished.ensures.unfinished, few, small)
 
 pub loop-node-preserved : goal.loop-node-preserved
 loop-node-preserved c =
