@@ -1,14 +1,16 @@
 -- Facts on the places of lines and on the bytes that are kept there.
 use Rattle.std.proofs.Common.{◌≡◌, ◌≢◌, ℕ, ◌+◌, ◌*◌, ◌/◌, ◌%◌, ◌<◌, ◌≤◌, suc, zero, cond, List, [], ◌∷◌, Some, None, length, get_or, refl, sym, ◌∙◌, ap, subst, arith, eq-eqb, nat_cmp, inl, inr}
-use Rattle.std.specs.Prelude.{slice_set, slice_index, fold, AllPairs, Result, Ok, Err}
+use Rattle.std.specs.Prelude.{slice_get, slice_set, slice_index, fold, is_some, AllPairs, Contains, IsTrue, Option, Result, Ok, Err}
 use Rattle.std.specs.Option.{option_map}
 use Rattle.std.specs.Result.{result_ok}
 use Rattle.std.specs.List.Sorted.{IsBinarySearchResult}
 use Rattle.std.proofs.lemmas.Bool.{ne_eqb, cases_lt}
 use Rattle.std.proofs.lemmas.List.Sorted.{searched}
+use Rattle.std.proofs.lemmas.Option.{get_or_from_slice_get, slice_get_within}
 use Rattle.std.specs.List.{AllByRecursion}
 use Rattle.axi_beats.specs.declared.beat.WBeat.{WBeat}
 use Rattle.flight.specs.Entries.{place_of}
+use Rattle.flight.proofs.EntryFacts.{place_of-found}
 use Rattle.burst_address.specs.Lanes.{lane_bytes}
 use Rattle.memory_node.specs.Beats.{with_bytes}
 use Rattle.memory_node.specs.Store.{Store, line_number, byte_place, with_byte_at}
@@ -45,6 +47,13 @@ place_of-searched xs key (Err i) ascend found =
       | inl less ↦ let under : get_or xs j 0 < key = below j less in absurd (omega arith)
       | inr more ↦ let over : key < get_or xs j 0 = above j more lt in absurd (omega arith)
     ]))
+
+-- a key that has a place is one of the list
+pub placed-among : (key : ℕ) (xs : List ℕ) (place : Option ℕ) → place_of key xs ≡ place → IsTrue (is_some place) → Contains xs key
+placed-among key xs None at is = absurd (cc)
+placed-among key xs (Some k) at is =
+    let found : slice_get xs k ≡ Some key = place_of-found key xs k at in
+    (k, slice_get_within xs k key found, get_or_from_slice_get xs k key key found)
 
 -- the byte of a lane is kept behind that of lane 0, where the word lies in one line
 byte_place-lane : (store : Store) (word k place : ℕ) → word % 128 + k < 128 → place_of (line_number word) store.lines ≡ Some place → byte_place store (word + k) ≡ Some (128 * place + word % 128 + k)

@@ -36,14 +36,21 @@ AccessesInOrder shares write all =
 pub record HasAccessed (schedule : Schedule) (area : MemoryArea) (store : Store) (w : List WBeat) (r : List RBeat) (all : List Access) : Type 0 where
   -- the accesses of a transaction are those of its beats that have come, and those of its answer's beats
   pub written : (t : ℕ) → map (λ (a : Access). a.byte) (accesses_of true t all) ≡ due_writes area (schedule.writes t) (length (of_key number_of_data t w))
-  pub read : (t : ℕ) → map (λ (a : Access). a.byte.address) (accesses_of false t all) ≡ due_reads area (schedule.reads t) (length (of_key number_of_read_data t r))
+  pub read :
+      (t : ℕ) →
+      map (λ (a : Access). a.byte.address) (accesses_of false t all)
+      ≡ due_reads area (schedule.reads t) (length (of_key number_of_read_data t r))
   -- the bytes that were answered are those that were read
   pub answered :
       (t : ℕ) →
       bytes_on (of_key number_of_read_data t r) (schedule.reads t).lanes
-      ≡ answered_bytes (allowed_before area (schedule.reads t) (length (of_key number_of_read_data t r))) (map (λ (a : Access). a.byte.value) (accesses_of false t all))
+      ≡ answered_bytes
+      (allowed_before area (schedule.reads t) (length (of_key number_of_read_data t r)))
+      (map (λ (a : Access). a.byte.value) (accesses_of false t all))
   -- each byte is what the writes left there
-  pub bytes : (address : ℕ) → IsTrue (is_inside area address) → value_after (writes_at address) (λ (a : Access). a.byte.value) area.fill all ≡ byte_at store address
+  pub bytes :
+      (address : ℕ) → IsTrue (is_inside area address) →
+      value_after (writes_at address) (λ (a : Access). a.byte.value) area.fill all ≡ byte_at store address
   -- and so was each that was read
   pub latest :
       (earlier later : List Access) (a : Access) → all ≡ earlier ++ a ∷ later → a.write ≡ false →

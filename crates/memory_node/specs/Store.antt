@@ -1,5 +1,6 @@
 -- The bytes of a memory. Lines of 128 bytes that a run may write are kept; every other byte has one fill value.
-use Rattle.std.specs.Prelude.{◌≡◌, ◌≢◌, ◌<◌, ◌+◌, ◌*◌, ◌/◌, ◌%◌, ◌&&◌, ℕ, List, Option, Some, None, length, map, nat_le, nat_lt, replicate, slice_get, slice_set, unwrap_or, option_map, option_and_then, AllPairs, Contains, if◌then◌else◌}
+use Rattle.std.specs.Prelude.{◌≡◌, ◌≢◌, ◌<◌, ◌+◌, ◌*◌, ◌/◌, ◌%◌, ◌&&◌, ℕ, List, Option, Some, None, length, map, nat_le, nat_lt, replicate}
+use Rattle.std.specs.Prelude.{slice_get, slice_set, unwrap_or, option_map, option_and_then, AllPairs, Contains, if◌then◌else◌}
 use Rattle.std.specs.List.{range_with_len}
 use Rattle.flight.specs.Entries.{place_of}
 

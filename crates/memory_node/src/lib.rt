@@ -16,6 +16,7 @@ mod beats;
 mod config;
 mod memory;
 mod memory_laws;
+mod offers;
 mod rows;
 mod store;
 #[cfg(test)]

@@ -1,6 +1,6 @@
 //! `MemoryNode`, seen in clauses as its state and its takes and puts of the round.
 
-ghost use Rattle.std.specs.Prelude.{◌≡◌, ◌<◌, ◌≤◌, All, AllPairs, IfOk, length};
+ghost use Rattle.std.specs.Prelude.{◌≡◌, ◌<◌, ◌≤◌, All, AllPairs, IfOk, IsTrue, length};
 ghost use Rattle.memory_node.specs.MemoryArea.{IsMemoryArea, area_of};
 ghost use Rattle.memory_node.specs.MemoryState.{IsMemory, memory_byte, new_memory};
 ghost use Rattle.memory_node.specs.MemoryTable.{CanMemory, memory_table};
@@ -8,6 +8,7 @@ ghost use Rattle.node_core.specs.Acted.{opened};
 
 use crate::area::Area;
 use crate::config::{MemoryConfig, Range};
+use crate::offers::{can_be_done, has_its_lines, is_on_bus};
 use crate::rows::{put_r, take_w};
 use crate::store::ByteStore;
 use axi_beats::NoMemory;
@@ -95,6 +96,22 @@ impl MemoryNode {
         } else {
             None
         }
+    }
+
+    /// Whether its link is among these, and offers what may come to it: requests for legal bursts, writes on
+    /// lines that it keeps, and strobes on lanes of its bus.
+    pub fn can_decide(&self, links: &[Link]) -> bool
+        ensures { IsTrue result → CanMemory links.now self.now.state }
+    {
+        if self.upper as usize >= links.len() {
+            return false;
+        }
+        let link = link_at(links, self.upper);
+        let bus = self.area.bus();
+        can_be_done(link.head_aw(), bus)
+            && has_its_lines(link.head_aw(), &self.area, &self.store)
+            && can_be_done(link.head_ar(), bus)
+            && is_on_bus(link.head_w(), bus)
     }
 
     /// Does each row of the table.

@@ -1,7 +1,7 @@
 //! `ByteStore`, seen in clauses as the kept lines, their bytes and the fill value.
 
 ghost use Rattle.std.specs.Prelude.{◌≡◌, ◌<◌, ◌≤◌, ◌+◌, ◌%◌, ◌^◌, length, fold};
-ghost use Rattle.std.specs.Prelude.{slice_index, slice_set, AllPairs, IfOk, IfSome};
+ghost use Rattle.std.specs.Prelude.{slice_index, slice_set, AllPairs, Contains, IfOk, IfSome, IsTrue};
 ghost use Rattle.flight.specs.Entries.{place_of};
 ghost use Rattle.burst_address.specs.Lanes.{is_strobed, lane_bytes, strobed_lanes};
 ghost use Rattle.memory_node.specs.Beats.{with_bytes};
@@ -53,6 +53,13 @@ impl ByteStore {
         ensures { result ≡ byte_at self.now address }
     {
         self.byte_in(line_place(&self.lines, address / 128), address)
+    }
+
+    /// Whether the line of an address is kept.
+    pub fn keeps(&self, address: u64) -> bool
+        ensures { IsTrue result → Contains self.now.lines (line_number address) }
+    {
+        line_place(&self.lines, address / 128).is_some()
     }
 
     /// Sets lanes to the bytes of the word at an address, which lies in one line: lane n, from lane `low`
