@@ -1,0 +1,5 @@
+use Rattle.net_history.proofs.RoundLemmas.{rounds-are_right}
+use Rattle.net_history.proofs.history_laws.laws_of_rounds.Goals as goal
+
+pub returns : goal.returns
+returns c = record { rounds = rounds-are_right }

@@ -1,0 +1,4 @@
+pub mod Due
+pub mod History
+pub mod HistoryLaws
+pub mod Right
