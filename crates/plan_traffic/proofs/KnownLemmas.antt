@@ -83,7 +83,7 @@ last-push (y ∷ []) x = refl
 last-push (y ∷ z ∷ more) x = last-push (z ∷ more) x
 
 -- of one transaction more, for the manager at a place or for another one
-mine-push : (place : ℕ) (items : List TrafficItem) (item : TrafficItem) → items_of_manager place (items ++ item ∷ []) ≡ cond (item.manager == place) (items_of_manager place items ++ item ∷ []) (items_of_manager place items)
+pub mine-push : (place : ℕ) (items : List TrafficItem) (item : TrafficItem) → items_of_manager place (items ++ item ∷ []) ≡ cond (item.manager == place) (items_of_manager place items ++ item ∷ []) (items_of_manager place items)
 mine-push place items item =
     filter-append place items (item ∷ [])
     ∙ (elim (item.manager == place) as (λ b. items_of_manager place items ++ cond b (item ∷ []) [] ≡ cond b (items_of_manager place items ++ item ∷ []) (items_of_manager place items)) [

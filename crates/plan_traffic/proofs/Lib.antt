@@ -9,3 +9,4 @@ mod KnownValues
 pub mod LeastLemmas
 pub mod PortFacts
 pub mod BoundLemmas
+pub mod ScriptLemmas

@@ -58,6 +58,10 @@ pub record IsTraffic (nodes : List DocumentNode) (items : List TrafficItem) : Ty
   pub transactions : length items ≤ most_transactions
   pub beats : beats_in items ≤ most_beats
 
+-- the same, whatever the nodes are
+abbrev pub SuitSome : List TrafficItem → Type 0
+SuitSome items = (nodes : List DocumentNode) × IsTraffic nodes items
+
 -- the transactions of lines that aren't refused
 abbrev pub AcceptedSuits : Type 0
 AcceptedSuits =

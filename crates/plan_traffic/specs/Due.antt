@@ -1,6 +1,6 @@
 -- What is due of each transaction of a plan: the subordinate that its address names, its bytes, and its responses
 -- (Arm IHI 0022, data read and write structure, read and write response structure).
-use Rattle.std.specs.Prelude.{◌≡◌, ◌+◌, ◌&&◌, ◌∷◌, [], ℕ, List, Bool, true, false, Option, Some, None, map, nat_le, nat_lt, if◌then◌else◌}
+use Rattle.std.specs.Prelude.{◌+◌, ◌&&◌, ◌∷◌, [], ℕ, List, Bool, true, false, Option, Some, None, map, nat_le, nat_lt, if◌then◌else◌}
 use Rattle.std.specs.List.{list_any, range_with_len}
 use Rattle.axi_beats.specs.declared.response.Resp.{Resp}
 use Rattle.axi_beats.specs.declared.response.Resp.TheVariants.{Okay, SlvErr, DecErr}

@@ -11,3 +11,4 @@ pub mod Accepted
 pub mod Refusals
 pub mod Due
 pub mod Bound
+pub mod Scripts

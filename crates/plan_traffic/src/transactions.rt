@@ -1,12 +1,16 @@
 //! The transactions of a traffic. Contracts see them as a list.
 
-ghost use Rattle.std.specs.Prelude.{◌≡◌, ◌-◌, ◌≤◌, length, Some};
+ghost use Rattle.std.specs.Prelude.{◌≡◌, ◌-◌, ◌≤◌, length, IfOk, Some};
 ghost use Rattle.std.specs.List.{slice_get};
 ghost use Rattle.std.specs.Option.{option_map};
+ghost use Rattle.plan_traffic.specs.Accepted.{SuitSome};
 ghost use Rattle.plan_traffic.specs.Inside.{traffic_items};
+ghost use Rattle.plan_traffic.specs.Scripts.{script_of};
 
 use crate::build::Item;
-use manager_node::{Txn, WriteByte};
+use axi_beats::NoMemory;
+use manager_node::{Script, Txn, WriteByte};
+use std::alloc::Global;
 use std::marker::Model;
 
 /// The transactions of all managers, at most 16,384, numbered from 1 in the order of their lines.
@@ -16,7 +20,7 @@ pub struct Traffic {
 }
 
 impl Model for Traffic {
-    ghost use Rattle.std.specs.Prelude.{List, ◌≤◌, length};
+    ghost use Rattle.std.specs.Prelude.{List};
     ghost use Rattle.plan_traffic.specs.Traffic.{TrafficItem};
 
     ghost Value = { List TrafficItem };
@@ -25,13 +29,15 @@ impl Model for Traffic {
 
     ghost view = { λ traffic. traffic_items traffic.items.items };
 
-    ghost invariant = { λ traffic. length traffic.items.items ≤ 16384 };
+    ghost use Rattle.plan_traffic.specs.Accepted.{SuitSome};
+
+    ghost invariant = { λ traffic. SuitSome (traffic_items traffic.items.items) };
 }
 
 impl Traffic {
     /// The traffic of these transactions.
     pub(crate) fn from_items(items: Vec<Item>) -> Traffic
-        requires { length items.items ≤ 16384 }
+        requires { SuitSome (traffic_items items.items) }
         ensures { result ≡ traffic_items items.items }
     {
         Traffic { items }
@@ -78,5 +84,23 @@ impl Traffic {
         ensures { option_map (λ item. item.manager) (slice_get self.now (number - 1)) ≡ Some result }
     {
         self.items[number as usize - 1].manager
+    }
+
+    /// The transactions of the manager that is this document node, in their order; none where it is no
+    /// manager.
+    ///
+    /// # Errors
+    ///
+    /// There was no memory for them.
+    pub fn script(&self, alloc: Global, manager: u32) -> Result<Script, NoMemory>
+        ensures { IfOk result (λ script. script ≡ script_of self.now manager) }
+    {
+        let mut script = Script::new(alloc);
+        for item in &self.items {
+            if item.manager == manager {
+                script.push(item.txn, item.bytes.as_slice())?;
+            }
+        }
+        Ok(script)
     }
 }

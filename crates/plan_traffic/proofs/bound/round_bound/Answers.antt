@@ -1,8 +1,7 @@
-use Rattle.std.proofs.Common.{◌≡◌, ◌<◌, ◌≤◌, ◌*◌, get_or, length, map, refl, sym, ◌∙◌, ap, subst, arith, List}
-use Rattle.std.proofs.lemmas.List.{length-map}
+use Rattle.std.proofs.Common.{subst, arith}
 use Rattle.std.proofs.lemmas.List.Elements.{All-get_or}
 use Rattle.plan_traffic.specs.Accepted.{Suits}
-use Rattle.plan_traffic.specs.Inside.{traffic_item, traffic_items}
+use Rattle.plan_traffic.specs.Inside.{traffic_item}
 use Rattle.plan_traffic.specs.Traffic.{TrafficItem}
 use Rattle.plan_traffic.proofs.BoundLemmas.{item-at, moves-few, moves-next}
 use Rattle.plan_traffic.proofs.bound.round_bound.Goals as goal

@@ -1,5 +1,4 @@
 -- The moves of the transactions so far.
-use Rattle.plan_traffic.specs.Inside.{traffic_items}
 use Rattle.plan_traffic.proofs.BoundLemmas.{AreMoves}
 use Rattle.plan_traffic.proofs.bound.round_bound.Given as goal
 

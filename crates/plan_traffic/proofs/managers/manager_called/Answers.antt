@@ -1,4 +1,4 @@
-use Rattle.std.proofs.Common.{◌≡◌, ◌<◌, ◌&&◌, Bool, true, false, arith, rules}
+use Rattle.std.proofs.Common.{◌≡◌, ◌&&◌, true, false, arith, rules}
 use Rattle.std.specs.Prelude.{bytes_eq}
 use Rattle.topology.specs.Document.{DocumentNode, is_manager, node_at}
 use Rattle.topology.proofs.WiringFacts.{first-node, no-node}

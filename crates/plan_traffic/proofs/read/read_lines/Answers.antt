@@ -1,9 +1,7 @@
-use Rattle.std.proofs.Common.{◌≡◌, ◌≤◌, ℕ, List, None, length, sym, ◌∙◌, ap, subst}
-use Rattle.std.proofs.lemmas.List.{length-map}
+use Rattle.std.proofs.Common.{◌≡◌, List, None, sym, ◌∙◌, subst}
 use Rattle.plain_text.specs.Lines.{lines}
 use Rattle.plan_traffic.specs.Accepted.{IsTraffic}
-use Rattle.plan_traffic.specs.Inside.{traffic_item}
-use Rattle.plan_traffic.specs.Traffic.{TrafficItem, traffic_refusal, traffic_of}
+use Rattle.plan_traffic.specs.Traffic.{TrafficItem, traffic_refusal}
 use Rattle.plan_traffic.proofs.KnownLemmas.{accepted_suits_all, lines-fit}
 use Rattle.plan_traffic.proofs.read.read_lines.Goals as goal
 
@@ -15,9 +13,7 @@ collect_items-requires-clause-fits c =
 pub from_items-requires : goal.from_items-requires
 from_items-requires c =
     let none : traffic_refusal c.args.nodes.now (lines c.args.text.now) ≡ None = cc in
-    let known : IsTraffic c.args.nodes.now (traffic_of c.args.nodes.now (lines c.args.text.now)) = accepted_suits_all c.args.nodes.now (lines c.args.text.now) none in
-    let few : length (traffic_of c.args.nodes.now (lines c.args.text.now)) ≤ 16384 = known.transactions in
-    subst (λ (n : ℕ). n ≤ 16384) (sym (ap length c.in-Ok.ensures) ∙ length-map c.in-Ok.items.items traffic_item) few
+    (c.args.nodes.now, subst (λ (items : List TrafficItem). IsTraffic c.args.nodes.now items) (sym c.in-Ok.ensures) (accepted_suits_all c.args.nodes.now (lines c.args.text.now) none))
 
 pub returns-in-Ok-clause-known : goal.returns-in-Ok-clause-known
 returns-in-Ok-clause-known c =
