@@ -1,0 +1,5 @@
+pub mod LinkLists
+pub mod LinkPlaces
+pub mod NodeLinks
+pub mod PartLemmas
+pub mod OpeningWired
