@@ -40,7 +40,7 @@ cond-none : (b : Bool) (y : ℕ) (o : Option ℕ) → cond b (Some y) o ≡ None
 cond-none true y o e = absurd (Some-None y e)
 cond-none false y o e = (refl, e)
 
-find-none : (p : ℕ → Bool) (xs : List ℕ) → find p xs ≡ None → (x : ℕ) → is_in xs x ≡ true → p x ≡ false
+pub find-none : (p : ℕ → Bool) (xs : List ℕ) → find p xs ≡ None → (x : ℕ) → is_in xs x ≡ true → p x ≡ false
 find-none p [] e x there = absurd (false≢true there)
 find-none p (y ∷ ys) e x there =
     let parts : (p y ≡ false) × (find p ys ≡ None) = cond-none (p y) y (find p ys) e in

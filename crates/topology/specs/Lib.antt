@@ -1,5 +1,10 @@
 pub mod Accepted
 pub mod Document
 pub mod KnownDocuments
+pub mod Fits
+pub mod Joined
+pub mod Links
+pub mod Read
 pub mod Refused
+pub mod Sizes
 pub mod Wiring

@@ -1,14 +1,13 @@
 -- Which documents are refused. Each predicate is of the nodes and of one of them, by its number from 0.
-use Rattle.std.specs.Prelude.{◌≡◌, ◌==◌, ◌+◌, ◌%◌, ◌&&◌, ◌||◌, ◌++◌, ℕ, suc, List, [], ◌∷◌, Bool, false, Option, Some, None, length, find, map, nat_lt, nat_le, not, bytes_eq, is_none, sum, take, if◌then◌else◌}
+use Rattle.std.specs.Prelude.{◌≡◌, ◌==◌, ◌+◌, ◌%◌, ◌&&◌, ◌||◌, ℕ, suc, List, [], ◌∷◌, Bool, false, Option, Some, None, length, find, map, nat_lt, nat_le, not, bytes_eq, is_none, sum, take, if◌then◌else◌}
 use Rattle.std.specs.List.{list_any}
 use Rattle.address_map.specs.Regions.{has_overlap, is_bad_span}
 use Rattle.address_map.specs.declared.region.Region.{Region}
 use Rattle.node_graph.specs.Graph.{is_on_cycle, numbers}
 use Rattle.refusals.specs.declared.cause.Cause.{Cause}
 use Rattle.refusals.specs.declared.cause.Cause.TheVariants.{DuplicateName, UnknownName, FanIn, Loose, Cycle, BadRegion, Overlap, WidthMismatch, IdOverflow, LiteMismatch, TooLarge}
-use Rattle.topology.specs.Document.{DocumentNode, LinkKind, NamedRegion, first_link, graph_of, inputs_of, is_manager, is_memory, joins_links, link_kind_of, named, names_of, node_at, plan_links_at, plan_nodes_at, targets_of, uppers_of}
-use Rattle.topology_text.specs.declared.kind.Kind.{Kind}
-use Rattle.topology_text.specs.declared.kind.Kind.TheVariants.{Memory, LiteMemory, Slice, Mux, Crossbar, Up, Down, Lite}
+use Rattle.topology.specs.Document.{DocumentNode, LinkKind, NamedRegion, graph_of, inputs_of, is_manager, is_memory, joins_links, link_kind_of, named, names_of, node_at, plan_links_at, plan_nodes_at, targets_of, uppers_of}
+use Rattle.topology.specs.Fits.{bus_differs_at, protocol_differs_at}
 use Rattle.topology_text.specs.declared.kind.Span.{Span}
 
 -- A range of a memory is bad where it has no address, isn't made of whole lines of 128 bytes, or isn't inside the memory,
@@ -31,9 +30,6 @@ module _ (nodes : List DocumentNode) (place : ℕ) where
 
   abbrev inputs : List LinkKind
   inputs = inputs_of nodes place
-
-  abbrev input : LinkKind
-  input = first_link inputs
 
   -- an earlier node has the same name
   abbrev pub is_duplicate : Bool
@@ -60,48 +56,35 @@ module _ (nodes : List DocumentNode) (place : ℕ) where
   has_bad_region =
       list_any (λ (region : NamedRegion). is_bad_span region.base region.size) node.region
       || is_memory node.kind && is_bad_span node.base node.size
-      || list_any (is_bad_range node.base node.size) (node.read_only ++ node.hole)
+      || list_any (is_bad_range node.base node.size) node.read_only
+      || list_any (is_bad_range node.base node.size) node.hole
 
   -- two of its regions share an address
   abbrev pub regions_overlap : Bool
   regions_overlap = has_overlap (map span_of node.region)
 
-  -- its inputs have buses that differ, its bus isn't its input's, or it widens or narrows none
-  abbrev pub bus_differs : Kind → Bool
-  bus_differs Mux = list_any (λ (other : LinkKind). not (other.bus == input.bus)) inputs
-  bus_differs Crossbar = list_any (λ (other : LinkKind). not (other.bus == input.bus)) inputs
-  bus_differs Memory = not (node.bus == input.bus)
-  bus_differs Up = nat_le node.bus input.bus
-  bus_differs Down = nat_le input.bus node.bus
-  bus_differs other = false
-
+  -- its bus doesn't fit the links above it
   abbrev pub has_width_mismatch : Bool
-  has_width_mismatch = bus_differs node.kind
+  has_width_mismatch = bus_differs_at node inputs node.kind
 
   -- it joins links, and the IDs below it have over 16 bits
   abbrev pub has_id_overflow : Bool
   has_id_overflow = joins_links node.kind && nat_lt 16 (link_kind_of nodes place).id_width
 
-  -- It leads to AXI4-Lite from a bus that AXI4-Lite doesn't have, it speaks AXI4-Lite and its input doesn't, or it speaks
-  -- AXI4 and an input doesn't.
-  abbrev pub any_lite : Bool
-  any_lite = list_any (λ (other : LinkKind). other.lite) inputs
-
-  abbrev pub protocol_differs : Kind → Bool
-  protocol_differs Lite = any_lite || not (input.bus == 4 || input.bus == 8)
-  protocol_differs LiteMemory = not input.lite
-  protocol_differs Slice = false
-  protocol_differs other = any_lite
-
+  -- its protocol doesn't fit the links above it
   abbrev pub has_lite_mismatch : Bool
-  has_lite_mismatch = protocol_differs node.kind
+  has_lite_mismatch = protocol_differs_at inputs node.kind
 
-  -- It is the 257th node, has too many uppers, targets, regions or ranges, or with it the plan has too many nodes or links.
-  abbrev pub is_too_large : Bool
-  is_too_large =
+  -- It is the 257th node, or has too many uppers, targets, regions or ranges,
+  abbrev pub has_too_many : Bool
+  has_too_many =
       place == 256 || nat_lt 16 (length uppers) || nat_lt 16 (length (targets_of nodes node)) || nat_lt 64 (length node.region)
       || nat_lt 64 (length node.read_only) || nat_lt 64 (length node.hole)
-      || nat_lt 1024 (sum (map (plan_nodes_at nodes) (numbers (suc place)))) || nat_lt 4096 (sum (map (plan_links_at nodes) (numbers (suc place))))
+
+  -- or with it the plan has too many nodes or links.
+  abbrev pub is_too_large : Bool
+  is_too_large =
+      has_too_many || nat_lt 1024 (sum (map (plan_nodes_at nodes) (numbers (suc place)))) || nat_lt 4096 (sum (map (plan_links_at nodes) (numbers (suc place))))
 
 -- the causes in order of code, each with its predicate
 abbrev pub checks : List (Cause × (List DocumentNode → ℕ → Bool))

@@ -1,0 +1,15 @@
+-- What is found of the names of nodes.
+use Rattle.std.specs.Prelude.{ℕ, List, Option, bytes_eq, map, position}
+use Rattle.std.specs.Borrow.{Bor}
+use Rattle.topology.specs.Document.{DocumentNode}
+
+-- the texts that some keys are
+abbrev pub texts : List (Bor (List ℕ)) → List (List ℕ)
+texts keys = map (λ (key : Bor (List ℕ)). key.now) keys
+
+abbrev pub node_names : List DocumentNode → List (List ℕ)
+node_names nodes = map (λ (node : DocumentNode). node.name) nodes
+
+-- the place of a text among these keys
+abbrev pub place_in : List (Bor (List ℕ)) → List ℕ → Option ℕ
+place_in keys name = position (λ (key : Bor (List ℕ)). bytes_eq name key.now) keys

@@ -1,0 +1,56 @@
+//! The names of a document's nodes, each at the number of its node.
+
+ghost use Rattle.std.specs.Prelude.{◌≡◌, ◌<◌, ◌^◌, ◌++◌, ◌∷◌, [], IfErr, IfOk, IfSome, None, OnOk, Some, bytes_eq, length, not, position, true};
+ghost use Rattle.std.specs.List.{list_any};
+ghost use Rattle.topology.specs.Joined.{node_names, texts};
+ghost use Rattle.topology.specs.Read.{first_with};
+ghost use Rattle.topology.specs.Refused as cause;
+
+use crate::kinds::node_at;
+use indexmap::IndexSet;
+use std::alloc::{AllocError, Global};
+use topology_text::Node;
+
+/// The names of the nodes, in their order, so that each is found at its node's number; or the number of
+/// the first node that has the name of an earlier one.
+///
+/// # Errors
+///
+/// There was no memory for them.
+pub(crate) fn names_of<'a>(
+    alloc: Global,
+    nodes: &'a [Node],
+) -> Result<Result<IndexSet<&'a str>, u32>, AllocError>
+    requires few { length nodes.now < 2 ^ 32 }
+    ensures first { IfOk result (λ found. IfErr found (λ place. first_with cause.is_duplicate nodes.now ≡ Some place)) }
+    ensures none { IfOk result (λ found. IfOk found (λ names. first_with cause.is_duplicate nodes.now ≡ None)) }
+    ensures names { IfOk result (λ found. IfOk found (λ names. texts names.keys ≡ node_names nodes.now)) }
+{
+    let mut names = IndexSet::new(alloc);
+    for place in 0..nodes.len() as u32 {
+        if !add_name(&mut names, node_at(nodes, place).name())? {
+            return Ok(Err(place));
+        }
+    }
+    Ok(Ok(names))
+}
+
+// Puts a name behind the others, and tells whether it is new.
+fn add_name<'a>(names: &mut IndexSet<&'a str>, name: &'a str) -> Result<bool, AllocError>
+    ensures added { IfOk result (λ added. added ≡ not (list_any (λ key. bytes_eq name.now key.now) names.old.keys)) }
+    ensures keys { IfOk result (λ added. added ≡ true → names.new.keys ≡ names.old.keys ++ name.entry ∷ []) }
+{
+    match names.insert(name) {
+        Ok(added) => Ok(added),
+        Err(_) => Err(AllocError),
+    }
+}
+
+/// The number of the node with this name.
+pub(crate) fn named(names: &IndexSet<&str>, name: &str) -> Option<u32>
+    requires { length names.now.keys < 2 ^ 32 }
+    ensures { result ≡ position (λ key. bytes_eq name.now key.now) names.now.keys }
+{
+    let place = names.get_index_of(&name)?;
+    Some(place as u32)
+}
