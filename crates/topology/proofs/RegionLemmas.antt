@@ -33,10 +33,6 @@ or-left : (a b : Bool) → (a || b) ≡ false → a ≡ false
 or-left true b e = absurd cc
 or-left false b e = refl
 
--- a node's own span of addresses, or a range in it, is bad
-abbrev bad_else : DocumentNode → Bool
-bad_else node = is_memory node.kind && is_bad_span node.base node.size || list_any (is_bad_range node.base node.size) node.read_only || list_any (is_bad_range node.base node.size) node.hole
-
 pub overlap-known : (nodes : List DocumentNode) (place : ℕ) (regions : List Region) → regions ≡ regions_of nodes (node_at nodes place) → has_overlap regions ≡ regions_overlap nodes place
 overlap-known nodes place regions are = ap has_overlap are ∙ overlap-placed (λ region. unwrap_or (named nodes region.to) 0) (node_at nodes place).region
 
@@ -44,5 +40,14 @@ pub good-known : (nodes : List DocumentNode) (place : ℕ) (regions : List Regio
     list_any is_bad_region regions ≡ false
 good-known nodes place regions less none are =
     let good : has_bad_region nodes place ≡ false = find-none (has_bad_region nodes) (numbers (length nodes)) none place (numbers-in (length nodes) place less) in
-    ap (list_any is_bad_region) are ∙ bad-placed (λ region. unwrap_or (named nodes region.to) 0) (node_at nodes place).region
-    ∙ or-left (list_any (λ (region : NamedRegion). is_bad_span region.base region.size) (node_at nodes place).region) (bad_else (node_at nodes place)) good
+    ap (list_any is_bad_region) are ∙ bad-placed (λ region. unwrap_or (named nodes region.to) 0) (node_at nodes place).region ∙ first good
+  where
+    bad : Bool
+    bad = list_any (λ (region : NamedRegion). is_bad_span region.base region.size) (node_at nodes place).region
+
+    first : has_bad_region nodes place ≡ false → bad ≡ false
+    first e = by bad refl
+      where
+        by : (b : Bool) → bad ≡ b → bad ≡ false
+        by true f = absurd cc
+        by false f = f
