@@ -32,10 +32,7 @@ fn wired(alloc: Global, nodes: Vec<Node>) -> Result<Wiring, DocFault> {
     refuse(Cause::Loose, first_loose(&nodes, &graph))?;
     refuse(Cause::Cycle, kept(graph.first_on_cycle(alloc))?)?;
     refuse(Cause::BadRegion, first_bad_region(&nodes))?;
-    refuse(
-        Cause::Overlap,
-        kept(first_overlap(alloc, &nodes, &regions))?,
-    )?;
+    refuse(Cause::Overlap, kept(first_overlap(alloc, &nodes, &regions))?)?;
     let links = kept(kinds_of_links(alloc, &nodes, &graph))?;
     refuse(
         Cause::WidthMismatch,
