@@ -1,7 +1,8 @@
 -- What is found of the names of nodes.
-use Rattle.std.specs.Prelude.{ℕ, List, Option, bytes_eq, map, position}
+use Rattle.std.specs.Prelude.{ℕ, List, Option, bytes_eq, map, position, unwrap_or}
 use Rattle.std.specs.Borrow.{Bor}
-use Rattle.topology.specs.Document.{DocumentNode}
+use Rattle.address_map.specs.declared.region.Region.{Region}
+use Rattle.topology.specs.Document.{DocumentNode, NamedRegion}
 
 -- the texts that some keys are
 abbrev pub texts : List (Bor (List ℕ)) → List (List ℕ)
@@ -13,3 +14,7 @@ node_names nodes = map (λ (node : DocumentNode). node.name) nodes
 -- the place of a text among these keys
 abbrev pub place_in : List (Bor (List ℕ)) → List ℕ → Option ℕ
 place_in keys name = position (λ (key : Bor (List ℕ)). bytes_eq name key.now) keys
+
+-- a region whose port is the place of the node that it names
+abbrev pub placed_region : (List ℕ → Option ℕ) → NamedRegion → Region
+placed_region place region = record { base = region.base; size = region.size; port = unwrap_or (place region.to) 0 }

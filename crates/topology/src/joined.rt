@@ -1,12 +1,11 @@
-//! The nodes that nodes name.
+//! The regions of nodes, and the nodes below them.
 
-ghost use Rattle.std.specs.Prelude.{◌≡◌, ◌<◌, ◌^◌, IfErr, IfNone, IfOk, IfSome, OnOk, None, Some, false, is_none, length, map, nat_eq, true, unwrap_or};
-ghost use Rattle.std.specs.List.{list_any};
+ghost use Rattle.std.specs.Prelude.{◌≡◌, ◌<◌, ◌^◌, ◌∷◌, [], IfOk, None, OnOk, filter_map, length, map, nat_eq};
 ghost use Rattle.indexmap.specs.IndexSet.{insert_key};
 ghost use Rattle.node_graph.specs.Graph.{each_once};
 ghost use Rattle.node_graph.specs.Simple.{lists_in};
-ghost use Rattle.topology.specs.Document.{NamedRegion, graph_of};
-ghost use Rattle.topology.specs.Joined.{node_names, place_in, texts};
+ghost use Rattle.topology.specs.Document.{graph_of, node_at, targets_of};
+ghost use Rattle.topology.specs.Joined.{node_names, place_in, placed_region, texts};
 ghost use Rattle.topology.specs.Read.{first_with};
 ghost use Rattle.topology.specs.Refused as cause;
 ghost use Rattle.topology.specs.Wiring.{region_lists, regions_of};
@@ -17,87 +16,117 @@ use crate::names::named;
 use address_map::Region;
 use indexmap::IndexSet;
 use std::alloc::{AllocError, Global};
-use topology_text::{Kind, Node};
+use topology_text::{Kind, NamedSpan, Node};
 
-/// What a document's nodes name: the nodes below each, each once, and the regions of each, with their
-/// targets as their ports.
-#[derive(Debug, Drop)]
-pub(crate) struct Joined {
-    pub below: Vec<Vec<u32>>,
-    pub regions: Vec<Vec<Region>>,
-}
-
-/// What the nodes name, or the number of the first node that names one that isn't there.
+/// The regions of each node, with their targets as their ports.
 ///
 /// # Errors
 ///
-/// There was no memory for it.
-pub(crate) fn join(
+/// There was no memory for them.
+pub(crate) fn regions_of_nodes(
     alloc: Global,
     nodes: &[Node],
     names: &IndexSet<&str>,
-) -> Result<Result<Joined, u32>, AllocError>
+) -> Result<Vec<Vec<Region>>, AllocError>
     requires few { length nodes.now < 2 ^ 32 }
     requires names { texts names.now.keys ≡ node_names nodes.now }
-    ensures first { IfOk result (λ found. IfErr found (λ place. first_with cause.names_unknown nodes.now ≡ Some place)) }
-    ensures none { IfOk result (λ found. IfOk found (λ joined. first_with cause.names_unknown nodes.now ≡ None)) }
-    ensures below { IfOk result (λ found. IfOk found (λ joined. lists_in joined.below.items ≡ graph_of nodes.now)) }
-    ensures regions { IfOk result (λ found. IfOk found (λ joined. region_lists joined.regions.items ≡ map (regions_of nodes.now) nodes.now)) }
+    ensures { IfOk result (λ regions. region_lists regions.items ≡ map (regions_of nodes.now) nodes.now) }
 {
-    let mut below = Vec::new(alloc);
     let mut regions = Vec::new(alloc);
     for place in 0..nodes.len() as u32 {
-        let Some(ports) = regions_of(alloc, node_at(nodes, place), names)? else {
-            return Ok(Err(place));
-        };
-        let Some(targets) = targets_of(alloc, node_at(nodes, place), names, &ports)? else {
-            return Ok(Err(place));
-        };
-        regions.push(ports)?;
-        below.push(targets)?;
+        regions.push(regions_of(alloc, node_at(nodes, place), names)?)?;
     }
-    Ok(Ok(Joined { below, regions }))
+    Ok(regions)
 }
 
-// The regions of a node, where each names one that is there.
+// The regions of a node.
 fn regions_of(
     alloc: Global,
     node: &Node,
     names: &IndexSet<&str>,
-) -> Result<Option<Vec<Region>>, AllocError>
+) -> Result<Vec<Region>, AllocError>
     requires few { length names.now.keys < 2 ^ 32 }
-    ensures all { IfOk result (λ found. IfSome found (λ regions. regions.items ≡ map (λ (region : NamedRegion). record { base = region.base; size = region.size; port = unwrap_or (place_in names.now.keys region.to) 0 }) node.now.region)) }
-    ensures known { IfOk result (λ found. IfSome found (λ regions. list_any (λ (region : NamedRegion). is_none (place_in names.now.keys region.to)) node.now.region ≡ false)) }
-    ensures unknown { IfOk result (λ found. IfNone found (list_any (λ (region : NamedRegion). is_none (place_in names.now.keys region.to)) node.now.region ≡ true)) }
+    ensures { IfOk result (λ regions. regions.items ≡ map (placed_region (place_in names.now.keys)) node.now.region) }
 {
     let mut regions = Vec::new(alloc);
     for region in node.region() {
-        let Some(port) = named(names, region.to()) else {
-            return Ok(None);
-        };
-        regions.push(Region {
-            base: region.base(),
-            size: region.size(),
-            port,
-        })?;
+        regions.push(placed_region(region, names))?;
     }
-    Ok(Some(regions))
+    Ok(regions)
 }
 
-// The nodes below a node, where each name that it names is there.
-fn targets_of(
+// A region with its target as its port.
+fn placed_region(region: &NamedSpan, names: &IndexSet<&str>) -> Region
+    requires few { length names.now.keys < 2 ^ 32 }
+    ensures { result ≡ placed_region (place_in names.now.keys) region.now }
+{
+    Region {
+        base: region.base(),
+        size: region.size(),
+        port: named(names, region.to()).unwrap_or(0),
+    }
+}
+
+/// The nodes below each node, each once, in the order in which it names them. Each name is that of a
+/// node.
+///
+/// # Errors
+///
+/// There was no memory for them.
+pub(crate) fn targets_of_nodes(
+    alloc: Global,
+    nodes: &[Node],
+    names: &IndexSet<&str>,
+    regions: &[Vec<Region>],
+) -> Result<Vec<Vec<u32>>, AllocError>
+    requires few { length nodes.now < 2 ^ 32 }
+    requires names { texts names.now.keys ≡ node_names nodes.now }
+    requires known { first_with cause.names_unknown nodes.now ≡ None }
+    requires regions { region_lists regions.now ≡ map (regions_of nodes.now) nodes.now }
+    ensures { IfOk result (λ below. lists_in below.items ≡ graph_of nodes.now) }
+{
+    let mut below = Vec::new(alloc);
+    for place in 0..nodes.len() as u32 {
+        below.push(targets_at(alloc, nodes, place, names, regions)?)?;
+    }
+    Ok(below)
+}
+
+// The nodes below the node of this number.
+fn targets_at(
+    alloc: Global,
+    nodes: &[Node],
+    place: u32,
+    names: &IndexSet<&str>,
+    regions: &[Vec<Region>],
+) -> Result<Vec<u32>, AllocError>
+    requires few { length nodes.now < 2 ^ 32 }
+    requires inside { place < length nodes.now }
+    requires names { texts names.now.keys ≡ node_names nodes.now }
+    requires known { first_with cause.names_unknown nodes.now ≡ None }
+    requires regions { region_lists regions.now ≡ map (regions_of nodes.now) nodes.now }
+    ensures { IfOk result (λ below. below.items ≡ targets_of nodes.now (node_at nodes.now place)) }
+{
+    let node = node_at(nodes, place);
+    match node.kind() {
+        Kind::Demux | Kind::Crossbar => ports_of(alloc, &regions[place as usize]),
+        Kind::Memory | Kind::LiteMemory => Ok(Vec::new(alloc)),
+        _ => target_of(alloc, node, names),
+    }
+}
+
+// The node that a node without regions names.
+fn target_of(
     alloc: Global,
     node: &Node,
     names: &IndexSet<&str>,
-    regions: &[Region],
-) -> Result<Option<Vec<u32>>, AllocError> {
-    match node.kind() {
-        Kind::Demux | Kind::Crossbar => Ok(Some(ports_of(alloc, regions)?)),
-        Kind::Memory | Kind::LiteMemory => Ok(Some(Vec::new(alloc))),
-        _ => match named(names, node.to()) {
-            Some(target) => Ok(Some(Vec::from_slice(alloc, &[target])?)),
-            None => Ok(None),
-        },
+) -> Result<Vec<u32>, AllocError>
+    requires few { length names.now.keys < 2 ^ 32 }
+    ensures { IfOk result (λ below. below.items ≡ each_once (filter_map (place_in names.now.keys) (node.now.to ∷ []))) }
+{
+    match named(names, node.to()) {
+        Some(target) => Vec::from_slice(alloc, &[target]),
+        None => Ok(Vec::new(alloc)),
     }
 }
 

@@ -1,15 +1,16 @@
 //! The names of a document's nodes, each at the number of its node.
 
-ghost use Rattle.std.specs.Prelude.{◌≡◌, ◌<◌, ◌^◌, ◌++◌, ◌∷◌, [], IfErr, IfOk, IfSome, None, OnOk, Some, bytes_eq, length, not, position, true};
+ghost use Rattle.std.specs.Prelude.{◌≡◌, ◌<◌, ◌^◌, ◌++◌, ◌∷◌, [], IfErr, IfOk, IfSome, None, OnOk, Some, bytes_eq, is_none, length, map, not, position, true};
 ghost use Rattle.std.specs.List.{list_any};
-ghost use Rattle.topology.specs.Joined.{node_names, texts};
+ghost use Rattle.topology.specs.Document.{NamedRegion, names_of};
+ghost use Rattle.topology.specs.Joined.{node_names, place_in, texts};
 ghost use Rattle.topology.specs.Read.{first_with};
 ghost use Rattle.topology.specs.Refused as cause;
 
 use crate::kinds::node_at;
 use indexmap::IndexSet;
 use std::alloc::{AllocError, Global};
-use topology_text::Node;
+use topology_text::{Kind, NamedSpan, Node};
 
 /// The names of the nodes, in their order, so that each is found at its node's number; or the number of
 /// the first node that has the name of an earlier one.
@@ -53,4 +54,50 @@ pub(crate) fn named(names: &IndexSet<&str>, name: &str) -> Option<u32>
 {
     let place = names.get_index_of(&name)?;
     Some(place as u32)
+}
+
+/// The first node that names one that isn't there.
+pub(crate) fn first_unknown(nodes: &[Node], names: &IndexSet<&str>) -> Option<u32>
+    requires few { length nodes.now < 2 ^ 32 }
+    requires names { texts names.now.keys ≡ node_names nodes.now }
+    ensures { result ≡ first_with cause.names_unknown nodes.now }
+{
+    for place in 0..nodes.len() as u32 {
+        if names_unknown(nodes, place, names) {
+            return Some(place);
+        }
+    }
+    None
+}
+
+// Whether the node of this number names one that isn't there.
+fn names_unknown(nodes: &[Node], place: u32, names: &IndexSet<&str>) -> bool
+    requires few { length nodes.now < 2 ^ 32 }
+    requires inside { place < length nodes.now }
+    requires names { texts names.now.keys ≡ node_names nodes.now }
+    ensures { result ≡ cause.names_unknown nodes.now place }
+{
+    is_unknown(node_at(nodes, place), names)
+}
+
+// Whether a node names what isn't among these names.
+fn is_unknown(node: &Node, names: &IndexSet<&str>) -> bool
+    requires few { length names.now.keys < 2 ^ 32 }
+    ensures { result ≡ list_any (λ name. is_none (place_in names.now.keys name)) (names_of node.now) }
+{
+    match node.kind() {
+        Kind::Demux | Kind::Crossbar => is_any_unknown(node.region(), names),
+        Kind::Memory | Kind::LiteMemory => false,
+        _ => named(names, node.to()).is_none(),
+    }
+}
+
+// Whether one of these regions names what isn't among these names.
+fn is_any_unknown(regions: &[NamedSpan], names: &IndexSet<&str>) -> bool
+    requires few { length names.now.keys < 2 ^ 32 }
+    ensures { result ≡ list_any (λ name. is_none (place_in names.now.keys name)) (map (λ (region : NamedRegion). region.to) regions.now) }
+{
+    regions
+        .iter()
+        .any(|region| named(names, region.to()).is_none())
 }
