@@ -1,6 +1,7 @@
 pub mod AcceptedFacts
 pub mod JoinedLemmas
 pub mod LinkLemmas
+pub mod LinkWidths
 pub mod NameLemmas
 pub mod PastLemmas
 pub mod RegionLemmas

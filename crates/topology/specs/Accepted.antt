@@ -1,8 +1,9 @@
 -- Documents that are accepted: no predicate of a refusal holds of any of their nodes.
-use Rattle.std.specs.Prelude.{◌≡◌, ◌<◌, ℕ, List, false, length}
+use Rattle.std.specs.Prelude.{◌≡◌, ◌<◌, ◌≤◌, ℕ, List, false, length}
 use Rattle.node_graph.specs.Laws.{IsAcyclic}
 use Rattle.topology.specs.Document.{DocumentNode, graph_of, inputs_of, link_below, link_kind_of, node_at}
 use Rattle.topology.specs.Refused.{IsAccepted, has_bad_region, has_fan_in, has_id_overflow, has_lite_mismatch, has_width_mismatch, is_cyclic, is_duplicate, is_loose, is_too_large, names_unknown, regions_overlap}
+use Rattle.topology_text.specs.Formed.{AreFormed}
 
 pub record IsClean (nodes : List DocumentNode) (place : ℕ) : Type 0 where
   pub name_is_own : is_duplicate nodes place ≡ false
@@ -29,3 +30,7 @@ abbrev pub LinksAreHandedDown : Type 0
 LinksAreHandedDown =
     (nodes : List DocumentNode) → IsAccepted nodes → (place : ℕ) → place < length nodes →
     link_kind_of nodes place ≡ link_below (node_at nodes place).kind (node_at nodes place) (inputs_of nodes place)
+
+-- Where its nodes are formed, no link has IDs of more than 16 bits.
+abbrev pub LinksAreNarrow : Type 0
+LinksAreNarrow = (nodes : List DocumentNode) → IsAccepted nodes → AreFormed nodes → (place : ℕ) → place < length nodes → (link_kind_of nodes place).id_width ≤ 16
