@@ -1,35 +1,45 @@
 -- What nodes name, by the places of names.
-use Rattle.std.proofs.Common.{◌≡◌, ◌<◌, ◌≤◌, ◌+◌, ◌++◌, ◌==◌, ◌||◌, ℕ, zero, suc, Bool, true, false, cond, not, List, [], ◌∷◌, Option, Some, None, Bor, get_or, length, map, take, refl, ap, ap₂, sym, ◌∙◌, subst, arith, append-nil}
-use Rattle.std.specs.Prelude.{bytes_eq, filter, filter_map, is_none, nat_eq, option_map, position, unwrap_or}
-use Rattle.std.specs.List.{cons_option, list_any}
+use Rattle.std.proofs.Common.{◌≡◌, ◌<◌, ◌≤◌, ◌+◌, ◌++◌, ◌==◌, ◌&&◌, ◌||◌, ℕ, zero, suc, Bool, true, false, cond, not, List, [], ◌∷◌, Option, Some, None, Bor, get_or, length, map, take, refl, ap, ap₂, sym, ◌∙◌, subst, arith, append-nil, inl, inr}
+use Rattle.std.specs.Prelude.{bytes_eq, filter, filter_map, find, is_none, nat_eq, nat_lt, slice_index_or, unwrap_or}
+use Rattle.std.specs.List.{cons_option, list_any, position_or_len}
 use Rattle.std.proofs.lemmas.List.{map-append, take_more}
-use Rattle.std.proofs.lemmas.Bool.{eqb-true}
+use Rattle.std.proofs.lemmas.Bool.{cases_lt, eqb-true}
+use Rattle.std.proofs.lemmas.List.Elements.{filter-append}
 use Rattle.indexmap.specs.IndexSet.{insert_key}
 use Rattle.address_map.specs.declared.region.Region.{Region}
-use Rattle.node_graph.specs.Graph.{each_once}
-use Rattle.topology.specs.Document.{DocumentNode, NamedRegion, named, names_of, node_at, node_of_kind, targets_of}
+use Rattle.node_graph.proofs.Members.{numbers-in, repeats-each_once}
+use Rattle.node_graph.proofs.Ways.{upper-known}
+use Rattle.node_graph.specs.Graph.{each_once, is_in, numbers}
+use Rattle.node_graph.specs.Order.{repeats}
+use Rattle.node_graph.specs.Simple.{IsSimple}
+use Rattle.topology.specs.Document.{DocumentNode, NamedRegion, graph_of, has_regions, is_memory, named, names_of, node_at, node_of_kind, targets_of}
 use Rattle.topology.specs.Joined.{node_names, place_in, placed_region, texts}
 use Rattle.topology.specs.Refused.{names_unknown}
 use Rattle.topology.specs.Wiring.{regions_of}
 use Rattle.topology_text.specs.declared.kind.Kind.TheVariants.{Slice}
+use Rattle.topology.proofs.AcceptedFacts.{below-targets, find-none, graph-long, target-known}
 use Rattle.topology.proofs.NameLemmas.{eq-turned}
 
 -- ---- the place of a name
-
-pub place-named : (name : List ℕ) (keys : List (Bor (List ℕ))) (nodes : List DocumentNode) → texts keys ≡ node_names nodes → place_in keys name ≡ named nodes name
-place-named name [] [] same = refl
-place-named name [] (node ∷ nodes) same = absurd cc
-place-named name (key ∷ keys) [] same = absurd cc
-place-named name (key ∷ keys) (node ∷ nodes) same =
-    let first : key.now ≡ node.name = cc in
-    let rest : texts keys ≡ node_names nodes = cc in
-    ap₂ (λ (b : Bool) (o : Option ℕ). cond b (Some 0) (option_map suc o)) (ap (bytes_eq name) first ∙ eq-turned name node.name) (place-named name keys nodes rest)
 
 pub keys-long : (keys : List (Bor (List ℕ))) (nodes : List DocumentNode) → texts keys ≡ node_names nodes → length keys ≡ length nodes
 keys-long [] [] same = refl
 keys-long [] (node ∷ nodes) same = absurd cc
 keys-long (key ∷ keys) [] same = absurd cc
 keys-long (key ∷ keys) (node ∷ nodes) same = let rest : texts keys ≡ node_names nodes = cc in ap (λ (k : ℕ). suc k) (keys-long keys nodes rest)
+
+place-long : (name : List ℕ) (keys : List (Bor (List ℕ))) (nodes : List DocumentNode) → texts keys ≡ node_names nodes →
+    position_or_len (λ (key : Bor (List ℕ)). bytes_eq name key.now) keys ≡ position_or_len (λ (node : DocumentNode). bytes_eq node.name name) nodes
+place-long name [] [] same = refl
+place-long name [] (node ∷ nodes) same = absurd cc
+place-long name (key ∷ keys) [] same = absurd cc
+place-long name (key ∷ keys) (node ∷ nodes) same =
+    let first : key.now ≡ node.name = cc in
+    let rest : texts keys ≡ node_names nodes = cc in
+    ap₂ (λ (b : Bool) (n : ℕ). cond (not b) (1 + n) 0) (ap (bytes_eq name) first ∙ eq-turned name node.name) (place-long name keys nodes rest)
+
+pub place-named : (name : List ℕ) (keys : List (Bor (List ℕ))) (nodes : List DocumentNode) → texts keys ≡ node_names nodes → place_in keys name ≡ named nodes name
+place-named name keys nodes same = ap₂ (λ (i n : ℕ). cond (nat_lt i n) (Some i) None) (place-long name keys nodes same) (keys-long keys nodes same)
 
 module _ (f g : List ℕ → Option ℕ) (same : (name : List ℕ) → f name ≡ g name) where
   pub any-unknown : (names : List (List ℕ)) → list_any (λ name. is_none (f name)) names ≡ list_any (λ name. is_none (g name)) names
@@ -50,7 +60,7 @@ module _ (f g : List ℕ → Option ℕ) (same : (name : List ℕ) → f name �
 pub ports-known : (f : List ℕ → Option ℕ) (regions : List NamedRegion) → list_any (λ name. is_none (f name)) (map (λ (region : NamedRegion). region.to) regions) ≡ false →
     map (λ (region : Region). region.port) (map (placed_region f) regions) ≡ filter_map f (map (λ (region : NamedRegion). region.to) regions)
 ports-known f [] e = refl
-ports-known f (region ∷ regions) e = by (f region.to) e
+ports-known f (region ∷ regions) e = by (f region.to) (ports-known f regions) e
   where
     names : List (List ℕ)
     names = map (λ (other : NamedRegion). other.to) regions
@@ -58,9 +68,9 @@ ports-known f (region ∷ regions) e = by (f region.to) e
     ports : List ℕ
     ports = map (λ (other : Region). other.port) (map (placed_region f) regions)
 
-    by : (o : Option ℕ) → (is_none o || list_any (λ name. is_none (f name)) names) ≡ false → unwrap_or o 0 ∷ ports ≡ cons_option o (filter_map f names)
-    by None none = absurd cc
-    by (Some port) rest = ap (λ (xs : List ℕ). port ∷ xs) (ports-known f regions rest)
+    by : (o : Option ℕ) → (list_any (λ name. is_none (f name)) names ≡ false → ports ≡ filter_map f names) → (is_none o || list_any (λ name. is_none (f name)) names) ≡ false → unwrap_or o 0 ∷ ports ≡ cons_option o (filter_map f names)
+    by None more none = absurd cc
+    by (Some port) more rest = ap (λ (xs : List ℕ). port ∷ xs) (more rest)
 
 -- ---- each once
 
@@ -70,16 +80,16 @@ module _ (x y : ℕ) where
 
   any-kept : (xs : List ℕ) → (x == y) ≡ false → list_any (nat_eq x) (filter differs xs) ≡ list_any (nat_eq x) xs
   any-kept [] other = refl
-  any-kept (z ∷ zs) other = by (z == y) refl
+  any-kept (z ∷ zs) other = by (z == y) refl (any-kept zs other)
     where
-      by : (b : Bool) → (z == y) ≡ b → list_any (nat_eq x) (filter differs (z ∷ zs)) ≡ list_any (nat_eq x) (z ∷ zs)
-      by true e =
+      by : (b : Bool) → (z == y) ≡ b → list_any (nat_eq x) (filter differs zs) ≡ list_any (nat_eq x) zs → list_any (nat_eq x) (filter differs (z ∷ zs)) ≡ list_any (nat_eq x) (z ∷ zs)
+      by true e more =
           let left : filter differs (z ∷ zs) ≡ filter differs zs = ap (λ (b : Bool). cond (not b) (z ∷ filter differs zs) (filter differs zs)) e in
           let not_this : nat_eq x z ≡ false = ap (nat_eq x) (eqb-true z y e) ∙ other in
-          ap (list_any (nat_eq x)) left ∙ any-kept zs other ∙ sym (ap (λ (b : Bool). b || list_any (nat_eq x) zs) not_this)
-      by false e =
+          ap (list_any (nat_eq x)) left ∙ more ∙ sym (ap (λ (b : Bool). b || list_any (nat_eq x) zs) not_this)
+      by false e more =
           let left : filter differs (z ∷ zs) ≡ z ∷ filter differs zs = ap (λ (b : Bool). cond (not b) (z ∷ filter differs zs) (filter differs zs)) e in
-          ap (list_any (nat_eq x)) left ∙ ap (λ (b : Bool). nat_eq x z || b) (any-kept zs other)
+          ap (list_any (nat_eq x)) left ∙ ap (λ (b : Bool). nat_eq x z || b) more
 
   one-more : (list : List ℕ) → y ∷ filter differs (insert_key nat_eq list x) ≡ insert_key nat_eq (y ∷ filter differs list) x
   one-more list = by (x == y) (list_any (nat_eq x) list) refl refl
@@ -133,11 +143,77 @@ module _ {V Y : Type 0} (seen : V → Y) (made : DocumentNode → Y) (nodes : Li
   pub lists-all : (place : ℕ) (lists : List V) → length nodes ≤ place → map seen lists ≡ map made (take place nodes) → map seen lists ≡ map made nodes
   lists-all place lists past same = same ∙ ap (map made) (taken-whole place nodes past)
 
--- ---- the targets of a node
+-- ---- the names and the targets of a node, by its kind
 
-pub targets-known : (keys : List (Bor (List ℕ))) (nodes : List DocumentNode) (node : DocumentNode) (regions : List Region) → texts keys ≡ node_names nodes → names_of node ≡ map (λ (region : NamedRegion). region.to) node.region →
-    list_any (λ name. is_none (named nodes name)) (names_of node) ≡ false → regions ≡ regions_of nodes node → each_once (map (λ (region : Region). region.port) regions) ≡ targets_of nodes node
-targets-known keys nodes node regions same names known are =
-    ap (λ (list : List Region). each_once (map (λ (region : Region). region.port) list)) are
-    ∙ ap each_once (ports-known (named nodes) node.region (sym (ap (list_any (λ name. is_none (named nodes name))) names) ∙ known))
-    ∙ ap (λ (list : List (List ℕ)). each_once (filter_map (named nodes) list)) (sym names)
+module _ (node : DocumentNode) where
+  named_by : Bool → Bool → List (List ℕ)
+  named_by regions memory = cond regions (map (λ (region : NamedRegion). region.to) node.region) (cond memory [] (node.to ∷ []))
+
+  names-by : (regions memory : Bool) → has_regions node.kind ≡ regions → is_memory node.kind ≡ memory → names_of node ≡ named_by regions memory
+  unfolding named_by
+  names-by regions memory e f = ap₂ named_by e f
+
+  pub names-region : has_regions node.kind ≡ true → names_of node ≡ map (λ (region : NamedRegion). region.to) node.region
+  unfolding named_by
+  names-region e = names-by true (is_memory node.kind) e refl
+
+  pub names-memory : has_regions node.kind ≡ false → is_memory node.kind ≡ true → names_of node ≡ []
+  unfolding named_by
+  names-memory e f = names-by false true e f
+
+  pub names-other : has_regions node.kind ≡ false → is_memory node.kind ≡ false → names_of node ≡ node.to ∷ []
+  unfolding named_by
+  names-other e f = names-by false false e f
+
+  module _ (f : List ℕ → Option ℕ) where
+    any-region : (regions : List NamedRegion) → list_any (λ (region : NamedRegion). is_none (f region.to)) regions ≡ list_any (λ name. is_none (f name)) (map (λ (region : NamedRegion). region.to) regions)
+    any-region [] = refl
+    any-region (region ∷ regions) = ap (λ (b : Bool). is_none (f region.to) || b) (any-region regions)
+
+    pub unknown-region : has_regions node.kind ≡ true → list_any (λ (region : NamedRegion). is_none (f region.to)) node.region ≡ list_any (λ name. is_none (f name)) (names_of node)
+    unknown-region e = any-region node.region ∙ sym (ap (list_any (λ name. is_none (f name))) (names-region e))
+
+    pub unknown-other : has_regions node.kind ≡ false → is_memory node.kind ≡ false → is_none (f node.to) ≡ list_any (λ name. is_none (f name)) (names_of node)
+    unknown-other e g = by (is_none (f node.to)) refl
+      where
+        by : (b : Bool) → is_none (f node.to) ≡ b → is_none (f node.to) ≡ list_any (λ name. is_none (f name)) (names_of node)
+        by true h = h ∙ sym (ap (list_any (λ name. is_none (f name))) (names-other e g) ∙ ap (λ (b : Bool). b || false) h)
+        by false h = h ∙ sym (ap (list_any (λ name. is_none (f name))) (names-other e g) ∙ ap (λ (b : Bool). b || false) h)
+
+  module _ (nodes : List DocumentNode) where
+    pub targets-region : (regions : List Region) → has_regions node.kind ≡ true → list_any (λ name. is_none (named nodes name)) (names_of node) ≡ false → regions ≡ regions_of nodes node →
+        each_once (map (λ (region : Region). region.port) regions) ≡ targets_of nodes node
+    targets-region regions e known are =
+        ap (λ (list : List Region). each_once (map (λ (region : Region). region.port) list)) are
+        ∙ ap each_once (ports-known (named nodes) node.region (sym (ap (list_any (λ name. is_none (named nodes name))) (names-region e)) ∙ known))
+        ∙ ap (λ (list : List (List ℕ)). each_once (filter_map (named nodes) list)) (sym (names-region e))
+
+    pub targets-memory : has_regions node.kind ≡ false → is_memory node.kind ≡ true → [] ≡ targets_of nodes node
+    targets-memory e f = ap (λ (list : List (List ℕ)). each_once (filter_map (named nodes) list)) (sym (names-memory e f))
+
+    pub targets-other : (keys : List (Bor (List ℕ))) → texts keys ≡ node_names nodes → has_regions node.kind ≡ false → is_memory node.kind ≡ false → each_once (filter_map (place_in keys) (node.to ∷ [])) ≡ targets_of nodes node
+    targets-other keys same e f =
+        ap each_once (found-same (place_in keys) (named nodes) (λ name. place-named name keys nodes same) (node.to ∷ []))
+        ∙ ap (λ (list : List (List ℕ)). each_once (filter_map (named nodes) list)) (sym (names-other e f))
+
+pub all-known : (nodes : List DocumentNode) (place : ℕ) → place < length nodes → find (names_unknown nodes) (numbers (length nodes)) ≡ None → list_any (λ name. is_none (named nodes name)) (names_of (node_at nodes place)) ≡ false
+all-known nodes place less none = find-none (names_unknown nodes) (numbers (length nodes)) none place (numbers-in (length nodes) place less)
+
+-- ---- the graph
+
+beyond : (lists : List (List ℕ)) (place : ℕ) → length lists ≤ place → slice_index_or lists place [] ≡ []
+beyond [] place past = refl
+beyond (list ∷ lists) zero past = absurd (omega (arith, past))
+beyond (list ∷ lists) (suc place) past = beyond lists place (omega (arith, past))
+
+pub graph-simple : (nodes : List DocumentNode) → IsSimple (graph_of nodes)
+graph-simple nodes = record {
+  known = λ upper lower there.
+    let less : upper < length nodes = omega (arith, upper-known (graph_of nodes) upper lower there, graph-long nodes) in
+    let inside : lower < length nodes = target-known nodes (node_at nodes upper) lower (subst (λ (list : List ℕ). is_in list lower ≡ true) (below-targets nodes upper less) there) in
+    omega (arith, inside, graph-long nodes);
+  once = λ upper. elim (cases_lt upper (length nodes)) [
+    | inl less ↦ ap repeats (below-targets nodes upper less) ∙ repeats-each_once (filter_map (named nodes) (names_of (node_at nodes upper)))
+    | inr past ↦ let out : length (graph_of nodes) ≤ upper = omega (arith, past, graph-long nodes) in ap repeats (beyond (graph_of nodes) upper out) ∙ repeats-each_once []
+  ];
+}

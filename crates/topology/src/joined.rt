@@ -11,12 +11,12 @@ ghost use Rattle.topology.specs.Refused as cause;
 ghost use Rattle.topology.specs.Wiring.{region_lists, regions_of};
 ghost use Rattle.address_map.specs.declared.region.Region.{Region};
 
-use crate::kinds::node_at;
+use crate::kinds::{has_regions, is_memory, node_at};
 use crate::names::named;
 use address_map::Region;
 use indexmap::IndexSet;
 use std::alloc::{AllocError, Global};
-use topology_text::{Kind, NamedSpan, Node};
+use topology_text::{NamedSpan, Node};
 
 /// The regions of each node, with their targets as their ports.
 ///
@@ -108,11 +108,13 @@ fn targets_at(
     ensures { IfOk result (λ below. below.items ≡ targets_of nodes.now (node_at nodes.now place)) }
 {
     let node = node_at(nodes, place);
-    match node.kind() {
-        Kind::Demux | Kind::Crossbar => ports_of(alloc, &regions[place as usize]),
-        Kind::Memory | Kind::LiteMemory => Ok(Vec::new(alloc)),
-        _ => target_of(alloc, node, names),
+    if has_regions(node.kind()) {
+        return ports_of(alloc, &regions[place as usize]);
     }
+    if is_memory(node.kind()) {
+        return Ok(Vec::new(alloc));
+    }
+    target_of(alloc, node, names)
 }
 
 // The node that a node without regions names.

@@ -1,7 +1,7 @@
 //! Kinds of nodes, as the causes of refusals tell them apart.
 
 ghost use Rattle.std.specs.Prelude.{◌≡◌, ◌<◌, length};
-ghost use Rattle.topology.specs.Document.{is_manager, is_memory, joins_links, node_at};
+ghost use Rattle.topology.specs.Document.{has_regions, is_manager, is_memory, joins_links, node_at};
 
 use topology_text::{Kind, Node};
 
@@ -25,6 +25,13 @@ pub(crate) fn is_memory(kind: Kind) -> bool
     ensures { result ≡ is_memory kind }
 {
     matches!(kind, Kind::Memory | Kind::LiteMemory)
+}
+
+/// Whether nodes of a kind name the nodes below by regions.
+pub(crate) fn has_regions(kind: Kind) -> bool
+    ensures { result ≡ has_regions kind }
+{
+    matches!(kind, Kind::Demux | Kind::Crossbar)
 }
 
 /// Whether nodes of a kind join several links from above.

@@ -1,16 +1,16 @@
 //! The names of a document's nodes, each at the number of its node.
 
-ghost use Rattle.std.specs.Prelude.{◌≡◌, ◌<◌, ◌^◌, ◌++◌, ◌∷◌, [], IfErr, IfOk, IfSome, None, OnOk, Some, bytes_eq, is_none, length, map, not, position, true};
+ghost use Rattle.std.specs.Prelude.{◌≡◌, ◌<◌, ◌^◌, ◌++◌, ◌∷◌, [], IfErr, IfOk, IfSome, None, OnOk, Some, bytes_eq, is_none, length, not, position, true};
 ghost use Rattle.std.specs.List.{list_any};
 ghost use Rattle.topology.specs.Document.{NamedRegion, names_of};
 ghost use Rattle.topology.specs.Joined.{node_names, place_in, texts};
 ghost use Rattle.topology.specs.Read.{first_with};
 ghost use Rattle.topology.specs.Refused as cause;
 
-use crate::kinds::node_at;
+use crate::kinds::{has_regions, is_memory, node_at};
 use indexmap::IndexSet;
 use std::alloc::{AllocError, Global};
-use topology_text::{Kind, NamedSpan, Node};
+use topology_text::{NamedSpan, Node};
 
 /// The names of the nodes, in their order, so that each is found at its node's number; or the number of
 /// the first node that has the name of an earlier one.
@@ -85,19 +85,26 @@ fn is_unknown(node: &Node, names: &IndexSet<&str>) -> bool
     requires few { length names.now.keys < 2 ^ 32 }
     ensures { result ≡ list_any (λ name. is_none (place_in names.now.keys name)) (names_of node.now) }
 {
-    match node.kind() {
-        Kind::Demux | Kind::Crossbar => is_any_unknown(node.region(), names),
-        Kind::Memory | Kind::LiteMemory => false,
-        _ => named(names, node.to()).is_none(),
+    if has_regions(node.kind()) {
+        return is_any_unknown(node.region(), names);
     }
+    !is_memory(node.kind()) && is_unknown_name(node.to(), names)
+}
+
+// Whether a name isn't among these names.
+fn is_unknown_name(name: &str, names: &IndexSet<&str>) -> bool
+    requires few { length names.now.keys < 2 ^ 32 }
+    ensures { result ≡ is_none (place_in names.now.keys name.now) }
+{
+    named(names, name).is_none()
 }
 
 // Whether one of these regions names what isn't among these names.
 fn is_any_unknown(regions: &[NamedSpan], names: &IndexSet<&str>) -> bool
     requires few { length names.now.keys < 2 ^ 32 }
-    ensures { result ≡ list_any (λ name. is_none (place_in names.now.keys name)) (map (λ (region : NamedRegion). region.to) regions.now) }
+    ensures { result ≡ list_any (λ (region : NamedRegion). is_none (place_in names.now.keys region.to)) regions.now }
 {
     regions
         .iter()
-        .any(|region| named(names, region.to()).is_none())
+        .any(|region| is_unknown_name(region.to(), names))
 }

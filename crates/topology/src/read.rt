@@ -190,8 +190,10 @@ fn first_misfit(nodes: &[Node], graph: &NodeGraph, links: &[LinkKind]) -> Option
     if let Some(place) = first_lite_mismatch(nodes, graph, links) {
         return Some(refused(Cause::LiteMismatch, place));
     }
-    let place = first_too_large(nodes, graph)?;
-    Some(refused(Cause::TooLarge, place))
+    match first_too_large(nodes, graph) {
+        Some(place) => Some(refused(Cause::TooLarge, place)),
+        None => None,
+    }
 }
 
 // The node of this number, which is less than the greatest of 32 bits, is refused for a cause.

@@ -29,4 +29,4 @@ loop-place-preserved c =
     let less : c.loop-place.place-index < length c.deref-place-items.result.now = search rules in
     let node : ℕ = get_or c.deref-place-items.result.now c.loop-place.place-index 0 in
     links-next c.args.nodes.now c.args.graph.now c.loop-place.links.items c.deref-place-items.result.now c.loop-place.place-index node c.link_below-link.result c.node_at.result.now c.above.result.now
-    c.requires.joined c.requires.long c.requires.acyclic leads less (search (rules, less)) c.node_at.ensures c.above.ensures.nodes c.loop-place.invariant (search rules)
+    c.requires.joined c.requires.long c.requires.acyclic leads less (search rules) c.node_at.ensures c.above.ensures.nodes c.loop-place.invariant (search rules)
