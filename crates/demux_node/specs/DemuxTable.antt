@@ -1,7 +1,8 @@
 -- What a demux does in a round (Arm IHI 0022, transaction ordering): a function of its links as they stand at the round's
 -- start. It sends each request on by the port of its address, and lets an ID wait that has unanswered requests at another
 -- port, so that all answers of an ID come in order.
-use Rattle.std.specs.Prelude.{◌<◌, ◌==◌, ◌&&◌, ◌||◌, ◌++◌, ◌∷◌, [], ℕ, suc, List, Bool, true, false, not, Option, Some, None, All, if◌then◌else◌, is_some, length, map, slice_get, find}
+use Rattle.std.specs.Prelude.{◌<◌, ◌==◌, ◌&&◌, ◌||◌, ◌++◌, ◌∷◌, if◌then◌else◌, ℕ, suc, Bool, true, false, not, Option, Some, None, is_some}
+use Rattle.std.specs.Prelude.{[], List, All, length, map, slice_get, find}
 use Rattle.std.specs.List.{list_any}
 use Rattle.std.specs.Option.{option_and_then, option_map, option_map_or}
 use Rattle.axi_beats.specs.declared.beat.Addr.{Addr}

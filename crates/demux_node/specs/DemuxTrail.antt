@@ -8,7 +8,9 @@ use Rattle.axi_trail.specs.Schedule.{SameChain, Schedule, Share}
 use Rattle.axi_trail.specs.SelectionLaws.{goes_way}
 use Rattle.axi_trail.specs.Trail.{Beats, Trail}
 use Rattle.axi_trail.specs.Waiting.{Waiting}
-use Rattle.axi_trail.specs.Words.{Asked, InOrderOfId, IsAnswered, Reply, burst_asked, held_asked, mark_of_data, marks, number_of_address, number_of_data, number_of_read_data, number_of_response, pending_asked, read_replies, reads_asked, write_replies, writes_asked}
+use Rattle.axi_trail.specs.Words.{Asked, InOrderOfId, IsAnswered, Reply, burst_asked, held_asked, mark_of_data, marks, pending_asked}
+use Rattle.axi_trail.specs.Words.{number_of_address, number_of_data, number_of_read_data, number_of_response}
+use Rattle.axi_trail.specs.Words.{read_replies, reads_asked, write_replies, writes_asked}
 use Rattle.demux_node.specs.DemuxState.{DemuxShape, DemuxState, IsDemux, IsDemuxShape, lower_of, new_demux, port_for, route_of}
 use Rattle.demux_node.specs.DemuxTable.{CanDemux, demux_table, demux_wants}
 use Rattle.demux_node.specs.declared.route.Route.{Route}
@@ -95,8 +97,10 @@ module _ (shape : DemuxShape) (above : Schedule) where
 -- What holds of a demux.
 pub record DemuxKeeps (schedules : ℕ → Schedule) (s : DemuxState) (upper : Beats) (lowers : Trail) : Type 0 where
   pub suits : SuitDemux s.shape schedules
-  pub writes : RoutesAreHeld (schedules s.shape.upper).writes (write_port s.shape (schedules s.shape.upper)) (lower_of s.shape) (writes_asked upper) (write_replies upper) (map route_of s.writes)
-  pub reads : RoutesAreHeld (schedules s.shape.upper).reads (read_port s.shape (schedules s.shape.upper)) (lower_of s.shape) (reads_asked upper) (read_replies upper) s.reads
+  pub writes : RoutesAreHeld (schedules s.shape.upper).writes (write_port s.shape (schedules s.shape.upper)) (lower_of s.shape)
+      (writes_asked upper) (write_replies upper) (map route_of s.writes)
+  pub reads : RoutesAreHeld (schedules s.shape.upper).reads (read_port s.shape (schedules s.shape.upper)) (lower_of s.shape)
+      (reads_asked upper) (read_replies upper) s.reads
   pub open_ones : OpenArePending (write_port s.shape (schedules s.shape.upper)) upper.aw upper.w s.writes
   pub passed : (link : ℕ) → IsPartBy (write_lower s.shape (schedules s.shape.upper)) (read_lower s.shape (schedules s.shape.upper)) upper link (lowers link)
 

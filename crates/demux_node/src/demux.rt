@@ -1,13 +1,15 @@
 //! `DemuxNode`, seen in clauses as its state and its takes and puts of the round.
 
-ghost use Rattle.std.specs.Prelude.{◌≡◌, ◌<◌, ◌≤◌, All, length};
+ghost use Rattle.std.specs.Prelude.{◌≡◌, ◌<◌, ◌≤◌, All, IsTrue, length};
 ghost use Rattle.address_map.specs.declared.region.Region.{Region};
 ghost use Rattle.node_core.specs.Acted.{opened};
 ghost use Rattle.demux_node.specs.DemuxState.{IsDemux, new_demux};
 ghost use Rattle.demux_node.specs.DemuxTable.{CanDemux, demux_table};
 
-use crate::moves::{note_data, note_read, note_read_data, note_response, note_write};
-use crate::moves::{pass_address, pass_data, pass_read_data, pass_response, turn_to};
+use crate::moves::{
+    note_data, note_read, note_read_data, note_response, note_write, pass_address, pass_data,
+    pass_read_data, pass_response, turn_to,
+};
 use crate::route::{Route, WriteRoute};
 use crate::rows::{ar_port, aw_port, b_port, offered_b, offered_r, r_port, w_port};
 use crate::shape::Shape;
@@ -65,6 +67,13 @@ impl DemuxNode {
         }
     }
 
+    /// Whether its links are among these.
+    pub fn can_decide(&self, links: &[Link]) -> bool
+        ensures { IsTrue result → CanDemux links.now self.now.state.shape }
+    {
+        self.shape.fits_on(links)
+    }
+
     /// Does each row of the table.
     fn act(&mut self, links: &[Link])
         requires { CanDemux links.now self.old.state.shape }
@@ -81,10 +90,22 @@ impl DemuxNode {
         let r = r_port(links, shape, &self.reads, &self.turn_r);
         let response = offered_b(links, shape, b);
         let read_data = offered_r(links, shape, r);
-        pass_address(&mut out.aw_take, &mut out.aw_put, shape, aw, above.head_aw());
+        pass_address(
+            &mut out.aw_take,
+            &mut out.aw_put,
+            shape,
+            aw,
+            above.head_aw(),
+        );
         pass_data(&mut out.w_take, &mut out.w_put, shape, w, above.head_w());
         pass_response(&mut out.b_take, &mut out.b_put, shape, b, response);
-        pass_address(&mut out.ar_take, &mut out.ar_put, shape, ar, above.head_ar());
+        pass_address(
+            &mut out.ar_take,
+            &mut out.ar_put,
+            shape,
+            ar,
+            above.head_ar(),
+        );
         pass_read_data(&mut out.r_take, &mut out.r_put, shape, r, read_data);
         note_data(&mut self.writes, w, above.head_w());
         note_response(&mut self.writes, b, response);

@@ -88,11 +88,7 @@ pub(crate) fn pass_read_data(
 }
 
 /// W: with its last beat the oldest write that lacks data has all of it.
-pub(crate) fn note_data(
-    writes: &mut Flight<WriteRoute>,
-    port: Option<u8>,
-    head: Option<&WBeat>,
-)
+pub(crate) fn note_data(writes: &mut Flight<WriteRoute>, port: Option<u8>, head: Option<&WBeat>)
     ensures { writes.new ≡ writes_after_w (by_port port (option_copied head.entry)) writes.old }
 {
     if port.is_none() {
@@ -122,11 +118,7 @@ fn close_oldest(writes: &mut Flight<WriteRoute>)
 }
 
 /// B: the oldest write of its ID leaves.
-pub(crate) fn note_response(
-    writes: &mut Flight<WriteRoute>,
-    port: Option<u8>,
-    head: Option<&BBeat>,
-)
+pub(crate) fn note_response(writes: &mut Flight<WriteRoute>, port: Option<u8>, head: Option<&BBeat>)
     ensures { writes.new ≡ writes_after_b (by_port port (option_copied head.entry)) writes.old }
 {
     if port.is_none() {
@@ -148,11 +140,7 @@ fn drop_write(writes: &mut Flight<WriteRoute>, id: u32)
 }
 
 /// AW: the write becomes the newest entry, and lacks its data.
-pub(crate) fn note_write(
-    writes: &mut Flight<WriteRoute>,
-    port: Option<u8>,
-    head: Option<&Addr>,
-)
+pub(crate) fn note_write(writes: &mut Flight<WriteRoute>, port: Option<u8>, head: Option<&Addr>)
     requires { IsTrue (is_some port) → length writes.old < 16 }
     ensures { writes.new ≡ writes_after_aw (by_port port (option_copied head.entry)) writes.old }
 {

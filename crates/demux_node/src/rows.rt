@@ -154,11 +154,7 @@ fn offers_b(link: &Link, writes: &Flight<WriteRoute>) -> bool
 }
 
 /// The response that a port offers, where there is one.
-pub(crate) fn offered_b<'a>(
-    links: &'a [Link],
-    shape: &Shape,
-    port: Option<u8>,
-) -> Option<&'a BBeat>
+pub(crate) fn offered_b<'a>(links: &'a [Link], shape: &Shape, port: Option<u8>) -> Option<&'a BBeat>
     requires can { CanDemux links.now shape.now }
     requires within { IfSome port (λ p. p < length shape.now.lowers) }
     ensures { option_copied result ≡ offered_b links.now shape.now port }
@@ -244,11 +240,7 @@ fn offers_r(link: &Link, reads: &Flight<Route>) -> bool
 }
 
 /// The read data that a port offers, where there is one.
-pub(crate) fn offered_r<'a>(
-    links: &'a [Link],
-    shape: &Shape,
-    port: Option<u8>,
-) -> Option<&'a RBeat>
+pub(crate) fn offered_r<'a>(links: &'a [Link], shape: &Shape, port: Option<u8>) -> Option<&'a RBeat>
     requires can { CanDemux links.now shape.now }
     requires within { IfSome port (λ p. p < length shape.now.lowers) }
     ensures { option_copied result ≡ offered_r links.now shape.now port }

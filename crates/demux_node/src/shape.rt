@@ -1,6 +1,6 @@
 //! `Shape`, what of a demux never changes.
 
-ghost use Rattle.std.specs.Prelude.{◌≡◌, ◌<◌, ◌≤◌, All, IfSome, length};
+ghost use Rattle.std.specs.Prelude.{◌≡◌, ◌<◌, ◌≤◌, All, IfSome, IsTrue, length};
 ghost use Rattle.std.specs.Option.{option_map_or};
 ghost use Rattle.axi_link.specs.LinkWords.{link_of};
 ghost use Rattle.address_map.specs.declared.region.Region.{Region};
@@ -113,4 +113,23 @@ impl Shape {
     {
         link_at(links, self.lowers.as_slice()[usize::from(port)])
     }
+
+    /// Whether all links are among these.
+    pub(crate) fn fits_on(&self, links: &[Link]) -> bool
+        ensures { IsTrue result → CanDemux links.now self.now }
+    {
+        for lower in self.lowers.as_slice() {
+            if !is_there(links, *lower) {
+                return false;
+            }
+        }
+        is_there(links, self.upper)
+    }
+}
+
+/// Whether a link is there.
+fn is_there(links: &[Link], number: u32) -> bool
+    ensures { IsTrue result → number < length links.now }
+{
+    (number as usize) < links.len()
 }

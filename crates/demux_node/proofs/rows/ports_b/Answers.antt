@@ -16,9 +16,9 @@ loop-port-preserved c =
     let here : c.offers_b.result ≡ offers port =
     c.offers_b.ensures ∙ ap (λ (link : LinkView). option_map_or (λ (beat : BBeat). is_some (place_of beat.id (map id_of_write c.args.writes.now))) (head_of link.b) false) c.at.ensures in
     λ other.
-        c.mark_ready-ready.ensures other
-        ∙ ap (λ (b : Bool). b || (c.offers_b.result && (other == port))) (c.loop-port.invariant other)
-        ∙ marks-one_more offers other port c.offers_b.result here
+    c.mark_ready-ready.ensures other
+    ∙ ap (λ (b : Bool). b || (c.offers_b.result && (other == port))) (c.loop-port.invariant other)
+    ∙ marks-one_more offers other port c.offers_b.result here
 
 pub returns : goal.returns
 returns c = λ port.

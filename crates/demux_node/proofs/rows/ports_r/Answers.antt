@@ -16,9 +16,9 @@ loop-port-preserved c =
     let here : c.offers_r.result ≡ offers port =
     c.offers_r.ensures ∙ ap (λ (link : LinkView). option_map_or (λ (beat : RBeat). is_some (place_of beat.id (map id_of_route c.args.reads.now))) (head_of link.r) false) c.at.ensures in
     λ other.
-        c.mark_ready-ready.ensures other
-        ∙ ap (λ (b : Bool). b || (c.offers_r.result && (other == port))) (c.loop-port.invariant other)
-        ∙ marks-one_more offers other port c.offers_r.result here
+    c.mark_ready-ready.ensures other
+    ∙ ap (λ (b : Bool). b || (c.offers_r.result && (other == port))) (c.loop-port.invariant other)
+    ∙ marks-one_more offers other port c.offers_r.result here
 
 pub returns : goal.returns
 returns c = λ port.
