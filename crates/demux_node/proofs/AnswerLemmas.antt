@@ -1,5 +1,5 @@
 -- What a demux is answered at its ports, it answers.
-use Rattle.std.proofs.Common.{◌≡◌, ◌<◌, ◌≤◌, ◌==◌, ℕ, Bool, List, [], ◌∷◌, length, map, refl, sym, ◌∙◌, ap, subst, arith, Contains}
+use Rattle.std.proofs.Common.{◌≡◌, ◌<◌, ℕ, List, [], ◌∷◌, length, map, refl, sym, ◌∙◌, ap, subst, arith, Contains}
 use Rattle.std.specs.Prelude.{All, Some, slice_get, unwrap_or}
 use Rattle.std.proofs.lemmas.List.Elements.{All-contains}
 use Rattle.std.proofs.lemmas.Option.{get_or_from_slice_get, slice_get-get_or, slice_get_within}
@@ -10,14 +10,13 @@ use Rattle.axi_beats.specs.declared.beat.RBeat.{RBeat}
 use Rattle.axi_trail.proofs.WholeFacts.{answered_after_data}
 use Rattle.axi_trail.specs.LinkContracts.{Answers}
 use Rattle.axi_trail.specs.Schedule.{Progress, Schedule, bytes_on}
-use Rattle.axi_trail.specs.SelectionLaws.{goes_way}
 use Rattle.axi_trail.specs.Trail.{Beats, Trail}
 use Rattle.axi_trail.specs.Words.{held_asked, number_of_read_data, number_of_response, write_asked, write_reply}
 use Rattle.demux_node.proofs.AskLemmas.{own-beats}
 use Rattle.demux_node.proofs.OpenLemmas.{open-are_held}
 use Rattle.demux_node.proofs.PortLemmas.{port-within}
 use Rattle.demux_node.specs.DemuxState.{DemuxShape, DemuxState, IsDemux, IsDemuxShape, lower_of}
-use Rattle.demux_node.specs.DemuxTrail.{DemuxKeeps, demux_kind, lower_of_parts, port_of_parts, read_lower, write_lower, write_port}
+use Rattle.demux_node.specs.DemuxTrail.{DemuxKeeps, demux_kind, port_of_parts, read_lower, write_lower, write_port}
 use Rattle.node_shape.proofs.OneLinkLemmas.{all-one}
 use Rattle.node_shape.specs.KindLaws.{AnswersAbove}
 use Rattle.plain_lists.proofs.PrefixLemmas.{prefix_of_same, prefix_same}

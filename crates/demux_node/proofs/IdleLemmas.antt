@@ -1,5 +1,5 @@
 -- A demux that does nothing holds nothing back.
-use Rattle.std.proofs.Common.{◌≡◌, ◌<◌, ◌≤◌, ◌==◌, ℕ, Bool, true, false, List, [], ◌∷◌, ◌++◌, Option, Some, None, length, map, take, refl, sym, ◌∙◌, ap, ap₂, subst, arith, eq-eqb}
+use Rattle.std.proofs.Common.{◌≡◌, ◌<◌, ◌≤◌, ℕ, Bool, true, List, [], ◌∷◌, ◌++◌, Option, Some, None, length, map, take, refl, sym, ◌∙◌, ap, ap₂, subst, arith}
 use Rattle.std.specs.Prelude.{All, Contains, find, is_some, slice_get}
 use Rattle.std.proofs.lemmas.Bool.{eqb-true, lt-ltb}
 use Rattle.std.proofs.lemmas.List.{length-map, map-append, take_at}
@@ -27,10 +27,9 @@ use Rattle.demux_node.proofs.HeldLemmas.{all-filter, held-entry, is-next}
 use Rattle.demux_node.proofs.OpenLemmas.{opens-first}
 use Rattle.demux_node.proofs.PortLemmas.{port-within}
 use Rattle.demux_node.proofs.TakeLemmas.{at-is, data-moves, has_place, ids-of_routes, read-moves, read_data-moves, response-moves, write-moves}
-use Rattle.demux_node.specs.DemuxState.{DemuxShape, DemuxState, IsDemux, lower_of, port_for, route_of}
-use Rattle.demux_node.specs.DemuxTable.{at_port, demux_ar, demux_aw, demux_out, demux_w, id_of_route, id_of_write, is_open_write, take_below}
+use Rattle.demux_node.specs.DemuxState.{DemuxState, IsDemux, lower_of, port_for, route_of}
+use Rattle.demux_node.specs.DemuxTable.{at_port, demux_out, id_of_write, is_open_write, take_below}
 use Rattle.demux_node.specs.DemuxTrail.{DemuxKeeps, closed_write, demux_kind, open_write, read_lower, read_port, route_of_held, write_lower, write_port}
-use Rattle.demux_node.specs.declared.route.Route.{Route}
 use Rattle.demux_node.specs.declared.route.WriteRoute.{WriteRoute}
 use Rattle.flight.specs.Entries.{place_of}
 use Rattle.node_core.specs.Acted.{no_moves}

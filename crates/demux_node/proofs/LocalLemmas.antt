@@ -1,6 +1,6 @@
 -- What a demux does wherever it can.
-use Rattle.std.proofs.Common.{◌≡◌, ◌<◌, ◌≤◌, ◌==◌, ℕ, Bool, true, false, cond, List, [], ◌∷◌, ◌++◌, Option, None, Some, length, map, take, refl, sym, ◌∙◌, ap, ap₂, subst, arith, append-nil}
-use Rattle.std.specs.Prelude.{All, Contains, IfSome, IsSome, IsTrue, find, flat_map, is_some, remove, slice_get}
+use Rattle.std.proofs.Common.{◌≡◌, ◌<◌, ◌≤◌, ℕ, Bool, true, false, cond, List, [], ◌∷◌, ◌++◌, Option, None, Some, length, map, take, refl, sym, ◌∙◌, ap, subst, arith, append-nil}
+use Rattle.std.specs.Prelude.{All, Contains, IfSome, IsSome, IsTrue, find, flat_map, is_some, slice_get}
 use Rattle.std.specs.Option.{option_and_then, option_map, option_map_or}
 use Rattle.std.proofs.lemmas.Bool.{lt-ltb}
 use Rattle.std.proofs.lemmas.List.{length-map, map-append}
@@ -27,8 +27,8 @@ use Rattle.demux_node.proofs.RowLemmas.{ar-is, aw-is, w-is}
 use Rattle.demux_node.proofs.TableLemmas.{routes-after_w}
 use Rattle.demux_node.proofs.TakeLemmas.{at-is, data-moves, ids-of_routes, read-moves, read_data-moves, response-moves, write-moves}
 use Rattle.demux_node.specs.DemuxLaws.{demux_inside, read_entries, write_entries}
-use Rattle.demux_node.specs.DemuxState.{DemuxShape, DemuxState, IsDemux, lower_of, port_for, route_of}
-use Rattle.demux_node.specs.DemuxTable.{at_port, demux_above, demux_ar, demux_aw, demux_b, demux_r, demux_w, id_of_route, id_of_write, is_open_write, put_below, reads_after_ar, reads_after_r, take_below, writes_after_aw, writes_after_b, writes_after_w}
+use Rattle.demux_node.specs.DemuxState.{DemuxShape, DemuxState, lower_of, port_for, route_of}
+use Rattle.demux_node.specs.DemuxTable.{at_port, demux_ar, demux_aw, demux_b, demux_r, demux_w, id_of_route, id_of_write, is_open_write, put_below, reads_after_ar, reads_after_r, take_below, writes_after_aw, writes_after_b, writes_after_w}
 use Rattle.demux_node.specs.DemuxTrail.{DemuxKeeps, closed_write, demux_kind, open_write, write_lower, write_port}
 use Rattle.demux_node.specs.declared.route.Route.{Route}
 use Rattle.demux_node.specs.declared.route.WriteRoute.{WriteRoute}

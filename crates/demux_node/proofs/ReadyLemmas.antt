@@ -1,7 +1,7 @@
 -- The ports that offer an answer, as the bits of a number.
-use Rattle.std.proofs.Common.{◌&&◌, ◌+◌, ◌<◌, ◌==◌, ◌∙◌, ◌≡◌, ◌≤◌, Bool, List, None, Option, Some, ap, arith, eq-eqb, false, inl, inr, length, refl, sym, true, ℕ}
+use Rattle.std.proofs.Common.{◌&&◌, ◌+◌, ◌==◌, ◌∙◌, ◌≡◌, ◌≤◌, Bool, List, Option, ap, arith, eq-eqb, false, inl, inr, length, refl, sym, true, ℕ}
 use Rattle.std.specs.Option.{option_map_or}
-use Rattle.std.specs.Prelude.{◌||◌, is_some, map, nat_lt, slice_get}
+use Rattle.std.specs.Prelude.{◌||◌, is_some, map, nat_lt}
 use Rattle.std.proofs.lemmas.Bool.{cases_eq, cases_lt, le-ltb, lt-ltb, ne_eqb}
 use Rattle.std.proofs.lemmas.Option.{slice_get_past}
 use Rattle.axi_beats.specs.declared.beat.BBeat.{BBeat}

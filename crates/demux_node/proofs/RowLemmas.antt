@@ -1,6 +1,6 @@
 -- What the rows of a demux tell.
-use Rattle.std.proofs.Common.{◌≡◌, ◌<◌, ◌==◌, ℕ, suc, Bool, true, false, cond, List, [], ◌∷◌, Option, None, Some, length, map, refl, sym, ◌∙◌, ap, subst, arith, eq-eqb}
-use Rattle.std.specs.Prelude.{◌&&◌, All, Contains, find, not, slice_get, unwrap_or, is_some, option_map}
+use Rattle.std.proofs.Common.{◌≡◌, ◌<◌, ◌==◌, ℕ, suc, Bool, true, false, List, [], ◌∷◌, Option, None, Some, length, map, refl, sym, ◌∙◌, ap, subst, arith, eq-eqb}
+use Rattle.std.specs.Prelude.{◌&&◌, All, Contains, find, not, slice_get, unwrap_or, option_map}
 use Rattle.std.specs.List.{list_any}
 use Rattle.std.specs.Option.{option_and_then, option_map_or}
 use Rattle.std.proofs.lemmas.Bool.{and_parts, eqb-true, ltb-true, or_parts}
@@ -16,7 +16,7 @@ use Rattle.demux_node.specs.DemuxState.{DemuxShape, DemuxState, lower_of, port_f
 use Rattle.demux_node.specs.DemuxTable.{ar_port, at_port, aw_port, b_port, by_port, demux_above, demux_ar, demux_aw, demux_b, demux_r, demux_w, is_elsewhere, is_open_elsewhere, is_open_write, is_write_elsewhere, offered_b, offered_r, offers_b, offers_r, open_port, r_port, takes_read, takes_write, w_port}
 use Rattle.demux_node.specs.declared.route.Route.{Route}
 use Rattle.demux_node.specs.declared.route.WriteRoute.{WriteRoute}
-use Rattle.node_core.specs.Rows.{beat_where, fits, put_of}
+use Rattle.node_core.specs.Rows.{beat_where, fits}
 use Rattle.node_core.specs.Turn.{first_in_turn}
 
 -- a head is the first of its queue

@@ -1,5 +1,5 @@
 -- One more round, channel by channel, over plain lists.
-use Rattle.std.proofs.Common.{◌≡◌, ◌<◌, ◌≤◌, ◌==◌, ℕ, Bool, true, false, cond, List, [], ◌∷◌, ◌++◌, length, map, take, refl, sym, ◌∙◌, ap, ap₂, subst, inl, inr, arith, append-nil, eq-eqb, Contains}
+use Rattle.std.proofs.Common.{◌≡◌, ◌<◌, ◌==◌, ℕ, Bool, true, cond, List, [], ◌∷◌, ◌++◌, length, map, take, refl, sym, ◌∙◌, ap, ap₂, subst, inl, inr, arith, append-nil, eq-eqb, Contains}
 use Rattle.std.specs.Prelude.{All, Option, Some, None, find, is_some}
 use Rattle.std.proofs.lemmas.Bool.{cases_eq, ne_eqb}
 use Rattle.std.proofs.lemmas.List.{length-map, map-append, take_at}
@@ -25,7 +25,7 @@ use Rattle.demux_node.proofs.HeldLemmas.{answer-goes, answer-held, entry-here, h
 use Rattle.demux_node.proofs.OpenLemmas.{address-goes, beat-number, data-goes, first-open, response-goes}
 use Rattle.demux_node.proofs.RowLemmas.{KeepToPort}
 use Rattle.demux_node.specs.DemuxState.{DemuxShape, HaveOnePort, lower_of, port_for, route_of}
-use Rattle.demux_node.specs.DemuxTable.{close_oldest, id_of_route, id_of_write, is_open_write, put_above, put_below, reads_after_ar, reads_after_r, take_below, writes_after_aw, writes_after_b, writes_after_w}
+use Rattle.demux_node.specs.DemuxTable.{id_of_route, id_of_write, is_open_write, put_above, put_below, reads_after_ar, reads_after_r, take_below, writes_after_aw, writes_after_b, writes_after_w}
 use Rattle.demux_node.specs.DemuxTrail.{GoByPort, OpenArePending, RoutesAreHeld, closed_write, open_write, port_of_parts, read_lower, read_port, route_of_held, write_lower, write_port}
 use Rattle.demux_node.specs.declared.route.Route.{Route}
 use Rattle.demux_node.specs.declared.route.WriteRoute.{WriteRoute}

@@ -1,6 +1,6 @@
 -- A demux's table, of every state and all links.
-use Rattle.std.proofs.Common.{◌≡◌, ◌<◌, ◌≤◌, ◌==◌, ◌+◌, ◌-◌, ℕ, Bool, true, false, cond, List, [], ◌∷◌, ◌++◌, Option, None, Some, length, map, refl, sym, ◌∙◌, ap, subst, arith, inl, inr, length-append}
-use Rattle.std.specs.Prelude.{◌||◌, All, Contains, IfSome, IsTrue, is_some, slice_get}
+use Rattle.std.proofs.Common.{◌≡◌, ◌<◌, ◌≤◌, ◌==◌, ◌-◌, ℕ, Bool, true, false, cond, List, [], ◌∷◌, ◌++◌, Option, None, Some, length, map, refl, sym, ◌∙◌, ap, subst, arith, inl, inr, length-append}
+use Rattle.std.specs.Prelude.{◌||◌, All, Contains, IfSome, IsTrue, is_some}
 use Rattle.std.proofs.lemmas.Bool.{ltb-true}
 use Rattle.std.proofs.lemmas.List.{length-map, map-append}
 use Rattle.std.proofs.lemmas.List.Elements.{All-cons, All-contains, All-contains_itself, All-head, All-nil, All-tail, All-weaker, Contains-push_cases}
@@ -10,16 +10,15 @@ use Rattle.axi_beats.specs.declared.beat.BBeat.{BBeat}
 use Rattle.axi_beats.specs.declared.beat.RBeat.{RBeat}
 use Rattle.axi_link.specs.LinkView.{LinkView, empty_link}
 use Rattle.axi_link.specs.LinkWords.{has_room, link_of}
-use Rattle.axi_link.specs.declared.out.Out.{Out}
 use Rattle.demux_node.proofs.PortLemmas.{port-within}
 use Rattle.demux_node.proofs.RowLemmas.{KeepToPort, OpenKeepToPort, all-map, ar-is, aw-is, b-is, b-turn, r-is, r-turn, room-there, w-is, waits-there}
 use Rattle.demux_node.specs.DemuxState.{DemuxShape, DemuxState, HaveOnePort, IsDemux, IsDemuxShape, IsPortTurn, OpenHaveOnePort, lower_of, new_demux, route_of}
-use Rattle.demux_node.specs.DemuxTable.{at_port, close_oldest, demux_ar, demux_aw, demux_b, demux_next, demux_out, demux_r, demux_table, demux_w, id_of_route, id_of_write, offers_b, offers_r, put_above, put_below, reads_after_ar, reads_after_r, take_below, turn_after, writes_after_aw, writes_after_b, writes_after_w}
-use Rattle.demux_node.specs.DemuxTrail.{IsNewDemux, demux_kind}
+use Rattle.demux_node.specs.DemuxTable.{at_port, close_oldest, demux_ar, demux_aw, demux_b, demux_next, demux_out, demux_r, demux_w, id_of_route, id_of_write, offers_b, offers_r, put_above, put_below, reads_after_ar, reads_after_r, take_below, turn_after, writes_after_aw, writes_after_b, writes_after_w}
+use Rattle.demux_node.specs.DemuxTrail.{demux_kind}
 use Rattle.demux_node.specs.declared.route.Route.{Route}
 use Rattle.demux_node.specs.declared.route.WriteRoute.{WriteRoute}
 use Rattle.node_core.proofs.TurnLemmas.{picked-is_ready}
-use Rattle.node_core.specs.Acted.{Acted, no_moves, opened}
+use Rattle.node_core.specs.Acted.{opened}
 use Rattle.node_core.specs.Fits.{MovesFit, PutFits, TakeFits}
 use Rattle.node_core.specs.Rows.{take_of}
 use Rattle.node_core.specs.Turn.{TurnState, first_in_turn}

@@ -1,7 +1,6 @@
 -- Where a row of a demux can be done, it is done.
-use Rattle.std.proofs.Common.{◌≡◌, ◌<◌, ◌==◌, ℕ, zero, suc, Bool, true, false, cond, List, [], ◌∷◌, Option, None, Some, length, map, refl, sym, ◌∙◌, ap, ap₂, subst, arith, eq-eqb}
-use Rattle.std.specs.Prelude.{◌&&◌, Contains, IsSome, find, is_some, not, slice_get, unwrap_or}
-use Rattle.std.specs.List.{list_any}
+use Rattle.std.proofs.Common.{◌≡◌, ◌<◌, ◌==◌, ℕ, zero, suc, Bool, true, false, cond, List, [], ◌∷◌, Option, None, Some, length, map, refl, sym, ◌∙◌, ap, ap₂, arith, eq-eqb}
+use Rattle.std.specs.Prelude.{◌&&◌, Contains, find, is_some, slice_get}
 use Rattle.std.specs.Option.{option_and_then, option_map, option_map_or}
 use Rattle.axi_beats.specs.declared.beat.Addr.{Addr}
 use Rattle.axi_beats.specs.declared.beat.WBeat.{WBeat}
@@ -9,14 +8,13 @@ use Rattle.axi_beats.specs.declared.beat.BBeat.{BBeat}
 use Rattle.axi_beats.specs.declared.beat.RBeat.{RBeat}
 use Rattle.axi_link.specs.LinkView.{LinkView, empty_link}
 use Rattle.axi_link.specs.LinkWords.{has_room, head_of, link_of}
-use Rattle.demux_node.proofs.AnswerLemmas.{lower-at}
-use Rattle.demux_node.specs.DemuxState.{DemuxShape, DemuxState, IsDemux, lower_of, port_for, route_of}
-use Rattle.demux_node.specs.DemuxTable.{ar_port, at_port, aw_port, by_port, demux_above, demux_ar, demux_aw, demux_b, demux_r, demux_w, id_of_route, id_of_write, is_open_write, offered_b, offered_r, offers_b, offers_r, open_port, takes_read, takes_write, w_port}
+use Rattle.demux_node.specs.DemuxState.{DemuxShape, DemuxState, IsDemux, port_for, route_of}
+use Rattle.demux_node.specs.DemuxTable.{at_port, by_port, demux_above, demux_ar, demux_aw, demux_b, demux_r, demux_w, id_of_route, id_of_write, is_open_write, offers_b, offers_r, open_port, takes_read, takes_write}
 use Rattle.demux_node.specs.declared.route.Route.{Route}
 use Rattle.demux_node.specs.declared.route.WriteRoute.{WriteRoute}
 use Rattle.flight.specs.Entries.{place_of}
 use Rattle.node_core.proofs.TurnLemmas.{picked-is_ready, ready-is_picked}
-use Rattle.node_core.specs.Rows.{beat_where, put_of}
+use Rattle.node_core.specs.Rows.{beat_where}
 use Rattle.node_core.specs.Turn.{IsTurn, TurnState, first_in_turn}
 
 -- an entry of an ID has a place

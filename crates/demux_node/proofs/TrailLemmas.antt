@@ -1,7 +1,6 @@
 -- What a demux has passed on its links.
-use Rattle.std.proofs.Common.{◌≡◌, ◌≢◌, ◌<◌, ◌==◌, ℕ, Bool, true, false, List, [], ◌∷◌, ◌++◌, Option, None, Some, length, map, take, refl, sym, ◌∙◌, ap, ap₂, subst, arith, Contains}
-use Rattle.std.specs.Prelude.{All, is_some}
-use Rattle.std.proofs.lemmas.List.{map-append}
+use Rattle.std.proofs.Common.{◌≡◌, ◌<◌, ℕ, List, [], ◌∷◌, ◌++◌, Option, Some, length, map, take, refl, sym, ◌∙◌, ap, subst, arith, Contains}
+use Rattle.std.specs.Prelude.{All}
 use Rattle.std.proofs.lemmas.List.Elements.{All-contains}
 use Rattle.axi_beats.specs.declared.beat.Addr.{Addr}
 use Rattle.axi_beats.specs.declared.beat.WBeat.{WBeat}
@@ -12,13 +11,13 @@ use Rattle.axi_link.specs.LinkWords.{link_of}
 use Rattle.axi_trail.specs.LinkContracts.{Answers, Asks, Requests}
 use Rattle.axi_trail.specs.Schedule.{Progress, Schedule, Share}
 use Rattle.axi_trail.specs.Trail.{Beats, Trail, joined, moved_above, moved_below, no_beats, seen_above}
-use Rattle.axi_trail.specs.Words.{Asked, InOrderOfId, Reply, burst_asked, completed, mark_of_data, marks, marks_of, number_of_address, number_of_data, number_of_read_data, number_of_response, read_reply, write_asked, write_reply}
+use Rattle.axi_trail.specs.Words.{InOrderOfId, burst_asked, completed, mark_of_data, marks, marks_of, number_of_address, number_of_data, number_of_read_data, number_of_response, read_reply, write_asked, write_reply}
 use Rattle.demux_node.proofs.RowLemmas.{ar-is, aw-is, b-is, r-is, w-is, waits-there}
 use Rattle.demux_node.proofs.StepLemmas.{ar-step, aw-step, b-step, port-is, put-above, r-step, row_beats, sent-on, taken-above, taken-below, w-step}
 use Rattle.demux_node.proofs.TableLemmas.{all-after_r, earlier-writes, earlier_reads, found-there, keep-earlier, routes-after_w}
-use Rattle.demux_node.specs.DemuxState.{DemuxShape, DemuxState, HaveOnePort, IsDemux, lower_of, new_demux, route_of}
+use Rattle.demux_node.specs.DemuxState.{DemuxShape, DemuxState, HaveOnePort, IsDemux, lower_of}
 use Rattle.demux_node.specs.DemuxTable.{demux_above, demux_ar, demux_aw, demux_b, demux_next, demux_out, demux_r, demux_w, reads_after_r, writes_after_b, writes_after_w}
-use Rattle.demux_node.specs.DemuxTrail.{DemuxKeeps, IsNewDemux, RoutesAreHeld, demux_kind, read_lower, read_port, write_lower, write_port}
+use Rattle.demux_node.specs.DemuxTrail.{DemuxKeeps, RoutesAreHeld, demux_kind, read_lower, read_port, write_lower, write_port}
 use Rattle.demux_node.specs.declared.route.Route.{Route}
 use Rattle.node_shape.proofs.OneLinkLemmas.{of-one}
 use Rattle.node_shape.specs.KindLaws.{Lasts, MayDecide, Opens}

@@ -1,17 +1,17 @@
 -- How transactions go through a demux: each as it is, by the port of its addresses.
-use Rattle.std.proofs.Common.{◌≡◌, ◌<◌, ◌-◌, ◌/◌, ℕ, Bool, true, false, List, [], ◌∷◌, length, Option, Some, None, refl, sym, ◌∙◌, ap, subst, inl, inr, arith}
+use Rattle.std.proofs.Common.{◌≡◌, ◌<◌, ◌-◌, ℕ, Bool, true, false, List, [], ◌∷◌, length, Option, Some, None, refl, sym, ◌∙◌, ap, subst, inl, inr, arith}
 use Rattle.std.specs.List.{list_any}
 use Rattle.std.specs.Prelude.{◌⊎◌, All, Contains, slice_get, unwrap_or}
 use Rattle.std.proofs.lemmas.List.Elements.{All-cons, All-contains, All-head, All-nil, All-tail, All-weaker}
 use Rattle.std.proofs.lemmas.Option.{get_or_from_slice_get, slice_get_within}
 use Rattle.address_map.proofs.PortLemmas.{page-port}
-use Rattle.address_map.specs.Regions.{is_bad_region, serving_port}
+use Rattle.address_map.specs.Regions.{is_bad_region}
 use Rattle.axi_beats.specs.declared.beat.Addr.{Addr}
 use Rattle.axi_trail.specs.Schedule.{SameChain, Schedule, Share, no_share}
 use Rattle.burst_address.specs.Legal.{page}
 use Rattle.demux_node.proofs.AnswerLemmas.{lower-at, lower-among, port_of_parts-within}
-use Rattle.demux_node.specs.DemuxState.{DemuxShape, DemuxState, IsDemuxShape, lower_of, port_for}
-use Rattle.demux_node.specs.DemuxTrail.{GoByPort, IsSoundDemux, demux_kind, lower_of_parts, port_of_parts}
+use Rattle.demux_node.specs.DemuxState.{DemuxShape, DemuxState, IsDemuxShape, port_for}
+use Rattle.demux_node.specs.DemuxTrail.{GoByPort, demux_kind, lower_of_parts, port_of_parts}
 use Rattle.node_shape.proofs.FormLemmas.{bytes-alike, carried-alike}
 use Rattle.node_shape.proofs.OneLinkLemmas.{is-one, of-one}
 use Rattle.node_shape.proofs.OneUpperLemmas.{ComesBy, StaysAway, chain-on, one-upper, share_on}

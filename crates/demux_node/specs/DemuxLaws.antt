@@ -1,9 +1,8 @@
 -- What the laws of all kinds read of a demux.
-use Rattle.std.specs.Prelude.{◌∷◌, [], ℕ, Bool, true, false, Option, Some, None, find, is_some, map, if◌then◌else◌}
+use Rattle.std.specs.Prelude.{◌∷◌, [], ℕ, true, false, None, find, is_some, map, if◌then◌else◌}
 use Rattle.std.specs.Option.{option_and_then, option_map, option_map_or}
 use Rattle.axi_beats.specs.declared.beat.RBeat.{RBeat}
 use Rattle.axi_beats.specs.declared.beat.BBeat.{BBeat}
-use Rattle.axi_link.specs.LinkView.{LinkView}
 use Rattle.demux_node.specs.DemuxState.{DemuxState, lower_of, port_for, route_of}
 use Rattle.demux_node.specs.DemuxTable.{demux_b, demux_r, id_of_route, id_of_write, is_open_write}
 use Rattle.demux_node.specs.DemuxTrail.{demux_kind}

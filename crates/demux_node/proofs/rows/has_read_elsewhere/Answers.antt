@@ -1,6 +1,4 @@
-use Rattle.std.proofs.Common.{◌∙◌, sym, ap, add-one, length, take, arith}
-use Rattle.std.proofs.lemmas.List.{take_all}
-use Rattle.std.specs.List.{list_any}
+use Rattle.std.proofs.Common.{◌∙◌, sym}
 use Rattle.demux_node.specs.DemuxTable.{is_elsewhere}
 use Rattle.demux_node.proofs.MoveLemmas.{any_here, any_past}
 use Rattle.demux_node.proofs.rows.has_read_elsewhere.Goals as goal

@@ -1,4 +1,4 @@
-use Rattle.std.proofs.Common.{◌≡◌, ◌==◌, ◌∙◌, Bool, Option, ap, sym, ℕ}
+use Rattle.std.proofs.Common.{◌==◌, ◌∙◌, Bool, ap, sym, ℕ}
 use Rattle.std.specs.Int.{bit_at}
 use Rattle.axi_link.specs.LinkView.{LinkView}
 use Rattle.axi_link.specs.LinkWords.{has_room}

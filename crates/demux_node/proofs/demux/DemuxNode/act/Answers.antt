@@ -1,4 +1,4 @@
-use Rattle.std.proofs.Common.{◌≡◌, ◌<◌, ◌∙◌, ap, ap₂, length, refl, subst, sym, List, Option, ℕ}
+use Rattle.std.proofs.Common.{◌≡◌, ◌<◌, ◌∙◌, ap, ap₂, length, subst, sym, List, Option, ℕ}
 use Rattle.std.specs.Option.{option_copied}
 use Rattle.std.specs.Prelude.{is_some}
 use Rattle.axi_beats.specs.declared.beat.Addr.{Addr}
@@ -17,7 +17,6 @@ use Rattle.demux_node.specs.declared.route.Route.{Route}
 use Rattle.demux_node.specs.declared.route.WriteRoute.{WriteRoute}
 use Rattle.node_core.specs.Acted.{Acted}
 use Rattle.node_core.specs.Rows.{take_of}
-use Rattle.node_core.specs.Turn.{TurnState}
 use Rattle.demux_node.proofs.demux.DemuxNode.act.Goals as goal
 
 pub w_port-w-requires-clause-ports : goal.w_port-w-requires-clause-ports
