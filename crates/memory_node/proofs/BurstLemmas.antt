@@ -18,11 +18,10 @@ use Rattle.memory_node.specs.Status.{may_read, may_write}
 use Rattle.memory_node.specs.Store.{line_number}
 use Rattle.memory_node.specs.MemoryArea.{IsMemoryArea, MemoryArea, is_inside}
 use Rattle.memory_node.proofs.BeatLemmas.{is_inside-lane}
-use Rattle.plain_lists.proofs.RangeLemmas.{range-below, range-split}
 use Rattle.burst_address.proofs.LaneBytes.{beats-in_lines, lanes-are_bytes}
 use Rattle.burst_address.proofs.Strobes.{strobed-are_written}
 use Rattle.burst_address.proofs.Widths.{width-bounds, word-in_line}
-use Rattle.burst_address.specs.Lanes.{lane_address, lane_bytes, strobed_lanes, valid_lanes, word_address}
+use Rattle.burst_address.specs.Lanes.{lane_address, strobed_lanes, valid_lanes, word_address}
 use Rattle.burst_address.specs.LaneLaws.{AllStrobeValidLanes, StrobesValidLanes}
 
 module _ (area : MemoryArea) (lines : List ℕ) (a : Addr) (is : IsMemoryArea area) (legal : IsLegal a area.bus) where

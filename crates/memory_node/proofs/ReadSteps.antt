@@ -1,5 +1,5 @@
 -- The read channels of a memory in a round: the order of what is put, and what is read for it.
-use Rattle.std.proofs.Common.{◌≡◌, ℕ, ◌+◌, ◌≤◌, ◌==◌, suc, Bool, true, false, cond, List, [], ◌∷◌, ◌++◌, Option, Some, None, length, map, drop, refl, sym, ◌∙◌, ap, subst, arith, append-nil, length-append}
+use Rattle.std.proofs.Common.{◌≡◌, ℕ, ◌+◌, ◌≤◌, ◌==◌, suc, Bool, true, false, cond, List, [], ◌∷◌, ◌++◌, Option, Some, None, length, map, refl, sym, ◌∙◌, ap, subst, arith, append-nil, length-append}
 use Rattle.std.specs.Prelude.{All, option_map}
 use Rattle.std.proofs.lemmas.List.{length-map, map-append}
 use Rattle.std.proofs.lemmas.List.Elements.{All-head}
@@ -10,7 +10,7 @@ use Rattle.axi_link.specs.LinkWords.{head_of}
 use Rattle.axi_trail.specs.LinkContracts.{WholeBeforeTheNext, without_id}
 use Rattle.axi_trail.specs.Schedule.{Schedule}
 use Rattle.axi_trail.specs.Waiting.{advanced, beats_by, pending, waiting_shown}
-use Rattle.axi_trail.specs.Words.{Mark, Reply, burst_asked, len_of_asked, mark_of_reply, marks, marks_of, next_mark, next_reply, number_of_address, number_of_asked, number_of_mark, number_of_read_data, number_of_reply, pending_asked, read_reply}
+use Rattle.axi_trail.specs.Words.{Mark, burst_asked, len_of_asked, mark_of_reply, marks, marks_of, next_mark, next_reply, number_of_address, number_of_asked, number_of_mark, number_of_read_data, number_of_reply, pending_asked, read_reply}
 use Rattle.axi_trail.proofs.FilterFacts.{length-marks}
 use Rattle.axi_trail.proofs.StepFacts.{next_goes_on, pending-shown}
 use Rattle.axi_trail.proofs.WaitingFacts.{pending-beat, pending-request}

@@ -1,11 +1,9 @@
 -- A memory's table, of every state and all links.
-use Rattle.std.proofs.Common.{◌≡◌, ◌*◌, ◌<◌, ℕ, suc, List, [], ◌∷◌, length, refl, sym, ap, subst}
+use Rattle.std.proofs.Common.{◌*◌, ◌<◌, ℕ, suc, List, length, refl, sym, ap, subst}
 use Rattle.std.specs.Prelude.{AllPairs}
 use Rattle.std.proofs.lemmas.List.{length-replicate}
 use Rattle.std.proofs.lemmas.List.Elements.{All-nil}
 use Rattle.axi_link.specs.LinkView.{LinkView}
-use Rattle.axi_link.specs.declared.out.Out.{Out}
-use Rattle.memory_node.specs.Events.{Access}
 use Rattle.memory_node.specs.MemoryArea.{IsMemoryArea, MemoryArea}
 use Rattle.memory_node.specs.MemoryLaws.{memory_paced}
 use Rattle.memory_node.specs.MemoryState.{IsMemory, IsReadEntry, IsWriteEntry, MemoryState, new_memory}

@@ -1,6 +1,6 @@
 -- A memory over what it has passed on its link and accessed.
-use Rattle.std.proofs.Common.{◌≡◌, ◌<◌, ◌≤◌, ◌*◌, ◌^◌, ℕ, zero, suc, Bool, true, false, List, [], ◌∷◌, ◌++◌, Option, Some, None, length, map, take, drop, replicate, get_or, refl, sym, ◌∙◌, ap, subst, arith, IsTrue, append_assoc}
-use Rattle.std.specs.Prelude.{All, IfSome, flat_map, is_some, nat_lt, option_map, slice_get, unwrap_or}
+use Rattle.std.proofs.Common.{◌≡◌, ◌<◌, ◌*◌, ◌^◌, ℕ, zero, suc, false, List, [], ◌∷◌, ◌++◌, Option, Some, None, length, map, take, drop, replicate, get_or, refl, sym, ◌∙◌, ap, subst, arith, append_assoc}
+use Rattle.std.specs.Prelude.{All, IfSome, flat_map, is_some, slice_get, unwrap_or}
 use Rattle.std.specs.Option.{option_and_then}
 use Rattle.std.proofs.lemmas.Grind.{flat_map-append}
 use Rattle.std.proofs.lemmas.List.{get_or-map, length-map, take-append-drop, take_all}
@@ -12,18 +12,17 @@ use Rattle.axi_beats.specs.declared.beat.WBeat.{WBeat}
 use Rattle.axi_link.specs.LinkView.{LinkView}
 use Rattle.axi_link.specs.LinkWords.{head_of, link_of}
 use Rattle.axi_trail.specs.LinkContracts.{Answers, Asks, without_id}
-use Rattle.axi_trail.specs.Schedule.{Progress, Schedule}
+use Rattle.axi_trail.specs.Schedule.{Schedule}
 use Rattle.axi_trail.specs.Trail.{Beats, no_beats, seen_below}
-use Rattle.axi_trail.specs.Words.{burst_asked, marks, marks_of, number_of_address, number_of_data, number_of_read_data}
-use Rattle.burst_address.specs.Accesses.{answered_bytes, value_after}
+use Rattle.axi_trail.specs.Words.{number_of_address, number_of_data, number_of_read_data}
+use Rattle.burst_address.specs.Accesses.{answered_bytes}
 use Rattle.memory_node.specs.Accesses.{accesses_of, allowed_bytes}
 use Rattle.memory_node.specs.Events.{Access, beat_reads, beat_writes, memory_events}
 use Rattle.memory_node.specs.MemoryArea.{MemoryArea}
 use Rattle.memory_node.specs.MemoryState.{AreLinesAmong, IsRequest, MemoryState, new_memory}
 use Rattle.memory_node.specs.MemoryTable.{memory_next, memory_service}
-use Rattle.memory_node.specs.MemoryTrail.{AnswersInOrder, HasAccessed, MemoryKeeps, SuitsMemory, memory_kind}
+use Rattle.memory_node.specs.MemoryTrail.{AnswersInOrder, HasAccessed, SuitsMemory, memory_kind}
 use Rattle.memory_node.specs.Store.{Store, byte_at, byte_place, new_store}
-use Rattle.node_core.specs.Rows.{beat_where}
 use Rattle.node_shape.specs.Kind.{passed_after}
 use Rattle.node_shape.specs.KindLaws.{AnswersAbove, AsksBelow, Lasts, MayDecide, Opens}
 use Rattle.node_shape.specs.WayLaws.{FillsAtEnds}
@@ -33,8 +32,8 @@ use Rattle.plain_lists.specs.Prefixes.{IsPrefix}
 use Rattle.plain_lists.proofs.KeyLemmas.{of_key-push}
 use Rattle.plain_lists.proofs.PrefixLemmas.{All_front, prefix_nil, prefix_of_same, prefix_same, prefix_trans}
 use Rattle.subordinate.specs.Parts.{BeatOf, beats_of_parts}
-use Rattle.subordinate.specs.SubordinateTable.{after_b, after_r, its_rows, kept_after_w, kept_with, moved_ar, moved_aw, moved_b, moved_r, moved_w, oldest_lacking, serves}
-use Rattle.subordinate.specs.Tracks.{IsService, KeepsOrder, TracksReads, TracksWrites}
+use Rattle.subordinate.specs.SubordinateTable.{after_b, after_r, its_rows, kept_after_w, kept_with, moved_ar, moved_aw, moved_b, moved_r, moved_w, oldest_lacking}
+use Rattle.subordinate.specs.Tracks.{IsService, KeepsOrder}
 use Rattle.subordinate.specs.declared.entry.WriteEntry.{WriteEntry}
 use Rattle.subordinate.proofs.OrderAnswers.{answers-order}
 use Rattle.subordinate.proofs.ReadOrder.{reads-none}

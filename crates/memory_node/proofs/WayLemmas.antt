@@ -1,5 +1,5 @@
 -- How transactions end at a memory.
-use Rattle.std.proofs.Common.{◌≡◌, ◌<◌, ◌^◌, ℕ, Bool, true, false, List, [], ◌∷◌, ◌++◌, length, map, Option, Some, None, refl, sym, ◌∙◌, ap, subst, arith}
+use Rattle.std.proofs.Common.{◌≡◌, ◌<◌, ◌^◌, ℕ, Bool, true, false, List, [], ◌∷◌, ◌++◌, map, Option, Some, None, refl, sym, ◌∙◌, ap, subst, arith}
 use Rattle.std.specs.Prelude.{All, Contains, flat_map, unwrap_or}
 use Rattle.std.specs.List.{range_with_len}
 use Rattle.std.proofs.lemmas.List.{map-append}
@@ -16,7 +16,7 @@ use Rattle.memory_node.specs.Accesses.{beat_span}
 use Rattle.memory_node.specs.MemoryArea.{MemoryArea}
 use Rattle.memory_node.specs.MemoryState.{IsRequest}
 use Rattle.memory_node.specs.MemoryTable.{memory_service}
-use Rattle.memory_node.specs.MemoryTrail.{SuitsMemory, memory_kind}
+use Rattle.memory_node.specs.MemoryTrail.{memory_kind}
 use Rattle.node_shape.specs.LinkForm.{FitsLink, LinkForm, wanted_lanes}
 use Rattle.node_shape.specs.WayLaws.{CutsFit, GoesBelow, HasWay, OriginsFit, WaysSuit}
 use Rattle.node_shape.specs.WaysAround.{IsCarried}

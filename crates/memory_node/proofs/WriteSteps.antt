@@ -10,7 +10,7 @@ use Rattle.axi_beats.specs.declared.beat.WBeat.{WBeat}
 use Rattle.axi_trail.specs.LinkContracts.{WholeBeforeTheNext, without_id}
 use Rattle.axi_trail.specs.Schedule.{Schedule}
 use Rattle.axi_trail.specs.Waiting.{Waiting, beats_by}
-use Rattle.axi_trail.specs.Words.{Mark, burst_asked, len_of_asked, mark_of_data, marks, number_of_address, number_of_asked, number_of_data, number_of_mark, write_asked}
+use Rattle.axi_trail.specs.Words.{burst_asked, len_of_asked, mark_of_data, marks, number_of_address, number_of_asked, number_of_data, number_of_mark, write_asked}
 use Rattle.axi_trail.proofs.PlaceFacts.{own_up_to}
 use Rattle.axi_trail.proofs.WaitingFacts.{pending-place}
 use Rattle.memory_node.specs.Beats.{stored_bytes, with_bytes}

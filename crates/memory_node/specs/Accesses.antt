@@ -1,5 +1,5 @@
 -- The accesses that are due of a transaction at a memory, beat by beat, and what they leave behind.
-use Rattle.std.specs.Prelude.{◌==◌, ◌&&◌, ℕ, List, Bool, map, filter, flat_map, take, zip}
+use Rattle.std.specs.Prelude.{◌==◌, ◌&&◌, ℕ, List, Bool, map, filter, flat_map, take}
 use Rattle.std.specs.Bool.{beq}
 use Rattle.axi_beats.specs.declared.beat.WBeat.{WBeat}
 use Rattle.axi_beats.specs.Lanes.{Span}

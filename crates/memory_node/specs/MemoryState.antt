@@ -1,5 +1,5 @@
 -- A memory as contracts see it between rounds: its state, and what holds of it.
-use Rattle.std.specs.Prelude.{◌≡◌, ◌<◌, ◌≤◌, ◌^◌, ℕ, List, Option, Some, None, IsTrue, All, Contains, if◌then◌else◌}
+use Rattle.std.specs.Prelude.{◌<◌, ◌≤◌, ◌^◌, ℕ, List, Option, Some, None, IsTrue, All, Contains, if◌then◌else◌}
 use Rattle.axi_beats.specs.declared.beat.Addr.{Addr}
 use Rattle.burst_address.specs.Lanes.{word_address}
 use Rattle.burst_address.specs.Legal.{IsLegal}

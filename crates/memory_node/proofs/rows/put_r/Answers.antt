@@ -1,4 +1,4 @@
-use Rattle.std.proofs.Common.{◌≡◌, ◌≢◌, ◌∙◌, ◌==◌, ◌<◌, ℕ, true, false, Option, Some, sym, ap, subst, arith, eq-eqb, true≢false}
+use Rattle.std.proofs.Common.{◌≡◌, ◌≢◌, ◌∙◌, ◌<◌, ℕ, true, false, Option, Some, sym, ap, subst, arith, eq-eqb, true≢false}
 use Rattle.std.specs.Prelude.{IfSome, IsSome, option_map}
 use Rattle.axi_beats.specs.declared.beat.RBeat.{RBeat}
 use Rattle.axi_link.specs.LinkWords.{head_of}

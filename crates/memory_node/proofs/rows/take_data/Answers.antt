@@ -7,9 +7,7 @@ use Rattle.axi_beats.specs.declared.response.Resp.{Resp}
 use Rattle.burst_address.specs.Formulas.{beats_of}
 use Rattle.memory_node.specs.MemoryState.{IsWriteEntry}
 use Rattle.memory_node.specs.MemoryTable.{memory_service}
-use Rattle.memory_node.specs.Store.{Store}
 use Rattle.plain_lists.proofs.PlaceLemmas.{at-has}
-use Rattle.subordinate.specs.Service.{Service}
 use Rattle.subordinate.specs.SubordinateTable.{kept_with, oldest_lacking, with_beat}
 use Rattle.subordinate.specs.declared.entry.WriteEntry.{WriteEntry}
 use Rattle.subordinate.proofs.EntryLemmas.{IsOldestLacking, oldest_lacking-at, with_data-none}

@@ -6,7 +6,7 @@ use Rattle.axi_beats.specs.declared.beat.BBeat.{BBeat}
 use Rattle.axi_beats.specs.declared.beat.RBeat.{RBeat}
 use Rattle.axi_beats.specs.declared.beat.WBeat.{WBeat}
 use Rattle.axi_link.specs.LinkView.{LinkView}
-use Rattle.axi_link.specs.LinkWords.{head_of, link_of}
+use Rattle.axi_link.specs.LinkWords.{head_of}
 use Rattle.node_core.specs.Acted.{Acted}
 use Rattle.node_core.specs.Pace.{is_let}
 use Rattle.node_core.specs.Paces.{paces_after, rows_let}
