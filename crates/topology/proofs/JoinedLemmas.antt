@@ -1,5 +1,5 @@
 -- What nodes name, by the places of names.
-use Rattle.std.proofs.Common.{◌≡◌, ◌<◌, ◌≤◌, ◌+◌, ◌++◌, ◌==◌, ◌&&◌, ◌||◌, ℕ, zero, suc, Bool, true, false, cond, not, List, [], ◌∷◌, Option, Some, None, Bor, get_or, length, map, take, refl, ap, ap₂, sym, ◌∙◌, subst, arith, append-nil, inl, inr}
+use Rattle.std.proofs.Common.{◌≡◌, ◌<◌, ◌≤◌, ◌+◌, ◌++◌, ◌==◌, ◌||◌, ℕ, zero, suc, Bool, true, false, cond, not, List, [], ◌∷◌, Option, Some, None, Bor, get_or, length, map, take, refl, ap, ap₂, sym, ◌∙◌, subst, arith, append-nil, inl, inr}
 use Rattle.std.specs.Prelude.{bytes_eq, filter, filter_map, find, is_none, nat_eq, nat_lt, slice_index_or, unwrap_or}
 use Rattle.std.specs.List.{cons_option, list_any, position_or_len}
 use Rattle.std.proofs.lemmas.List.{map-append, take_more}
@@ -209,9 +209,9 @@ beyond (list ∷ lists) (suc place) past = beyond lists place (omega (arith, pas
 pub graph-simple : (nodes : List DocumentNode) → IsSimple (graph_of nodes)
 graph-simple nodes = record {
   known = λ upper lower there.
-    let less : upper < length nodes = omega (arith, upper-known (graph_of nodes) upper lower there, graph-long nodes) in
-    let inside : lower < length nodes = target-known nodes (node_at nodes upper) lower (subst (λ (list : List ℕ). is_in list lower ≡ true) (below-targets nodes upper less) there) in
-    omega (arith, inside, graph-long nodes);
+      let less : upper < length nodes = omega (arith, upper-known (graph_of nodes) upper lower there, graph-long nodes) in
+      let inside : lower < length nodes = target-known nodes (node_at nodes upper) lower (subst (λ (list : List ℕ). is_in list lower ≡ true) (below-targets nodes upper less) there) in
+      omega (arith, inside, graph-long nodes);
   once = λ upper. elim (cases_lt upper (length nodes)) [
     | inl less ↦ ap repeats (below-targets nodes upper less) ∙ repeats-each_once (filter_map (named nodes) (names_of (node_at nodes upper)))
     | inr past ↦ let out : length (graph_of nodes) ≤ upper = omega (arith, past, graph-long nodes) in ap repeats (beyond (graph_of nodes) upper out) ∙ repeats-each_once []

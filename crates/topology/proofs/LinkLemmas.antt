@@ -153,7 +153,7 @@ links-more nodes links order place node link acyclic less at inside below has e 
     value : link ≡ capped (link_kind_of nodes node)
     value =
         e ∙ ap (λ (xs : List LinkKind). capped (link_below kind (node_at nodes node) xs))
-          (map-same (known_link links) (λ upper. capped (link_kind_of nodes upper)) uppers (λ upper there. has.each upper (below upper there)) ∙ sym (map-map capped (link_kind_of nodes) uppers))
+        (map-same (known_link links) (λ upper. capped (link_kind_of nodes upper)) uppers (λ upper there. has.each upper (below upper there)) ∙ sym (map-map capped (link_kind_of nodes) uppers))
         ∙ below-capped kind (node_at nodes node) (map (link_kind_of nodes) uppers)
         ∙ ap capped (sym (handed-local (graph_of nodes) (λ place links. link_below (node_at nodes place).kind (node_at nodes place) links) no_link acyclic node (subst (λ (n : ℕ). node < n) (sym (graph-long nodes)) inside)))
 

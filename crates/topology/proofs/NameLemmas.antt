@@ -1,10 +1,10 @@
 -- The names of nodes, one after the other.
-use Rattle.std.proofs.Common.{◌≡◌, ◌<◌, ◌+◌, ◌++◌, ◌||◌, ℕ, zero, suc, Bool, true, false, cond, List, [], ◌∷◌, Option, Some, None, Bor, get_or, length, map, take, not, refl, ap, ap₂, sym, ◌∙◌, subst, arith}
-use Rattle.std.specs.Prelude.{bytes_eq, position}
+use Rattle.std.proofs.Common.{◌≡◌, ◌<◌, ◌+◌, ◌++◌, ◌||◌, ℕ, Bool, true, false, List, [], ◌∷◌, Bor, length, take, not, refl, ap, ap₂, sym, ◌∙◌}
+use Rattle.std.specs.Prelude.{bytes_eq}
 use Rattle.std.specs.List.{list_any}
 use Rattle.std.proofs.lemmas.List.{map-append, take_more}
 use Rattle.std.proofs.lemmas.Slice.Eq.{bytes_eq-Decides}
-use Rattle.topology.specs.Document.{DocumentNode, named, node_at, node_of_kind}
+use Rattle.topology.specs.Document.{DocumentNode, node_at, node_of_kind}
 use Rattle.topology.specs.Joined.{node_names, texts}
 use Rattle.topology.specs.Refused.{is_duplicate}
 use Rattle.topology_text.specs.declared.kind.Kind.TheVariants.{Slice}

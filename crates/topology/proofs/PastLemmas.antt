@@ -1,5 +1,5 @@
 -- Causes of refusals, ruled out in order of code.
-use Rattle.std.proofs.Common.{◌≡◌, ◌<◌, ◌+◌, ◌-◌, ◌^◌, ◌≤◌, ℕ, Bool, true, false, cond, List, [], ◌∷◌, Option, Some, None, Ok, Err, length, refl, ap, ap₂, sym, ◌∙◌, subst, arith, min}
+use Rattle.std.proofs.Common.{◌≡◌, ◌<◌, ◌+◌, ◌-◌, ◌^◌, ℕ, Bool, true, false, cond, List, [], ◌∷◌, Option, Some, None, length, ap, ap₂, sym, ◌∙◌, subst, arith, min}
 use Rattle.std.specs.Prelude.{find, unwrap_or}
 use Rattle.node_graph.proofs.Members.{in-first, in-numbers, in-rest, numbers-in}
 use Rattle.node_graph.specs.Graph.{Graph, is_in, is_on_cycle, numbers}

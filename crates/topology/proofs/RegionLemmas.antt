@@ -1,11 +1,11 @@
 -- Regions of nodes, and their targets.
-use Rattle.std.proofs.Common.{◌≡◌, ◌<◌, ◌||◌, ◌&&◌, ℕ, Bool, true, false, List, [], ◌∷◌, Some, None, Vec, get_or, length, map, refl, ap, ap₂, sym, ◌∙◌, arith}
+use Rattle.std.proofs.Common.{◌≡◌, ◌<◌, ◌||◌, ℕ, Bool, true, false, List, [], ◌∷◌, None, length, map, refl, ap, ap₂, ◌∙◌}
 use Rattle.std.specs.Prelude.{find, unwrap_or}
 use Rattle.std.specs.List.{list_any}
 use Rattle.address_map.specs.Regions.{has_overlap, is_bad_region, is_bad_span, share_address}
 use Rattle.address_map.specs.declared.region.Region.{Region}
-use Rattle.topology.specs.Document.{DocumentNode, NamedRegion, is_memory, named, node_at}
-use Rattle.topology.specs.Refused.{has_bad_region, is_bad_range, regions_overlap, span_of}
+use Rattle.topology.specs.Document.{DocumentNode, NamedRegion, named, node_at}
+use Rattle.topology.specs.Refused.{has_bad_region, regions_overlap, span_of}
 use Rattle.topology.specs.Wiring.{regions_of}
 use Rattle.node_graph.proofs.Members.{numbers-in}
 use Rattle.node_graph.specs.Graph.{numbers}

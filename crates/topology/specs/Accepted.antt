@@ -33,4 +33,6 @@ LinksAreHandedDown =
 
 -- Where its nodes are formed, no link has IDs of more than 16 bits.
 abbrev pub LinksAreNarrow : Type 0
-LinksAreNarrow = (nodes : List DocumentNode) → IsAccepted nodes → AreFormed nodes → (place : ℕ) → place < length nodes → (link_kind_of nodes place).id_width ≤ 16
+LinksAreNarrow =
+    (nodes : List DocumentNode) → IsAccepted nodes → AreFormed nodes → (place : ℕ) → place < length nodes →
+    (link_kind_of nodes place).id_width ≤ 16

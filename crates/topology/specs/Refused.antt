@@ -1,5 +1,5 @@
 -- Which documents are refused. Each predicate is of the nodes and of one of them, by its number from 0.
-use Rattle.std.specs.Prelude.{◌≡◌, ◌==◌, ◌+◌, ◌%◌, ◌&&◌, ◌||◌, ℕ, suc, List, [], ◌∷◌, Bool, false, Option, Some, None, length, find, map, nat_lt, nat_le, not, bytes_eq, is_none, sum, take, if◌then◌else◌}
+use Rattle.std.specs.Prelude.{◌≡◌, ◌==◌, ◌+◌, ◌%◌, ◌&&◌, ◌||◌, ℕ, suc, List, [], ◌∷◌, Bool, Option, Some, None, length, find, map, nat_lt, not, bytes_eq, is_none, sum, take, if◌then◌else◌}
 use Rattle.std.specs.List.{list_any}
 use Rattle.address_map.specs.Regions.{has_overlap, is_bad_span}
 use Rattle.address_map.specs.declared.region.Region.{Region}
@@ -84,13 +84,15 @@ module _ (nodes : List DocumentNode) (place : ℕ) where
   -- or with it the plan has too many nodes or links.
   abbrev pub is_too_large : Bool
   is_too_large =
-      has_too_many || nat_lt 1024 (sum (map (plan_nodes_at nodes) (numbers (suc place)))) || nat_lt 4096 (sum (map (plan_links_at nodes) (numbers (suc place))))
+      has_too_many || nat_lt 1024 (sum (map (plan_nodes_at nodes) (numbers (suc place))))
+      || nat_lt 4096 (sum (map (plan_links_at nodes) (numbers (suc place))))
 
 -- the causes in order of code, each with its predicate
 abbrev pub checks : List (Cause × (List DocumentNode → ℕ → Bool))
 checks =
     (DuplicateName, is_duplicate) ∷ (UnknownName, names_unknown) ∷ (FanIn, has_fan_in) ∷ (Loose, is_loose) ∷ (Cycle, is_cyclic) ∷ (BadRegion, has_bad_region)
-    ∷ (Overlap, regions_overlap) ∷ (WidthMismatch, has_width_mismatch) ∷ (IdOverflow, has_id_overflow) ∷ (LiteMismatch, has_lite_mismatch) ∷ (TooLarge, is_too_large) ∷ []
+    ∷ (Overlap, regions_overlap) ∷ (WidthMismatch, has_width_mismatch) ∷ (IdOverflow, has_id_overflow)
+    ∷ (LiteMismatch, has_lite_mismatch) ∷ (TooLarge, is_too_large) ∷ []
 
 -- The first cause that holds of a node, with the first node that it holds of. A cause is asked for only where none of the
 -- earlier ones holds of any node.

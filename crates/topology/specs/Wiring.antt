@@ -1,15 +1,16 @@
 -- A wiring: the nodes of an accepted document, with what is found of them once.
-use Rattle.std.specs.Prelude.{◌≡◌, ◌&&◌, ℕ, List, Option, Vec, bytes_eq, length, map, position, unwrap_or, vec_items}
+use Rattle.std.specs.Prelude.{◌≡◌, ◌&&◌, ℕ, List, Option, Vec, bytes_eq, length, map, position, vec_items}
 use Rattle.std.specs.declared.alloc.Global.{Global}
 use Rattle.address_map.specs.declared.region.Region.{Region}
 use Rattle.node_graph.specs.Graph.{Graph, numbers}
-use Rattle.topology.specs.Document.{DocumentNode, LinkKind, NamedRegion, graph_of, is_manager, link_kind_of, named}
+use Rattle.topology.specs.Document.{DocumentNode, LinkKind, graph_of, is_manager, link_kind_of, named}
+use Rattle.topology.specs.Joined.{placed_region}
 use Rattle.topology.specs.Refused.{IsAccepted}
 use Rattle.topology_text.specs.Formed.{AreFormed}
 
 -- the regions of a node, each with its target
 abbrev pub regions_of : List DocumentNode → DocumentNode → List Region
-regions_of nodes node = map (λ (region : NamedRegion). record { base = region.base; size = region.size; port = unwrap_or (named nodes region.to) 0 }) node.region
+regions_of nodes node = map (placed_region (named nodes)) node.region
 
 -- the manager of a name
 abbrev pub manager_named : List DocumentNode → List ℕ → Option ℕ

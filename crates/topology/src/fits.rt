@@ -56,12 +56,8 @@ fn bus_differs(node: &Node, uppers: &[u32], links: &[LinkKind]) -> bool
         Kind::Memory => node.bus() != bus,
         Kind::Up => node.bus() <= bus,
         Kind::Down => bus <= node.bus(),
-        Kind::Manager
-        | Kind::LiteMemory
-        | Kind::Slice
-        | Kind::Demux
-        | Kind::Remap
-        | Kind::Lite => false,
+        Kind::Manager | Kind::LiteMemory | Kind::Slice | Kind::Demux | Kind::Remap | Kind::Lite =>
+            false,
     }
 }
 

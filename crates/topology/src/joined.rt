@@ -40,11 +40,7 @@ pub(crate) fn regions_of_nodes(
 }
 
 // The regions of a node.
-fn regions_of(
-    alloc: Global,
-    node: &Node,
-    names: &IndexSet<&str>,
-) -> Result<Vec<Region>, AllocError>
+fn regions_of(alloc: Global, node: &Node, names: &IndexSet<&str>) -> Result<Vec<Region>, AllocError>
     requires few { length names.now.keys < 2 ^ 32 }
     ensures { IfOk result (λ regions. regions.items ≡ map (placed_region (place_in names.now.keys)) node.now.region) }
 {
@@ -118,11 +114,7 @@ fn targets_at(
 }
 
 // The node that a node without regions names.
-fn target_of(
-    alloc: Global,
-    node: &Node,
-    names: &IndexSet<&str>,
-) -> Result<Vec<u32>, AllocError>
+fn target_of(alloc: Global, node: &Node, names: &IndexSet<&str>) -> Result<Vec<u32>, AllocError>
     requires few { length names.now.keys < 2 ^ 32 }
     ensures { IfOk result (λ below. below.items ≡ each_once (filter_map (place_in names.now.keys) (node.now.to ∷ []))) }
 {

@@ -29,7 +29,11 @@ pub(crate) fn kinds_of_links(
         return Ok(links);
     };
     for place in order.iter() {
-        let link = link_below(node_at(nodes, *place), graph.above(*place), links.as_slice());
+        let link = link_below(
+            node_at(nodes, *place),
+            graph.above(*place),
+            links.as_slice(),
+        );
         links[*place as usize] = link;
     }
     Ok(links)

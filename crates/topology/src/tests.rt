@@ -22,7 +22,12 @@ fn fault_of(alloc: Global, text: &str) -> Option<DocFault> {
 }
 
 fn compare(rt: &(impl Alloc<A = std::alloc::Global> + Abort), row: &Row) {
-    assert_eq!(rt; fault_of(rt.alloc(), row.text), row.fault.map(|refusal| DocFault::Refused(refusal)), "at {}", row.text);
+    assert_eq!(rt;
+        fault_of(rt.alloc(), row.text),
+        row.fault.map(|refusal| DocFault::Refused(refusal)),
+        "at {}",
+        row.text
+    );
 }
 
 fn an_equals_sign_alone() -> Row {
@@ -531,9 +536,7 @@ fn a_small_system() -> Row {
 
 #[test]
 fn rows_of_code_0(rt: HostRuntime) -> Result<(), Fail> {
-    for row in [
-        a_small_system(),
-    ] {
+    for row in [a_small_system()] {
         compare(&rt, &row);
     }
     Ok(())

@@ -1,6 +1,4 @@
-use Rattle.std.proofs.Common.{◌≡◌, ◌∙◌}
-use Rattle.topology.specs.Document.{node_at}
-use Rattle.topology.specs.Wiring.{regions_of}
+use Rattle.std.proofs.Common.{◌∙◌}
 use Rattle.topology.proofs.RegionLemmas.{good-known, overlap-known}
 use Rattle.topology.proofs.WiringFacts.{regions-at}
 use Rattle.topology.proofs.addresses.regions_at.Goals as goal

@@ -1,4 +1,4 @@
-use Rattle.std.proofs.Common.{◌<◌, arith}
+use Rattle.std.proofs.Common.{arith}
 use Rattle.topology.specs.Document.{digits_up_to}
 use Rattle.topology.proofs.LinkLemmas.{digits-next}
 use Rattle.topology.proofs.kinds_of_links.digits_of.Goals as goal

@@ -1,4 +1,4 @@
-use Rattle.std.proofs.Common.{rules, ◌≡◌, ◌<◌, ℕ, List, get_or, length, refl, arith}
+use Rattle.std.proofs.Common.{rules, ◌≡◌, ◌<◌, ℕ, get_or, length, arith}
 use Rattle.node_graph.specs.Simple.{LeadsDown}
 use Rattle.topology.proofs.LinkLemmas.{links-next, order-known}
 use Rattle.topology.proofs.kinds_of_links.kinds_of_links.Goals as goal

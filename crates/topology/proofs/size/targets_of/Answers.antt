@@ -1,4 +1,4 @@
-use Rattle.std.proofs.Common.{◌≡◌, ◌∙◌, ap, length, ℕ, List}
+use Rattle.std.proofs.Common.{◌∙◌, ap, length}
 use Rattle.node_graph.specs.Graph.{Graph, nodes_below}
 use Rattle.topology.proofs.AcceptedFacts.{below-targets}
 use Rattle.topology.proofs.size.targets_of.Goals as goal
