@@ -1,26 +1,14 @@
-//! Short traces, judged by hand.
+//! Short histories. A row for each rule stands with the traces of `trace_judge`.
 
 use crate::{PortChecker, RuleFault};
 use axi_beats::WBeat;
 use axi_history::{PortKind, PortRound, RawAddr, RawB, RawR, Seen};
-use std::alloc::Global;
 use std::process::Abort;
-
-mod address_rows;
-mod answer_rows;
-mod data_rows;
-mod handshake_rows;
 
 const PORT: PortKind = PortKind {
     lite: false,
     bus: 4,
 };
-
-const FIXED: u8 = 0;
-
-const INCR: u8 = 1;
-
-const WRAP: u8 = 2;
 
 /// A round in which no channel offers anything.
 fn quiet() -> PortRound {
@@ -60,21 +48,16 @@ fn r(r: Option<Seen<RawR>>) -> PortRound {
     PortRound { r, ..quiet() }
 }
 
-/// The address of a burst of this kind with `beats` beats of `2 ^ size` bytes from `addr` on.
-fn burst(id: u32, burst: u8, addr: u64, beats: u8, size: u8) -> RawAddr {
+/// The address of an INCR burst of words.
+fn words(id: u32, addr: u64, beats: u8) -> RawAddr {
     RawAddr {
         id,
         addr,
         len: beats.saturating_sub(1),
-        size,
-        burst,
+        size: 2,
+        burst: 1,
         ..RawAddr::default()
     }
-}
-
-/// The address of an INCR burst of words.
-fn words(id: u32, addr: u64, beats: u8) -> RawAddr {
-    burst(id, INCR, addr, beats, 2)
 }
 
 fn data(strobe: u128, last: bool) -> WBeat {
@@ -122,45 +105,17 @@ fn give(rt: &impl Abort, checker: &mut PortChecker, round: &PortRound) -> Result
     checker.round(round)
 }
 
-/// Fails where a new checker doesn't accept all of these rounds, or, where `breaks` has a channel
-/// and a rule, all but the last one, for which it tells them, and goes on to tell them.
-fn expect(
-    rt: &(impl Alloc<A = Global> + Abort),
-    what: &str,
-    rounds: &[PortRound],
-    breaks: Option<(u8, u8)>,
-) {
-    let mut checker = PortChecker::new(rt.alloc(), PORT);
-    let mut answer = Ok(());
-    for round in rounds {
-        assert_eq!(rt; answer, Ok(()), "too early: {what}");
-        answer = give(rt, &mut checker, round);
-    }
-    let due = match breaks {
-        Some((channel, rule)) => Err(RuleFault::Broken { rule, channel }),
-        None => Ok(()),
-    };
-    assert_eq!(rt; answer, due, "{what}");
-    if breaks.is_some() {
-        let later = give(rt, &mut checker, &quiet());
-        assert_eq!(rt; later, due, "later: {what}");
-    }
-}
-
+/// A trace line can't have such a strobe. What is told once is told of each later round too.
 #[test]
-fn tells_what_short_traces_break(rt: HostRuntime) {
-    handshake_rows::withdrawn(&rt);
-    handshake_rows::changed(&rt);
-    handshake_rows::kept(&rt);
-    address_rows::kinds(&rt);
-    address_rows::places(&rt);
-    data_rows::lasts(&rt);
-    data_rows::early_lasts(&rt);
-    data_rows::strobes(&rt);
-    answer_rows::responses(&rt);
-    answer_rows::codes(&rt);
-    answer_rows::read_beats(&rt);
-    answer_rows::order_of_reads(&rt);
+fn a_strobe_beyond_the_bus_is_told(rt: HostRuntime) {
+    let mut checker = PortChecker::new(rt.alloc(), PORT);
+    let broken = Err(RuleFault::Broken {
+        rule: 10,
+        channel: 2,
+    });
+    assert_eq!(rt; give(&rt, &mut checker, &w(taken(data(16, true)))), Ok(()));
+    assert_eq!(rt; give(&rt, &mut checker, &aw(taken(words(1, 0, 1)))), broken);
+    assert_eq!(rt; give(&rt, &mut checker, &quiet()), broken);
 }
 
 #[test]

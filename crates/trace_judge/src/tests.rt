@@ -1,8 +1,11 @@
 //! Traces judged by hand.
 
 use super::*;
+use rule_rows::{ADDRESSES, ANSWERS, DATA, HANDSHAKES, RuleRow};
 use std::process::Abort;
 use std::test::Fail;
+
+mod rule_rows;
 
 /// A trace and the verdict on it.
 #[derive(Clone, Copy)]
@@ -21,14 +24,7 @@ fn broken(line: u32, round: u64, link: u32, channel: u8, rule: u8) -> Verdict {
     })
 }
 
-// ---- handshakes
-
-fn a_payload_that_changes() -> Row {
-    Row {
-        trace: "1 0 axi 4 =0,10,0,2,1,0,1:0:0 - - - -\n2 0 axi 4 +0,14,0,2,1,0,1:0:0 - - - -\n",
-        verdict: broken(2, 2, 0, 1, 2),
-    }
-}
+// ---- rounds without a line
 
 fn an_offer_withdrawn_in_a_round_without_a_line() -> Row {
     Row {
@@ -41,87 +37,6 @@ fn an_offer_withdrawn_on_a_link_that_has_no_more_lines() -> Row {
     Row {
         trace: "1 7 axi 4 - - - =0,10,0,2,1,0,1:0:0 -\r\n9000000000000000000 3 axi 8 - - - - -\r\n",
         verdict: broken(0, 2, 7, 4, 1),
-    }
-}
-
-// ---- addresses
-
-fn a_reserved_burst_code() -> Row {
-    Row {
-        trace: "1 0 axi 4 +0,0,0,2,3,0,1:0:0 - - - -\n",
-        verdict: broken(1, 1, 0, 1, 3),
-    }
-}
-
-fn a_beat_wider_than_the_bus() -> Row {
-    Row {
-        trace: "1 0 axi 4 +0,0,0,3,1,0,1:0:0 - - - -\n",
-        verdict: broken(1, 1, 0, 1, 4),
-    }
-}
-
-fn a_fixed_burst_of_seventeen_beats() -> Row {
-    Row {
-        trace: "1 0 axi 4 +0,0,16,2,0,0,1:0:0 - - - -\n",
-        verdict: broken(1, 1, 0, 1, 5),
-    }
-}
-
-fn a_wrap_that_starts_inside_a_beat() -> Row {
-    Row {
-        trace: "1 0 axi 4 +0,2,3,2,2,0,1:0:0 - - - -\n",
-        verdict: broken(1, 1, 0, 1, 6),
-    }
-}
-
-fn a_burst_that_leaves_its_page() -> Row {
-    Row {
-        trace: "1 0 axi 4 +0,ffc,1,2,1,0,1:0:0 - - - -\n",
-        verdict: broken(1, 1, 0, 1, 7),
-    }
-}
-
-fn a_locked_address() -> Row {
-    Row {
-        trace: "1 0 axi 4 +0,10,0,2,1,1,1:0:0 - - - -\n",
-        verdict: broken(1, 1, 0, 1, 8),
-    }
-}
-
-// ---- data and answers
-
-fn an_exclusive_answer() -> Row {
-    Row {
-        trace: "1 0 axi 4 - - - - +0,00000000,1,1,1:0:0\n",
-        verdict: broken(1, 1, 0, 5, 8),
-    }
-}
-
-fn data_without_its_last_mark() -> Row {
-    Row {
-        trace: "1 0 axi 4 +0,0,0,2,1,0,1:0:0 +00000000,f,0,1:0:0 - - -\n",
-        verdict: broken(1, 1, 0, 2, 9),
-    }
-}
-
-fn strobes_beside_their_lanes() -> Row {
-    Row {
-        trace: "1 0 axi 4 +0,0,0,0,1,0,1:0:0 +00000000,f,1,1:0:0 - - -\n",
-        verdict: broken(1, 1, 0, 2, 10),
-    }
-}
-
-fn a_response_in_the_round_of_its_data() -> Row {
-    Row {
-        trace: "1 0 axi 4 +0,0,0,2,1,0,1:0:0 +00000000,f,1,1:0:0 +0,0,1:0:0 - -\n",
-        verdict: broken(1, 1, 0, 3, 11),
-    }
-}
-
-fn a_last_mark_before_the_last_beat() -> Row {
-    Row {
-        trace: "1 0 axi 4 - - - +0,0,1,2,1,0,1:0:0 -\n2 0 axi 4 - - - - +0,00000000,0,1,1:0:0\n",
-        verdict: broken(2, 2, 0, 5, 12),
     }
 }
 
@@ -209,22 +124,31 @@ fn compare(rt: &(impl Alloc<A = std::alloc::Global> + Abort), row: &Row) -> Resu
     Ok(())
 }
 
+/// The verdict on a row: its last line breaks the rule, if one does.
+fn verdict_on(row: &RuleRow) -> Verdict {
+    let lines = row.trace.lines().count() as u32;
+    match row.breaks {
+        Some((channel, rule)) => broken(lines, u64::from(lines), 0, channel, rule),
+        None => Verdict::Legal { lines },
+    }
+}
+
 #[test]
-fn broken_rules_are_told(rt: HostRuntime) -> Result<(), Fail> {
-    compare(&rt, &a_payload_that_changes())?;
+fn each_rule_is_told(rt: HostRuntime) -> Result<(), Fail> {
+    for rows in [&HANDSHAKES[..], &ADDRESSES[..], &DATA[..], &ANSWERS[..]] {
+        for row in rows {
+            let trace = row.trace;
+            let verdict = verdict_on(row);
+            compare(&rt, &Row { trace, verdict })?;
+        }
+    }
+    Ok(())
+}
+
+#[test]
+fn rounds_without_a_line_are_judged(rt: HostRuntime) -> Result<(), Fail> {
     compare(&rt, &an_offer_withdrawn_in_a_round_without_a_line())?;
-    compare(&rt, &an_offer_withdrawn_on_a_link_that_has_no_more_lines())?;
-    compare(&rt, &a_reserved_burst_code())?;
-    compare(&rt, &a_beat_wider_than_the_bus())?;
-    compare(&rt, &a_fixed_burst_of_seventeen_beats())?;
-    compare(&rt, &a_wrap_that_starts_inside_a_beat())?;
-    compare(&rt, &a_burst_that_leaves_its_page())?;
-    compare(&rt, &a_locked_address())?;
-    compare(&rt, &an_exclusive_answer())?;
-    compare(&rt, &data_without_its_last_mark())?;
-    compare(&rt, &strobes_beside_their_lanes())?;
-    compare(&rt, &a_response_in_the_round_of_its_data())?;
-    compare(&rt, &a_last_mark_before_the_last_beat())
+    compare(&rt, &an_offer_withdrawn_on_a_link_that_has_no_more_lines())
 }
 
 #[test]
