@@ -110,6 +110,6 @@ fn an_id_keeps_to_its_port(rt: HostRuntime) -> Result<(), Fail> {
             ..Out::default()
         },
     };
-    bench.run(&rt, &[sent, stalled, answered, released]);
+    bench.run(&[sent, stalled, answered, released])?;
     Ok(())
 }

@@ -64,25 +64,22 @@ fn a_write_and_a_read_are_answered_with_decerr(rt: HostRuntime) -> Result<(), Fa
     };
     let second = Out::default();
     let third = Out::default();
-    bench.run(
-        &rt,
-        &[
-            Row {
-                round: 1,
-                offered,
-                moved: taken,
-            },
-            Row {
-                round: 2,
-                offered: second,
-                moved: beats,
-            },
-            Row {
-                round: 3,
-                offered: third,
-                moved: ends,
-            },
-        ],
-    );
+    bench.run(&[
+        Row {
+            round: 1,
+            offered,
+            moved: taken,
+        },
+        Row {
+            round: 2,
+            offered: second,
+            moved: beats,
+        },
+        Row {
+            round: 3,
+            offered: third,
+            moved: ends,
+        },
+    ])?;
     Ok(())
 }

@@ -253,8 +253,8 @@ fn requests_and_answers_wait_as_the_delays_say(rt: HostRuntime) -> Result<(), Fa
     let manager = ManagerNode::new(rt.alloc(), script(&rt)?, 0, 4, &[1], &[0, 2])?;
     crosses_threads(&manager);
     let mut bench = Bench::new(rt.alloc(), manager, 1, 2)?;
-    bench.run(&rt, &write_rows());
-    bench.run(&rt, &answer_rows());
+    bench.run(&write_rows())?;
+    bench.run(&answer_rows())?;
     assert!(rt; bench.node.done());
     check_answer(&rt, &bench.node, 0, (1, 10), Resp::Okay);
     check_answer(&rt, &bench.node, 1, (4, 8), Resp::SlvErr);

@@ -152,7 +152,7 @@ fn row(round: u64, offered: Out, moved: Out) -> Row {
 fn a_read_sees_what_was_written(rt: HostRuntime) -> Result<(), Fail> {
     let memory = MemoryNode::new(rt.alloc(), CONFIG, &[], &[HOLE], &[0], &[1], 0, &[0x20])?;
     let mut bench = Bench::new(rt.alloc(), memory, 1, 2)?;
-    bench.run(&rt, &rows());
+    bench.run(&rows())?;
     assert_eq!(rt; bench.node.byte(0x1011), Some(0x22));
     assert_eq!(rt; bench.node.byte(0x1012), Some(0xa5));
     Ok(())

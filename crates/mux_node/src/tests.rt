@@ -94,6 +94,6 @@ fn two_inputs_share_a_link(rt: HostRuntime) -> Result<(), Fail> {
             ..Out::default()
         },
     };
-    bench.run(&rt, &[first, second, third]);
+    bench.run(&[first, second, third])?;
     Ok(())
 }

@@ -2,6 +2,7 @@
 
 ghost use Rattle.std.specs.Prelude.{◌<◌, ◌≤◌, IsTrue};
 
+use crate::fault::BenchFault;
 use crate::moves::move_beats;
 use crate::row::Row;
 use crate::same::check_moves;
@@ -9,7 +10,6 @@ use axi_beats::NoMemory;
 use axi_link::{Link, Out};
 use node_core::Step;
 use std::alloc::Global;
-use std::process::Abort;
 
 /// A kind of node that a bench can have.
 pub trait Benched: Step {
@@ -53,34 +53,42 @@ impl<N: Benched + Drop> Bench<N> {
 
     /// Plays rounds up to the last row's, in which the node may decide and moves what the rows say.
     /// Rounds are counted from 1 over all calls; rows are in order of their rounds.
-    pub fn run(&mut self, rt: &impl Abort, rows: &[Row]) {
+    ///
+    /// # Errors
+    ///
+    /// The first thing that isn't so.
+    pub fn run(&mut self, rows: &[Row]) -> Result<(), BenchFault> {
         for row in rows {
-            self.wait(rt, row.round);
-            self.play(rt, &row.offered, &row.moved);
+            self.wait(row.round)?;
+            self.play(&row.offered, &row.moved)?;
         }
+        Ok(())
     }
 
     /// Plays the rounds before this one, in which the node moves nothing.
-    fn wait(&mut self, rt: &impl Abort, round: u64) {
-        assert!(rt; self.rounds < round, "round {round} is over");
+    fn wait(&mut self, round: u64) -> Result<(), BenchFault> {
+        if self.rounds >= round {
+            return Err(BenchFault::RoundIsOver(round));
+        }
         let quiet = Out::default();
         for _ in self.rounds + 1..round {
-            self.play(rt, &quiet, &quiet);
+            self.play(&quiet, &quiet)?;
         }
+        Ok(())
     }
 
     /// Plays the next round.
-    fn play(&mut self, rt: &impl Abort, offered: &Out, moved: &Out) {
-        move_beats(rt, &mut self.links, offered);
-        assert!(rt; self.rounds < u64::MAX);
+    fn play(&mut self, offered: &Out, moved: &Out) -> Result<(), BenchFault> {
+        move_beats(&mut self.links, offered)?;
+        if self.rounds == u64::MAX {
+            return Err(BenchFault::RoundIsOver(self.rounds));
+        }
         self.rounds += 1;
-        assert!(rt;
-            self.node.may_decide(self.rounds, &self.links),
-            "it may not decide in round {}",
-            self.rounds
-        );
+        if !self.node.may_decide(self.rounds, &self.links) {
+            return Err(BenchFault::MayNotDecide(self.rounds));
+        }
         self.node.decide(self.rounds, &self.links);
-        check_moves(rt, self.rounds, self.node.out(), moved);
-        move_beats(rt, &mut self.links, self.node.out());
+        check_moves(self.rounds, self.node.out(), moved)?;
+        move_beats(&mut self.links, self.node.out())
     }
 }

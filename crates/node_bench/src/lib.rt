@@ -9,14 +9,16 @@
 //! let mut bench = Bench::new(rt.alloc(), SliceNode::new(0, 1), 2, 1)?;
 //! let taken = Out { aw_take: Some(0), aw_put: Some((1, request)), ..Out::default() };
 //! let offered = Out { aw_put: Some((0, request)), ..Out::default() };
-//! bench.run(&rt, &[Row { round: 2, offered, moved: taken }]);
+//! bench.run(&[Row { round: 2, offered, moved: taken }])?;
 //! ```
 #![tactic(auto)]
 
 mod bench;
+mod fault;
 mod moves;
 mod row;
 mod same;
 
 pub use bench::{Bench, Benched};
+pub use fault::BenchFault;
 pub use row::Row;

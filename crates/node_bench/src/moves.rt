@@ -4,19 +4,21 @@ ghost use Rattle.std.specs.Prelude.{◌≡◌, ℕ, List, IsTrue, is_some};
 ghost use Rattle.axi_link.specs.LinkWords.{has_room, head_of};
 ghost use Rattle.axi_link.specs.Moves.{CanAdvance, CanMove};
 
+use crate::fault::BenchFault;
 use axi_link::{Link, Out};
-use std::process::Abort;
 
 /// Makes the moves of one side on each link, of which every take has its head and every put its room.
-pub(crate) fn move_beats(rt: &impl Abort, links: &mut [Link], moves: &Out) {
+pub(crate) fn move_beats(links: &mut [Link], moves: &Out) -> Result<(), BenchFault> {
     for (number, link) in links.iter_mut().enumerate() {
-        let number = u32::try_from(number).expect(rt, "so many links are numbered");
-        assert!(rt;
-            can_move(link, number, moves),
-            "no head or no room on {number}"
-        );
+        let Ok(number) = u32::try_from(number) else {
+            return Err(BenchFault::TooManyLinks);
+        };
+        if !can_move(link, number, moves) {
+            return Err(BenchFault::CannotMove(number));
+        }
         link.commit(number, moves, moves);
     }
+    Ok(())
 }
 
 /// Whether each take from a link has its head there, and each put its room.

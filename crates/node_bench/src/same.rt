@@ -1,11 +1,11 @@
 //! Whether two nodes' moves are the same.
 
+use crate::fault::BenchFault;
 use axi_beats::{Lanes, RBeat, WBeat};
 use axi_link::Out;
-use std::process::Abort;
 
 /// Checks that these are the moves that a row wants, channel by channel.
-pub(crate) fn check_moves(rt: &impl Abort, round: u64, moves: &Out, wanted: &Out) {
+pub(crate) fn check_moves(round: u64, moves: &Out, wanted: &Out) -> Result<(), BenchFault> {
     let takes = [
         moves.aw_take == wanted.aw_take,
         moves.w_take == wanted.w_take,
@@ -13,11 +13,9 @@ pub(crate) fn check_moves(rt: &impl Abort, round: u64, moves: &Out, wanted: &Out
         moves.ar_take == wanted.ar_take,
         moves.r_take == wanted.r_take,
     ];
-    assert_eq!(rt;
-        takes,
-        [true; 5],
-        "takes on AW, W, B, AR, R in round {round}"
-    );
+    if takes.contains(&false) {
+        return Err(BenchFault::OtherTakes(round, takes));
+    }
     let puts = [
         moves.aw_put == wanted.aw_put,
         same_puts_w(&moves.w_put, &wanted.w_put),
@@ -25,7 +23,10 @@ pub(crate) fn check_moves(rt: &impl Abort, round: u64, moves: &Out, wanted: &Out
         moves.ar_put == wanted.ar_put,
         same_puts_r(&moves.r_put, &wanted.r_put),
     ];
-    assert_eq!(rt; puts, [true; 5], "puts on AW, W, B, AR, R in round {round}");
+    if puts.contains(&false) {
+        return Err(BenchFault::OtherPuts(round, puts));
+    }
+    Ok(())
 }
 
 fn same_puts_w(put: &Option<(u32, WBeat)>, wanted: &Option<(u32, WBeat)>) -> bool {

@@ -58,25 +58,22 @@ fn every_beat_goes_on_a_round_later(rt: HostRuntime) -> Result<(), Fail> {
         ..Out::default()
     };
     let quiet = Out::default();
-    bench.run(
-        &rt,
-        &[
-            Row {
-                round: 2,
-                offered,
-                moved,
-            },
-            Row {
-                round: 3,
-                offered: second,
-                moved: quiet,
-            },
-            Row {
-                round: 5,
-                offered: room,
-                moved: late,
-            },
-        ],
-    );
+    bench.run(&[
+        Row {
+            round: 2,
+            offered,
+            moved,
+        },
+        Row {
+            round: 3,
+            offered: second,
+            moved: quiet,
+        },
+        Row {
+            round: 5,
+            offered: room,
+            moved: late,
+        },
+    ])?;
     Ok(())
 }
