@@ -1,5 +1,5 @@
 -- Paths over a plan.
-use Rattle.std.proofs.Common.{◌≡◌, ◌<◌, ◌≤◌, ◌+◌, ◌-◌, ◌*◌, ◌/◌, ◌++◌, ◌==◌, ◌||◌, ◌&&◌, ℕ, zero, suc, Bool, true, false, cond, not, List, [], ◌∷◌, length, map, Option, Some, None, refl, sym, ◌∙◌, ap, subst, inl, inr, arith}
+use Rattle.std.proofs.Common.{◌≡◌, ◌<◌, ◌≤◌, ◌+◌, ◌-◌, ◌*◌, ◌/◌, ◌++◌, ◌==◌, ◌||◌, ℕ, zero, suc, Bool, true, false, cond, not, List, [], ◌∷◌, length, map, Option, Some, None, refl, sym, ◌∙◌, ap, subst, inl, inr, arith}
 use Rattle.std.specs.Prelude.{◌⊎◌, filter_map, find, is_none, option_map, slice_get, slice_index_or, unwrap_or, if◌then◌else◌}
 use Rattle.std.specs.List.{cons_option, list_any}
 use Rattle.std.specs.Option.{option_and_then, option_map_or}
@@ -15,7 +15,7 @@ use Rattle.node_graph.specs.Order.{place_in}
 use Rattle.node_graph.proofs.Ways.{depths-are_small, links-lead_deeper}
 use Rattle.topology.proofs.AcceptedFacts.{accepted-is_clean}
 use Rattle.topology.specs.Document.{DocumentNode, NamedRegion, has_regions, is_manager, is_memory, named, names_of, node_at, targets_of}
-use Rattle.topology.specs.Refused.{IsAccepted, is_bad_range}
+use Rattle.topology.specs.Refused.{IsAccepted, has_bad_region}
 use Rattle.topology_text.specs.declared.kind.Kind.{Kind}
 use Rattle.topology_text.specs.declared.kind.Kind.TheVariants as kind
 use Rattle.elaborate.specs.Path.{next_by_part, next_part, path_from, port_at_demux, port_by_part, ported_regions}
@@ -299,10 +299,12 @@ path-ends_at_endpoint nodes accepted manager address less is =
 -- ---- one path a page
 
 good-regions : (nodes : List DocumentNode) → IsAccepted nodes → (place : ℕ) → place < length nodes → list_any (λ (region : NamedRegion). is_bad_span region.base region.size) (node_at nodes place).region ≡ false
-good-regions nodes accepted place less =
-    let three : ((list_any (λ (region : NamedRegion). is_bad_span region.base region.size) (node_at nodes place).region || is_memory (node_at nodes place).kind && is_bad_span (node_at nodes place).base (node_at nodes place).size) ≡ false) × (list_any (is_bad_range (node_at nodes place).base (node_at nodes place).size) ((node_at nodes place).read_only ++ (node_at nodes place).hole) ≡ false) =
-    or_parts (list_any (λ (region : NamedRegion). is_bad_span region.base region.size) (node_at nodes place).region || is_memory (node_at nodes place).kind && is_bad_span (node_at nodes place).base (node_at nodes place).size) (list_any (is_bad_range (node_at nodes place).base (node_at nodes place).size) ((node_at nodes place).read_only ++ (node_at nodes place).hole)) (accepted-is_clean nodes accepted place less).regions_are_good in
-    (or_parts (list_any (λ (region : NamedRegion). is_bad_span region.base region.size) (node_at nodes place).region) (is_memory (node_at nodes place).kind && is_bad_span (node_at nodes place).base (node_at nodes place).size) three.0).0
+good-regions nodes accepted place less = by (list_any (λ (region : NamedRegion). is_bad_span region.base region.size) (node_at nodes place).region) refl (accepted-is_clean nodes accepted place less).regions_are_good
+  where
+    by : (b : Bool) → list_any (λ (region : NamedRegion). is_bad_span region.base region.size) (node_at nodes place).region ≡ b → has_bad_region nodes place ≡ false →
+        list_any (λ (region : NamedRegion). is_bad_span region.base region.size) (node_at nodes place).region ≡ false
+    by true f good = absurd cc
+    by false f good = f
 
 good-ported : (nodes : List DocumentNode) (node : DocumentNode) → list_any (λ (region : NamedRegion). is_bad_span region.base region.size) node.region ≡ false → list_any is_bad_region (ported_regions nodes node) ≡ false
 good-ported nodes node e = go node.region e
