@@ -1,6 +1,5 @@
 pub mod KnownOpenings
 pub mod Opening
 pub mod PlanLinks
-pub mod Scripts
 pub mod States
 pub mod Touched

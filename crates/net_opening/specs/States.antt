@@ -10,13 +10,13 @@ use Rattle.memory_node.specs.MemoryState.{MemoryState, new_memory}
 use Rattle.memory_node.specs.declared.config.Range.{Range}
 use Rattle.mux_node.specs.MuxState.{MuxState, new_mux}
 use Rattle.net_opening.specs.PlanLinks.{link_into, link_out_of, links_into, links_out_of}
-use Rattle.net_opening.specs.Scripts.{script_of}
 use Rattle.net_opening.specs.Touched.{lines_touched}
 use Rattle.node_core.specs.Paces.{new_paces}
+use Rattle.plan_traffic.specs.Scripts.{script_of}
+use Rattle.plan_traffic.specs.Traffic.{TrafficItem}
 use Rattle.slice_node.specs.SliceState.{SliceState, new_slice}
 use Rattle.topology.specs.Document.{DocumentNode, node_at, widest}
 use Rattle.topology_text.specs.declared.kind.Span.{Span}
-use Rattle.plan_traffic.specs.Traffic.{TrafficItem}
 
 abbrev pub memory_range : Span → Range
 memory_range span = record { base = span.base; size = span.size }
