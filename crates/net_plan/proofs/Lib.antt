@@ -3,3 +3,10 @@ pub mod LinkPlaces
 pub mod NodeLinks
 pub mod PartLemmas
 pub mod OpeningWired
+pub mod LinkKinds
+pub mod WidthLemmas
+pub mod SoundParts
+pub mod NodeSound
+pub mod NodeBegins
+pub mod OnceLemmas
+pub mod OpeningSound

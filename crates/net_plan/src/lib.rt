@@ -7,4 +7,4 @@
 
 mod plan_laws;
 
-pub use plan_laws::{forms_of_links, openings_are_wired};
+pub use plan_laws::{forms_of_links, openings_are_sound, openings_are_wired};

@@ -1,0 +1,242 @@
+-- The links around each node of a plan's network are as its kind wants them, where memories keep the lines of what comes to them.
+use Rattle.std.proofs.Common.{◌≡◌, ◌<◌, ◌≤◌, ◌+◌, ◌*◌, ◌^◌, ◌==◌, ◌||◌, ℕ, zero, suc, Bool, true, false, cond, not, List, [], ◌∷◌, length, map, Option, Some, None, refl, sym, ◌∙◌, ap, subst, inl, inr, arith}
+use Rattle.std.specs.Prelude.{All, filter, slice_get, slice_index_or}
+use Rattle.std.specs.List.{list_any, range_with_len}
+use Rattle.std.proofs.lemmas.Bool.{eqb-true, false≢true, not-false, true≢false}
+use Rattle.std.proofs.lemmas.List.{length-map}
+use Rattle.std.proofs.lemmas.List.Elements.{All-cons, All-map, All-nil}
+use Rattle.std.proofs.lemmas.List.FromFn.{length-range_with_len}
+use Rattle.demux_node.specs.DemuxTrail.{IsSoundDemux}
+use Rattle.elaborate.proofs.Forms.{Form, Part_at, input_count, own_part, part-at}
+use Rattle.elaborate.proofs.Forms.Form.{Behind, Demux, DemuxError, Input, InputError, Own, Split, Target}
+use Rattle.elaborate.proofs.LinkForms.{exit_of, is_behind}
+use Rattle.elaborate.proofs.Lists.{None-Some, Some-same, mapped-in, nth-in}
+use Rattle.elaborate.proofs.PlanFacts.{form-document}
+use Rattle.elaborate.specs.Laws.{is_first, is_mux}
+use Rattle.elaborate.specs.Plan.{PlanNode, demux_itself, first_part, input_demux, itself, plan_link_at, plan_links, plan_node_at, plan_nodes, target_mux}
+use Rattle.elaborate.specs.Unbuilt.{is_unbuilt}
+use Rattle.elaborate.specs.declared.part.Part.{Part}
+use Rattle.elaborate.specs.declared.part.Part.TheVariants as part
+use Rattle.manager_node.specs.ManagerTrail.{IsManagerLink}
+use Rattle.manager_node.specs.Script.{ScriptItem}
+use Rattle.memory_node.specs.MemoryState.{AreLinesAmong}
+use Rattle.mux_node.specs.MuxTrail.{IsSoundMux}
+use Rattle.net_kinds.specs.NodeKind.{node_kind}
+use Rattle.net_opening.specs.Opening.{state_by_part}
+use Rattle.net_opening.specs.PlanLinks.{form_of_link, link_into, link_out_of, links_into, links_out_of}
+use Rattle.net_opening.specs.Scripts.{script_item, script_of}
+use Rattle.net_opening.specs.States.{demux_at, manager_at, memory_at, mux_at}
+use Rattle.net_plan.proofs.LinkKinds.{Comes, JoinsAt, comes, first-input, form-plain, joins, link-below, no-input, nth-input, own-input, plain_form}
+use Rattle.net_plan.proofs.LinkLists.{all-of, at-some}
+use Rattle.net_plan.proofs.NodeLinks.{into-is, into-once, one-into, one-out, out-is, same-link}
+use Rattle.net_plan.proofs.PartLemmas.{LowersSuit, is-built, lowers-suit, no-split}
+use Rattle.net_plan.proofs.SoundParts.{IsInput, below-alike, first-is, handed, same-bus, some-in, sound-demux, sound-mux}
+use Rattle.net_plan.proofs.WidthLemmas.{no-longer}
+use Rattle.net_plan.specs.PlanLaws.{CanRun}
+use Rattle.axi_trail.specs.Schedule.{Schedule}
+use Rattle.node_graph.proofs.Members.{in-first, numbers-in}
+use Rattle.node_graph.specs.Graph.{is_in, numbers}
+use Rattle.node_shape.specs.LinkForm.{LinkForm}
+use Rattle.plan_traffic.specs.Accepted.{IsTraffic, Suits, items_of_manager}
+use Rattle.plan_traffic.specs.Traffic.{TrafficItem}
+use Rattle.topology.proofs.AcceptedFacts.{accepted-is_clean}
+use Rattle.topology.specs.Document.{DocumentNode, first_link, inputs_of, joins_links, link_kind_of, merged_link, node_at, node_of_kind, uppers_of}
+use Rattle.topology.specs.Refused.{bus_differs, protocol_differs}
+use Rattle.topology.specs.declared.link.LinkKind.{LinkKind}
+use Rattle.topology_text.specs.declared.kind.Kind.{Kind}
+use Rattle.topology_text.specs.declared.kind.Kind.TheVariants as kind
+
+-- what holds of each transaction holds of those of a manager
+pub of-manager : (Q P : TrafficItem → Type 0) (manager : ℕ) (items : List TrafficItem) → All Q items → ((item : TrafficItem) → Q item → item.manager ≡ manager → P item) → All P (items_of_manager manager items)
+of-manager Q P manager [] all each = All-nil P
+of-manager Q P manager (item ∷ more) all each =
+    go (item.manager == manager) refl (of-manager Q P manager more (λ i d less. all (suc i) d (omega (arith, less))) each)
+  where
+    go : (b : Bool) → (item.manager == manager) ≡ b → All P (items_of_manager manager more) → All P (cond b (item ∷ items_of_manager manager more) (items_of_manager manager more))
+    go true is rest = All-cons P item (items_of_manager manager more) (each item (all 0 item (omega arith)) (eqb-true item.manager manager is)) rest
+    go false is rest = rest
+
+pub manager-is : (nodes : List DocumentNode) (place : ℕ) (item : TrafficItem) (suits : Suits nodes item) → item.manager ≡ place → suits.node ≡ node_at nodes place
+manager-is nodes place item suits same = sym (at-some nodes place suits.node (node_of_kind [] kind.Slice) (ap (slice_get nodes) (sym same) ∙ suits.is_node))
+
+module _ (nodes : List DocumentNode) (items : List TrafficItem) (run : CanRun nodes) (traffic : IsTraffic nodes items) (schedules : ℕ → Schedule) (number place inner : ℕ) (node : PlanNode)
+    (at : slice_get (plan_nodes nodes) number ≡ Some node) (document : node.document ≡ place) (node_is : plan_node_at nodes number ≡ node) (within : place < length nodes) where
+  abbrev pub SoundAs : Part → Type 0
+  SoundAs p = node_kind.is_sound (form_of_link nodes) schedules (state_by_part nodes items number p)
+
+  document_is : (plan_node_at nodes number).document ≡ place
+  document_is = ap (λ (n : PlanNode). n.document) node_is ∙ document
+
+  into-there : is_first node.part ≡ false → is_mux node.part ≡ false → is_in (links_into nodes number) (link_into nodes number) ≡ true
+  into-there first mux = ap (λ xs. is_in xs (link_into nodes number)) (sym (one-into nodes run.accepted number node at first mux)) ∙ in-first (link_into nodes number) [] (link_into nodes number) refl
+
+  out-there : length node.lower ≡ 1 → is_in (links_out_of nodes number) (link_out_of nodes number) ≡ true
+  out-there long = ap (λ xs. is_in xs (link_out_of nodes number)) (sym (one-out nodes run.accepted number node at long)) ∙ in-first (link_out_of nodes number) [] (link_out_of nodes number) refl
+
+  -- the link above a part that has one
+  above-comes : is_first node.part ≡ false → is_mux node.part ≡ false → is_behind node.part ≡ false → Comes nodes place number (plan_link_at nodes (link_into nodes number)).upper (plan_link_at nodes (link_into nodes number)).link
+  above-comes first mux outer =
+      comes nodes run number (link_into nodes number) node at place document outer (λ is_mux_part crossbar. true≢false (sym is_mux_part ∙ mux)) (into-there first mux)
+
+  above-first : is_first node.part ≡ false → is_mux node.part ≡ false → is_behind node.part ≡ false → joins_links (node_at nodes place).kind ≡ false →
+      (plan_link_at nodes (link_into nodes number)).link ≡ first_link (inputs_of nodes place)
+  above-first first mux outer single =
+      first-input nodes run.accepted place number (plan_link_at nodes (link_into nodes number)).upper (plan_link_at nodes (link_into nodes number)).link within single (above-comes first mux outer)
+
+  as-slice : node.part ≡ part.Slice → (node_at nodes place).kind ≡ kind.Slice → node.link ≡ link_kind_of nodes place → SoundAs part.Slice
+  as-slice is own link_is =
+      let first : is_first node.part ≡ false = ap is_first is in
+      let mux : is_mux node.part ≡ false = ap is_mux is in
+      let long : LowersSuit part.Slice node.lower = subst (λ (p : Part). LowersSuit p node.lower) is (lowers-suit nodes run number node at) in
+      below-alike nodes run number node at (link_into nodes number) (link_out_of nodes number) (into-is nodes number (link_into nodes number) (into-there first mux)).0
+      (link_is ∙ handed nodes run place kind.Slice within own ∙ sym (above-first first mux (ap is_behind is) (ap joins_links own))) (out-there long)
+
+  as-demux : node.part ≡ part.Demux → node.link ≡ (plan_link_at nodes (link_into nodes number)).link → SoundAs part.Demux
+  as-demux is same =
+      sound-demux nodes run number node at place within document_is (into-is nodes number (link_into nodes number) (into-there (ap is_first is) (ap is_mux is))).0 same
+
+  few-inputs : (ys : List ℕ) → ((link : ℕ) → is_in (links_into nodes number) link ≡ true → is_in ys (plan_link_at nodes link).upper ≡ true) → length (links_into nodes number) ≤ length ys
+  few-inputs ys among =
+      no-longer (λ link. (plan_link_at nodes link).upper) (links_into nodes number) ys among
+      (λ one other one_in other_in same.
+      let first = into-is nodes number one one_in in
+      let second = into-is nodes number other other_in in
+      same-link nodes one other first.0 second.0 same (first.1 ∙ sym second.1))
+      (into-once nodes number)
+
+  pub mux-input : node.part ≡ part.Mux → (node_at nodes place).kind ≡ kind.Mux → (link : ℕ) → is_in (links_into nodes number) link ≡ true → Comes nodes place number (plan_link_at nodes link).upper (plan_link_at nodes link).link
+  mux-input is own link there =
+      comes nodes run number link node at place document (ap is_behind is) (λ mux crossbar. true≢false (ap is_mux_itself (sym own ∙ crossbar))) there
+    where
+      is_mux_itself : Kind → Bool
+      is_mux_itself kind.Mux = true
+      is_mux_itself other = false
+
+  pub mux-few : node.part ≡ part.Mux → (node_at nodes place).kind ≡ kind.Mux → length (links_into nodes number) ≤ length (uppers_of nodes place)
+  mux-few is own =
+      let exits = map (λ upper. first_part nodes upper + exit_of nodes upper place) (uppers_of nodes place) in
+      omega (
+        arith,
+        length-map (uppers_of nodes place) (λ upper. first_part nodes upper + exit_of nodes upper place),
+        few-inputs (map (λ upper. first_part nodes upper + exit_of nodes upper place) (uppers_of nodes place)) (λ link there.
+            let from = mux-input is own link there in
+            ap (is_in (map (λ upper. first_part nodes upper + exit_of nodes upper place) (uppers_of nodes place))) from.exits
+            ∙ mapped-in (λ upper. first_part nodes upper + exit_of nodes upper place) (uppers_of nodes place) from.from from.among),
+      )
+
+  as-mux : node.part ≡ part.Mux → (node_at nodes place).kind ≡ kind.Mux → node.link ≡ link_kind_of nodes place → SoundAs part.Mux
+  as-mux is own link_is =
+      let long : LowersSuit part.Mux node.lower = subst (λ (p : Part). LowersSuit p node.lower) is (lowers-suit nodes run number node at) in
+      let clean = accepted-is_clean nodes run.accepted place within in
+      sound-mux nodes run number node at place within (link_is ∙ handed nodes run place kind.Mux within own)
+      (ap (bus_differs nodes place) (sym own) ∙ clean.widths_fit) (ap (protocol_differs nodes place) (sym own) ∙ clean.protocols_fit) (out-there long) (mux-few is own)
+      (λ link there. let from = mux-input is own link there in record { upper = from.from; among = from.among; is = from.is })
+
+  pub crossbar-input : node.part ≡ part.Mux → (node_at nodes place).kind ≡ kind.Crossbar → (link : ℕ) → is_in (links_into nodes number) link ≡ true → JoinsAt nodes place (plan_link_at nodes link).upper (plan_link_at nodes link).link
+  crossbar-input is own link there = joins nodes run number link node at place document (ap is_mux is) own there
+
+  numbers-long : (count : ℕ) → length (numbers count) ≡ count
+  unfolding numbers
+  numbers-long count = length-range_with_len 0 count
+
+  pub crossbar-few : node.part ≡ part.Mux → (node_at nodes place).kind ≡ kind.Crossbar → length (links_into nodes number) ≤ length (uppers_of nodes place)
+  crossbar-few is own =
+      omega (
+        arith,
+        length-map (numbers (input_count nodes place)) (λ input. first_part nodes place + 2 * input),
+        numbers-long (input_count nodes place),
+        few-inputs (map (λ input. first_part nodes place + 2 * input) (numbers (input_count nodes place))) (λ link there.
+            let from = crossbar-input is own link there in
+            ap (is_in (map (λ input. first_part nodes place + 2 * input) (numbers (input_count nodes place)))) from.from
+            ∙ mapped-in (λ input. first_part nodes place + 2 * input) (numbers (input_count nodes place)) from.input (numbers-in (input_count nodes place) from.input from.within)),
+      )
+
+  as-target : node.part ≡ part.Mux → (node_at nodes place).kind ≡ kind.Crossbar → node.link ≡ link_kind_of nodes place → SoundAs part.Mux
+  as-target is own link_is =
+      let long : LowersSuit part.Mux node.lower = subst (λ (p : Part). LowersSuit p node.lower) is (lowers-suit nodes run number node at) in
+      let clean = accepted-is_clean nodes run.accepted place within in
+      sound-mux nodes run number node at place within (link_is ∙ handed nodes run place kind.Crossbar within own)
+      (ap (bus_differs nodes place) (sym own) ∙ clean.widths_fit) (ap (protocol_differs nodes place) (sym own) ∙ clean.protocols_fit) (out-there long) (crossbar-few is own)
+      (λ link there.
+      let from = crossbar-input is own link there in
+      record {
+        upper = slice_index_or (uppers_of nodes place) from.input 0;
+        among = nth-in (uppers_of nodes place) from.input from.within;
+        is = from.is ∙ nth-input nodes place from.input from.within;
+      })
+
+  as-manager : node.part ≡ part.Manager → (node_at nodes place).kind ≡ kind.Manager → node.link ≡ link_kind_of nodes place → SoundAs part.Manager
+  as-manager is own link_is =
+      let long : LowersSuit part.Manager node.lower = subst (λ (p : Part). LowersSuit p node.lower) is (lowers-suit nodes run number node at) in
+      let out = out-is nodes number (link_out_of nodes number) (out-there long) in
+      let form : form_of_link nodes (link_out_of nodes number) ≡ plain_form (record { lite = false; bus = (node_at nodes place).bus; id_width = (node_at nodes place).id_width }) =
+      form-plain nodes run (link_out_of nodes number) out.0
+      ∙ ap plain_form (link-below nodes run number (link_out_of nodes number) node at (out-there long) ∙ link_is ∙ handed nodes run place kind.Manager within own) in
+      record {
+        axi = ap (λ (f : LinkForm). f.lite) form;
+        bus = ap (λ (f : LinkForm). f.bus) form ∙ ap (λ (k : ℕ). (node_at nodes k).bus) (sym document_is);
+        bursts = ap (λ (f : LinkForm). f.single) form;
+        ids = All-map (λ (item : ScriptItem). item.txn.request.id < 2 ^ (form_of_link nodes (link_out_of nodes number)).id_width) script_item
+            (items_of_manager (plan_node_at nodes number).document items)
+            (of-manager (Suits nodes) (λ (item : TrafficItem). item.txn.request.id < 2 ^ (form_of_link nodes (link_out_of nodes number)).id_width) (plan_node_at nodes number).document items traffic.suit
+            (λ item suits same.
+            subst (λ (w : ℕ). item.txn.request.id < 2 ^ w)
+            (ap (λ (n : DocumentNode). n.id_width) (manager-is nodes place item suits (same ∙ document_is)) ∙ sym (ap (λ (f : LinkForm). f.id_width) form)) suits.id));
+      }
+
+  as-memory : node.part ≡ part.Memory → (node_at nodes place).kind ≡ kind.Memory →
+      ((t : ℕ) → All (AreLinesAmong (memory_at nodes number items).area (memory_at nodes number items).inner.kept.lines) ((schedules (link_into nodes number)).writes t).parts) → SoundAs part.Memory
+  as-memory is own lines =
+      let first : is_first node.part ≡ false = ap is_first is in
+      let mux : is_mux node.part ≡ false = ap is_mux is in
+      let clean = accepted-is_clean nodes run.accepted place within in
+      let known = (into-is nodes number (link_into nodes number) (into-there first mux)).0 in
+      let from = above-comes first mux (ap is_behind is) in
+      let form : form_of_link nodes (link_into nodes number) ≡ plain_form (first_link (inputs_of nodes place)) =
+      form-plain nodes run (link_into nodes number) known ∙ ap plain_form (above-first first mux (ap is_behind is) (ap joins_links own)) in
+      record {
+        full = ap (λ (f : LinkForm). f.lite) form
+            ∙ first-is nodes run number node at (uppers_of nodes place) (λ (other : LinkKind). other.lite) (some-in nodes run number node at (uppers_of nodes place) from.from from.among)
+            (ap (protocol_differs nodes place) (sym own) ∙ clean.protocols_fit);
+        bus = ap (λ (f : LinkForm). f.bus) form
+            ∙ sym (same-bus nodes run number node at (node_at nodes place).bus (first_link (inputs_of nodes place)).bus (ap (bus_differs nodes place) (sym own) ∙ clean.widths_fit))
+            ∙ ap (λ (k : ℕ). (node_at nodes k).bus) (sym document_is);
+        lines = lines;
+      }
+
+  abbrev pub KeepsOwnLines : Type 0
+  KeepsOwnLines = node.part ≡ part.Memory → (t : ℕ) → All (AreLinesAmong (memory_at nodes number items).area (memory_at nodes number items).inner.kept.lines) ((schedules (link_into nodes number)).writes t).parts
+
+  as-own : (k : Kind) → (node_at nodes place).kind ≡ k → is_unbuilt k ≡ false → (p : Part) → own_part k ≡ Some p → node.part ≡ p → node.link ≡ link_kind_of nodes place → KeepsOwnLines → SoundAs p
+  as-own kind.Manager own built p own_is is link_is lines = let same = Some-same part.Manager p own_is in subst SoundAs same (as-manager (is ∙ sym same) own link_is)
+  as-own kind.Memory own built p own_is is link_is lines = let same = Some-same part.Memory p own_is in subst SoundAs same (as-memory (is ∙ sym same) own (lines (is ∙ sym same)))
+  as-own kind.Slice own built p own_is is link_is lines = let same = Some-same part.Slice p own_is in subst SoundAs same (as-slice (is ∙ sym same) own link_is)
+  as-own kind.Mux own built p own_is is link_is lines = let same = Some-same part.Mux p own_is in subst SoundAs same (as-mux (is ∙ sym same) own link_is)
+  as-own kind.LiteMemory own built p own_is is link_is lines = absurd (true≢false built)
+  as-own kind.Remap own built p own_is is link_is lines = absurd (true≢false built)
+  as-own kind.Up own built p own_is is link_is lines = absurd (true≢false built)
+  as-own other own built p own_is is link_is lines = absurd (None-Some p own_is)
+
+  pub sound-by : number ≡ first_part nodes place + inner → Form nodes place inner node (node_at nodes place).kind → KeepsOwnLines → SoundAs node.part
+  unfolding numbers
+  sound-by sum (Own p own first is) lines =
+      subst SoundAs (sym (ap (λ (n : PlanNode). n.part) is))
+      (as-own (node_at nodes place).kind refl (is-built nodes run place within) p own (ap (λ (n : PlanNode). n.part) is) (ap (λ (n : PlanNode). n.link) is) lines)
+  sound-by sum (Split p split first is) lines = absurd (no-split (node_at nodes place).kind p split (is-built nodes run place within))
+  sound-by sum (Behind p split first is) lines = absurd (no-split (node_at nodes place).kind p split (is-built nodes run place within))
+  sound-by sum (Demux own first is) lines =
+      let is_part : node.part ≡ part.Demux = ap (λ (n : PlanNode). n.part) is in
+      subst SoundAs (sym is_part)
+      (as-demux is_part
+      (ap (λ (n : PlanNode). n.link) is ∙ handed nodes run place kind.Demux within own ∙ sym (above-first (ap is_first is_part) (ap is_mux is_part) (ap is_behind is_part) (ap joins_links own))))
+  sound-by sum (DemuxError own first is) lines = subst SoundAs (sym (ap (λ (n : PlanNode). n.part) is)) tt
+  sound-by sum (Input i own less first is) lines =
+      let is_part : node.part ≡ part.Demux = ap (λ (n : PlanNode). n.part) is in
+      let here : number ≡ first_part nodes place + 2 * i = sum ∙ ap (λ (n : ℕ). first_part nodes place + n) first in
+      let from = above-comes (ap is_first is_part) (ap is_mux is_part) (ap is_behind is_part) in
+      let above = own-input nodes place i (plan_link_at nodes (link_into nodes number)).upper (plan_link_at nodes (link_into nodes number)).link own
+      (subst (λ (n : ℕ). Comes nodes place n (plan_link_at nodes (link_into nodes number)).upper (plan_link_at nodes (link_into nodes number)).link) here from) in
+      subst SoundAs (sym is_part) (as-demux is_part (ap (λ (n : PlanNode). n.link) is ∙ sym above))
+  sound-by sum (InputError i own less first is) lines = subst SoundAs (sym (ap (λ (n : PlanNode). n.part) is)) tt
+  sound-by sum (Target j own less first is) lines =
+      let is_part : node.part ≡ part.Mux = ap (λ (n : PlanNode). n.part) is in subst SoundAs (sym is_part) (as-target is_part own (ap (λ (n : PlanNode). n.link) is))
