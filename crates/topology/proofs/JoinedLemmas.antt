@@ -13,7 +13,7 @@ use Rattle.node_graph.specs.Graph.{each_once, is_in, numbers}
 use Rattle.node_graph.specs.Order.{repeats}
 use Rattle.node_graph.specs.Simple.{IsSimple}
 use Rattle.topology.specs.Document.{DocumentNode, NamedRegion, graph_of, has_regions, is_memory, named, names_of, node_at, node_of_kind, targets_of}
-use Rattle.topology.specs.Joined.{node_names, place_in, placed_region, texts}
+use Rattle.topology.specs.Joined.{name_place, node_names, placed_region, texts}
 use Rattle.topology.specs.Refused.{names_unknown}
 use Rattle.topology.specs.Wiring.{regions_of}
 use Rattle.topology_text.specs.declared.kind.Kind.TheVariants.{Slice}
@@ -38,7 +38,7 @@ place-long name (key ∷ keys) (node ∷ nodes) same =
     let rest : texts keys ≡ node_names nodes = cc in
     ap₂ (λ (b : Bool) (n : ℕ). cond (not b) (1 + n) 0) (ap (bytes_eq name) first ∙ eq-turned name node.name) (place-long name keys nodes rest)
 
-pub place-named : (name : List ℕ) (keys : List (Bor (List ℕ))) (nodes : List DocumentNode) → texts keys ≡ node_names nodes → place_in keys name ≡ named nodes name
+pub place-named : (name : List ℕ) (keys : List (Bor (List ℕ))) (nodes : List DocumentNode) → texts keys ≡ node_names nodes → name_place keys name ≡ named nodes name
 place-named name keys nodes same = ap₂ (λ (i n : ℕ). cond (nat_lt i n) (Some i) None) (place-long name keys nodes same) (keys-long keys nodes same)
 
 module _ (f g : List ℕ → Option ℕ) (same : (name : List ℕ) → f name ≡ g name) where
@@ -191,9 +191,9 @@ module _ (node : DocumentNode) where
     pub targets-memory : has_regions node.kind ≡ false → is_memory node.kind ≡ true → [] ≡ targets_of nodes node
     targets-memory e f = ap (λ (list : List (List ℕ)). each_once (filter_map (named nodes) list)) (sym (names-memory e f))
 
-    pub targets-other : (keys : List (Bor (List ℕ))) → texts keys ≡ node_names nodes → has_regions node.kind ≡ false → is_memory node.kind ≡ false → each_once (filter_map (place_in keys) (node.to ∷ [])) ≡ targets_of nodes node
+    pub targets-other : (keys : List (Bor (List ℕ))) → texts keys ≡ node_names nodes → has_regions node.kind ≡ false → is_memory node.kind ≡ false → each_once (filter_map (name_place keys) (node.to ∷ [])) ≡ targets_of nodes node
     targets-other keys same e f =
-        ap each_once (found-same (place_in keys) (named nodes) (λ name. place-named name keys nodes same) (node.to ∷ []))
+        ap each_once (found-same (name_place keys) (named nodes) (λ name. place-named name keys nodes same) (node.to ∷ []))
         ∙ ap (λ (list : List (List ℕ)). each_once (filter_map (named nodes) list)) (sym (names-other e f))
 
 pub all-known : (nodes : List DocumentNode) (place : ℕ) → place < length nodes → find (names_unknown nodes) (numbers (length nodes)) ≡ None → list_any (λ name. is_none (named nodes name)) (names_of (node_at nodes place)) ≡ false

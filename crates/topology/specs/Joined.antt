@@ -12,8 +12,8 @@ abbrev pub node_names : List DocumentNode → List (List ℕ)
 node_names nodes = map (λ (node : DocumentNode). node.name) nodes
 
 -- the place of a text among these keys
-abbrev pub place_in : List (Bor (List ℕ)) → List ℕ → Option ℕ
-place_in keys name = position (λ (key : Bor (List ℕ)). bytes_eq name key.now) keys
+abbrev pub name_place : List (Bor (List ℕ)) → List ℕ → Option ℕ
+name_place keys name = position (λ (key : Bor (List ℕ)). bytes_eq name key.now) keys
 
 -- a region whose port is the place of the node that it names
 abbrev pub placed_region : (List ℕ → Option ℕ) → NamedRegion → Region

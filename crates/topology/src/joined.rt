@@ -5,7 +5,7 @@ ghost use Rattle.indexmap.specs.IndexSet.{insert_key};
 ghost use Rattle.node_graph.specs.Graph.{each_once};
 ghost use Rattle.node_graph.specs.Simple.{lists_in};
 ghost use Rattle.topology.specs.Document.{graph_of, node_at, targets_of};
-ghost use Rattle.topology.specs.Joined.{node_names, place_in, placed_region, texts};
+ghost use Rattle.topology.specs.Joined.{name_place, node_names, placed_region, texts};
 ghost use Rattle.topology.specs.Read.{first_with};
 ghost use Rattle.topology.specs.Refused as cause;
 ghost use Rattle.topology.specs.Wiring.{region_lists, regions_of};
@@ -42,7 +42,7 @@ pub(crate) fn regions_of_nodes(
 // The regions of a node.
 fn regions_of(alloc: Global, node: &Node, names: &IndexSet<&str>) -> Result<Vec<Region>, AllocError>
     requires few { length names.now.keys < 2 ^ 32 }
-    ensures { IfOk result (λ regions. regions.items ≡ map (placed_region (place_in names.now.keys)) node.now.region) }
+    ensures { IfOk result (λ regions. regions.items ≡ map (placed_region (name_place names.now.keys)) node.now.region) }
 {
     let mut regions = Vec::new(alloc);
     for region in node.region() {
@@ -54,7 +54,7 @@ fn regions_of(alloc: Global, node: &Node, names: &IndexSet<&str>) -> Result<Vec<
 // A region with its target as its port.
 fn placed_region(region: &NamedSpan, names: &IndexSet<&str>) -> Region
     requires few { length names.now.keys < 2 ^ 32 }
-    ensures { result ≡ placed_region (place_in names.now.keys) region.now }
+    ensures { result ≡ placed_region (name_place names.now.keys) region.now }
 {
     Region {
         base: region.base(),
@@ -116,7 +116,7 @@ fn targets_at(
 // The node that a node without regions names.
 fn target_of(alloc: Global, node: &Node, names: &IndexSet<&str>) -> Result<Vec<u32>, AllocError>
     requires few { length names.now.keys < 2 ^ 32 }
-    ensures { IfOk result (λ below. below.items ≡ each_once (filter_map (place_in names.now.keys) (node.now.to ∷ []))) }
+    ensures { IfOk result (λ below. below.items ≡ each_once (filter_map (name_place names.now.keys) (node.now.to ∷ []))) }
 {
     match named(names, node.to()) {
         Some(target) => Vec::from_slice(alloc, &[target]),

@@ -3,7 +3,7 @@
 ghost use Rattle.std.specs.Prelude.{◌≡◌, ◌<◌, ◌^◌, ◌++◌, ◌∷◌, [], IfErr, IfOk, IfSome, None, OnOk, Some, bytes_eq, is_none, length, not, position, true};
 ghost use Rattle.std.specs.List.{list_any};
 ghost use Rattle.topology.specs.Document.{NamedRegion, names_of};
-ghost use Rattle.topology.specs.Joined.{node_names, place_in, texts};
+ghost use Rattle.topology.specs.Joined.{name_place, node_names, texts};
 ghost use Rattle.topology.specs.Read.{first_with};
 ghost use Rattle.topology.specs.Refused as cause;
 
@@ -83,7 +83,7 @@ fn names_unknown(nodes: &[Node], place: u32, names: &IndexSet<&str>) -> bool
 // Whether a node names what isn't among these names.
 fn is_unknown(node: &Node, names: &IndexSet<&str>) -> bool
     requires few { length names.now.keys < 2 ^ 32 }
-    ensures { result ≡ list_any (λ name. is_none (place_in names.now.keys name)) (names_of node.now) }
+    ensures { result ≡ list_any (λ name. is_none (name_place names.now.keys name)) (names_of node.now) }
 {
     if has_regions(node.kind()) {
         return is_any_unknown(node.region(), names);
@@ -94,7 +94,7 @@ fn is_unknown(node: &Node, names: &IndexSet<&str>) -> bool
 // Whether a name isn't among these names.
 fn is_unknown_name(name: &str, names: &IndexSet<&str>) -> bool
     requires few { length names.now.keys < 2 ^ 32 }
-    ensures { result ≡ is_none (place_in names.now.keys name.now) }
+    ensures { result ≡ is_none (name_place names.now.keys name.now) }
 {
     named(names, name).is_none()
 }
@@ -102,7 +102,7 @@ fn is_unknown_name(name: &str, names: &IndexSet<&str>) -> bool
 // Whether one of these regions names what isn't among these names.
 fn is_any_unknown(regions: &[NamedSpan], names: &IndexSet<&str>) -> bool
     requires few { length names.now.keys < 2 ^ 32 }
-    ensures { result ≡ list_any (λ (region : NamedRegion). is_none (place_in names.now.keys region.to)) regions.now }
+    ensures { result ≡ list_any (λ (region : NamedRegion). is_none (name_place names.now.keys region.to)) regions.now }
 {
     regions
         .iter()

@@ -3,7 +3,7 @@ use Rattle.std.proofs.lemmas.Result.{IfOk-weaker}
 use Rattle.address_map.specs.declared.region.Region.{Region}
 use Rattle.node_graph.specs.Graph.{each_once}
 use Rattle.topology.specs.Document.{DocumentNode, has_regions, is_memory, node_at, targets_of}
-use Rattle.topology.specs.Joined.{place_in}
+use Rattle.topology.specs.Joined.{name_place}
 use Rattle.topology.specs.Wiring.{regions_of}
 use Rattle.topology.proofs.JoinedLemmas.{all-known, targets-other, targets-region}
 use Rattle.topology.proofs.WiringFacts.{regions-at}
@@ -23,9 +23,9 @@ returns c =
     let node : DocumentNode = node_at c.args.nodes.now c.args.place in
     let here : has_regions node.kind ≡ false = sym (ap has_regions (c.kind.ensures ∙ ap (λ (d : DocumentNode). d.kind) c.node_at-node.ensures)) ∙ sym c.if-has_regions.ensures in
     let other : is_memory node.kind ≡ false = sym (ap is_memory (c.kind-2.ensures ∙ ap (λ (d : DocumentNode). d.kind) c.node_at-node.ensures)) ∙ sym c.if-is_memory.ensures in
-    IfOk-weaker c.target_of.result (λ below. below.items ≡ each_once (filter_map (place_in c.args.names.now.keys) (c.node_at-node.result.now.to ∷ []))) (λ below. below.items ≡ targets_of c.args.nodes.now node)
+    IfOk-weaker c.target_of.result (λ below. below.items ≡ each_once (filter_map (name_place c.args.names.now.keys) (c.node_at-node.result.now.to ∷ []))) (λ below. below.items ≡ targets_of c.args.nodes.now node)
     (
-    λ below e. e ∙ ap (λ (d : DocumentNode). each_once (filter_map (place_in c.args.names.now.keys) (d.to ∷ []))) c.node_at-node.ensures
+    λ below e. e ∙ ap (λ (d : DocumentNode). each_once (filter_map (name_place c.args.names.now.keys) (d.to ∷ []))) c.node_at-node.ensures
     ∙ targets-other node c.args.nodes.now c.args.names.now.keys c.requires.names here other
     )
     c.target_of.ensures
