@@ -1,14 +1,12 @@
 -- The managers of a run: what each keeps, what it notes, and that a number is of one transaction of one manager.
-use Rattle.std.proofs.Common.{◌≡◌, ◌<◌, ◌≤◌, [], ◌∷◌, ℕ, zero, suc, List, Option, Some, None, length, refl, sym, ap, ◌∙◌, subst, inl, inr, arith}
-use Rattle.std.specs.Prelude.{All, AllPairs, Any, Contains, flat_map, get_or, map, slice_get}
+use Rattle.std.proofs.Common.{◌≡◌, ◌<◌, ◌≤◌, [], ℕ, zero, suc, List, Option, Some, None, length, refl, sym, ap, ◌∙◌, subst, inl, inr, arith}
+use Rattle.std.specs.Prelude.{All, AllPairs, Any, Contains, flat_map, get_or, slice_get}
 use Rattle.std.specs.Option.{option_map, option_map_or}
 use Rattle.std.proofs.lemmas.Bool.{cases_lt}
 use Rattle.std.proofs.lemmas.List.Elements.{All-nil}
 use Rattle.std.proofs.lemmas.Option.{none-some, same_Some, slice_get_within}
 use Rattle.axi_link.specs.declared.out.Out.{Out}
-use Rattle.axi_trail.specs.Schedule.{Progress, Schedule}
-use Rattle.axi_trail.specs.Trail.{Beats, trail_above}
-use Rattle.manager_node.proofs.NumberLemmas.{number-once}
+use Rattle.axi_trail.specs.Trail.{trail_above}
 use Rattle.manager_node.proofs.OrderLaws.{notes-stay}
 use Rattle.manager_node.specs.Answer.{AnswerView}
 use Rattle.manager_node.specs.ManagerOrder.{Notes, note_at}
@@ -21,7 +19,7 @@ use Rattle.net_history.specs.History.{manager_by, manager_of}
 use Rattle.net_kinds.specs.NodeHolds.{node_holds}
 use Rattle.net_kinds.specs.NodeKind.{KindName, NodeState, StateOf, node_kind}
 use Rattle.net_kinds.specs.NodeKind.KindName.{ADemux, AManager, AMemory, AMux, ASlice, AnError}
-use Rattle.net_model.specs.Network.{Network, after_rounds, node_next, upper_node}
+use Rattle.net_model.specs.Network.{Network, node_next, upper_node}
 use Rattle.net_runs.proofs.ContractFacts.{at-some}
 use Rattle.net_runs.proofs.RoundLemmas.{node-after}
 use Rattle.net_runs.specs.Run.{chosen, nodes_after, passed_by, queues_after, upper_end}
@@ -35,7 +33,6 @@ use Rattle.node_core.specs.Acted.{Acted}
 use Rattle.node_shape.specs.LinkForm.{LinkForm}
 use Rattle.node_shape.specs.Way.{Origin}
 use Rattle.plain_lists.proofs.CutLemmas.{contains-map}
-use Rattle.plain_lists.proofs.PlaceLemmas.{contains-at}
 
 -- a node is a manager, which stands like this before the first round
 pub record IsManagerAt (net : Network NodeState) (node : ℕ) (s : ManagerState) : Type 0 where

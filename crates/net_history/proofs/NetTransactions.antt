@@ -1,5 +1,5 @@
 -- The transactions of a network, by the managers that they are of.
-use Rattle.std.proofs.Common.{◌≡◌, ◌≢◌, ◌<◌, ◌+◌, ◌==◌, [], ◌∷◌, ◌++◌, ℕ, zero, suc, List, Option, Some, None, Bool, true, false, append-nil, refl, sym, ap, ap₂, ◌∙◌, subst, arith}
+use Rattle.std.proofs.Common.{◌≡◌, ◌≢◌, ◌<◌, ◌+◌, ◌==◌, [], ◌∷◌, ◌++◌, ℕ, zero, suc, List, Some, Bool, append-nil, refl, sym, ap, ap₂, ◌∙◌, subst, arith}
 use Rattle.std.specs.Prelude.{All, Any, filter, map, option_map, slice_get}
 use Rattle.std.specs.Option.{option_map_or}
 use Rattle.std.proofs.lemmas.List.Elements.{All-append, All-map, All-nil, filter-append}
@@ -14,7 +14,7 @@ use Rattle.net_history.proofs.ListLemmas.{Any-left, Any-right}
 use Rattle.net_history.proofs.ManagerRuns.{IsManagerAt}
 use Rattle.net_history.proofs.RunStates.{acted_as}
 use Rattle.net_history.specs.Due.{own_transactions, transaction_from, transactions_from, transactions_of}
-use Rattle.net_history.specs.History.{manager_by, manager_of}
+use Rattle.net_history.specs.History.{manager_of}
 use Rattle.net_kinds.specs.NodeKind.{KindName, NodeState, StateOf}
 use Rattle.net_kinds.specs.NodeKind.KindName.{ADemux, AManager, AMemory, AMux, ASlice, AnError}
 use Rattle.net_model.specs.Network.{Network}

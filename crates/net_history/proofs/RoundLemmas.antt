@@ -1,6 +1,6 @@
 -- The rounds that the managers of a network note are right.
-use Rattle.std.proofs.Common.{◌≡◌, ◌≢◌, ◌<◌, [], ◌∷◌, ℕ, zero, suc, List, Option, Some, None, Bool, true, false, length, refl, sym, ap, ◌∙◌, subst, inl, inr, arith}
-use Rattle.std.specs.Prelude.{All, AllPairs, Any, Contains, flat_map, map, slice_get, take}
+use Rattle.std.proofs.Common.{◌≡◌, ◌≢◌, ◌<◌, ℕ, List, Some, Bool, true, false, length, refl, sym, ap, ◌∙◌, subst, inl, inr, arith}
+use Rattle.std.specs.Prelude.{All, AllPairs, Any, slice_get, take}
 use Rattle.std.specs.List.{list_all}
 use Rattle.std.proofs.lemmas.Bool.{cases_Bool, eqb-true, ltb-true}
 use Rattle.std.proofs.lemmas.List.Folds.{list_all_at}
@@ -14,7 +14,6 @@ use Rattle.manager_node.proofs.NumberLemmas.{number-before, number-once}
 use Rattle.manager_node.specs.Answer.{AnswerView, unanswered}
 use Rattle.manager_node.specs.ManagerOrder.{AreOfDirection, AreOfId}
 use Rattle.manager_node.specs.ManagerState.{ManagerState, is_answered, is_done}
-use Rattle.manager_node.specs.ManagerTrail.{IsNewManager}
 use Rattle.manager_node.specs.Script.{ScriptItem}
 use Rattle.net_history.proofs.ManagerRuns.{IsManagerAt, all-managers, answered-in, any-manager, at-run, begins, issued-in, manager-fact, manager-keeps, manager_run, note-within, note_after, one-node, one-state, pairs-managers, script-is}
 use Rattle.net_history.proofs.NetTransactions.{all-transactions, any-transaction, due_of, of-manager}
@@ -22,7 +21,6 @@ use Rattle.net_history.proofs.NotedLists.{all-answers, all-issues, answer_at, an
 use Rattle.net_history.proofs.RunStates.{acted_as, stands-at}
 use Rattle.net_history.specs.Due.{transactions_of}
 use Rattle.net_history.specs.History.{answers_after, answers_by, issues_after, issues_by}
-use Rattle.net_history.specs.HistoryLaws.{HasRightRounds, RoundsAreRight}
 use Rattle.net_history.specs.Right.{IsNotedAnswer, IsNotedIssue, AllAreAnswered}
 use Rattle.net_kinds.specs.NodeKind.{NodeState, node_kind}
 use Rattle.net_kinds.specs.NodeKind.KindName.{AManager}
@@ -93,7 +91,7 @@ module _ (net : Network NodeState) (forms : ℕ → LinkForm) (sound : IsSound n
       let one = one-node net forms sound j k s t own.is other.is item mine (contains-at s.script p item own.at) (contains-at t.script q mine other.at) same in
       omega (arith, less, one)
 
-  issued-once : AllPairs (λ (i j : Issue). i.number ≢ j.number) (issues_after n net)
+  pub issued-once : AllPairs (λ (i j : Issue). i.number ≢ j.number) (issues_after n net)
   issued-once =
       pairs-managers net issues_by n (λ (i j : Issue). i.number ≢ j.number)
       (λ node s is. apart (λ (i : Issue). i.number) (issues_by (manager_run net s n)) (issues-rise (manager_run net s n).script (manager_run net s n).answers (run-numbered node s is)))
@@ -102,7 +100,7 @@ module _ (net : Network NodeState) (forms : ℕ → LinkForm) (sound : IsSound n
       all-issues (manager_run net t n).script (manager_run net t n).answers (λ (o : Issue). item.txn.number ≢ o.number) (λ q mine there noted.
       other-number j k s t p q item mine less (record { is = is; at = at-first j s is p item at }) (record { is = has; at = at-first k t has q mine there }))))
 
-  answered-once : AllPairs (λ (a b : Answer). a.number ≢ b.number) (answers_after n net)
+  pub answered-once : AllPairs (λ (a b : Answer). a.number ≢ b.number) (answers_after n net)
   answered-once =
       pairs-managers net answers_by n (λ (a b : Answer). a.number ≢ b.number)
       (λ node s is. apart (λ (a : Answer). a.number) (answers_by (manager_run net s n)) (answers-rise (manager_run net s n).script (manager_run net s n).answers (run-numbered node s is)))
@@ -111,12 +109,12 @@ module _ (net : Network NodeState) (forms : ℕ → LinkForm) (sound : IsSound n
       all-answers (manager_run net t n).script (manager_run net t n).answers (λ (o : Answer). item.txn.number ≢ o.number) (λ q mine there noted.
       other-number j k s t p q item mine less (record { is = is; at = at-first j s is p item at }) (record { is = has; at = at-first k t has q mine there }))))
 
-  issues-belong : All (λ (i : Issue). Any (λ (t : Transaction). t.number ≡ i.number) (transactions_of net forms)) (issues_after n net)
+  pub issues-belong : All (λ (i : Issue). Any (λ (t : Transaction). t.number ≡ i.number) (transactions_of net forms)) (issues_after n net)
   issues-belong =
       all-issued (λ (i : Issue). Any (λ (t : Transaction). t.number ≡ i.number) (transactions_of net forms)) (λ node s place item own issued.
       any-transaction net forms (λ (t : Transaction). t.number ≡ item.txn.number) node s own.is place item own.at refl)
 
-  issue-before_answer : All (λ (a : Answer). IsIssuedBefore (issues_after n net) a.number a.round) (answers_after n net)
+  pub issue-before_answer : All (λ (a : Answer). IsIssuedBefore (issues_after n net) a.number a.round) (answers_after n net)
   issue-before_answer =
       all-answered (λ (a : Answer). IsIssuedBefore (issues_after n net) a.number a.round) (λ node s place item own answered.
       let first = (manager-keeps net forms sound node s own.is n).in_order.issue_first place answered in
@@ -185,13 +183,13 @@ module _ (net : Network NodeState) (forms : ℕ → LinkForm) (sound : IsSound n
       all-transactions net forms (λ (t : Transaction). All (λ (u : Transaction). Sentence t u) (transactions_of net forms)) (λ j s is p t at.
       all-transactions net forms (Sentence (due_of net forms j s t)) (λ k z has q u there. each j k s z p q t u (record { is = is; at = at }) (record { is = has; at = there })))
 
-  issues-in_order : OfEachTwo (transactions_of net forms) (AreIssuedInOrder (issues_after n net))
+  pub issues-in_order : OfEachTwo (transactions_of net forms) (AreIssuedInOrder (issues_after n net))
   issues-in_order =
       of-each_two (AreIssuedInOrder (issues_after n net)) (λ j k s z p q t u own other order.
       all-issued (λ (i : Issue). i.number ≡ u.txn.number → IsIssuedBefore (issues_after n net) t.txn.number i.round)
       (λ l y r v third issued same. issued-earlier j k l s z y p q r t u v own other third order same issued))
 
-  answers-in_order : OfEachTwo (transactions_of net forms) (AreAnsweredInOrder (answers_after n net))
+  pub answers-in_order : OfEachTwo (transactions_of net forms) (AreAnsweredInOrder (answers_after n net))
   answers-in_order =
       of-each_two (AreAnsweredInOrder (answers_after n net)) (λ j k s z p q t u own other order.
       all-answered (λ (a : Answer). a.number ≡ u.txn.number → IsAnsweredBefore (answers_after n net) t.txn.number a.round)
@@ -209,7 +207,7 @@ module _ (net : Network NodeState) (forms : ℕ → LinkForm) (sound : IsSound n
       let answered = (manager-keeps net forms sound node s own.is n).in_order.waits q r v (at-run net forms sound node s own.is n r v own.at) below issued in
       any-answered (λ (a : Answer). (a.number ≡ u.txn.number) × (a.round < (note s r).issued)) node s q u (record { is = own.is; at = at }) answered.0 (refl, answered.1))))
 
-  waits : All (WaitsForAnswers (transactions_of net forms) (issues_after n net) (answers_after n net)) (transactions_of net forms)
+  pub waits : All (WaitsForAnswers (transactions_of net forms) (issues_after n net) (answers_after n net)) (transactions_of net forms)
   waits =
       all-transactions net forms (WaitsForAnswers (transactions_of net forms) (issues_after n net) (answers_after n net)) (λ node s is p t at.
       all-issued (λ (i : Issue). i.number ≡ t.txn.number → All (λ (u : Transaction). IsAnsweredBefore (answers_after n net) u.number i.round) (take t.txn.after (transactions_by node (transactions_of net forms))))
@@ -224,14 +222,14 @@ module _ (net : Network NodeState) (forms : ℕ → LinkForm) (sound : IsSound n
 module _ (net : Network NodeState) (forms : ℕ → LinkForm) (sound : IsSound node_kind net forms) (n : ℕ) where
   -- ---- issues and answers name the rounds in which they are noted
 
-  issues-noted : All (IsNotedIssue net n) (issues_after n net)
+  pub issues-noted : All (IsNotedIssue net n) (issues_after n net)
   issues-noted =
       all-issued net forms sound n (IsNotedIssue net n) (λ node s place item own issued.
       let round = (note_after net s n place).issued in
       let noted = issued-in net forms sound node s own.is place n round refl issued in
       (noted.0, any-issued net forms sound round (λ (j : Issue). (j.number ≡ item.txn.number) × (j.round ≡ round)) node s place item own (omega (arith, noted.1, issued)) (refl, noted.1)))
 
-  answers-noted : All (IsNotedAnswer net n) (answers_after n net)
+  pub answers-noted : All (IsNotedAnswer net n) (answers_after n net)
   answers-noted =
       all-answered net forms sound n (IsNotedAnswer net n) (λ node s place item own answered.
       let round = (note_after net s n place).answered in
@@ -245,7 +243,7 @@ module _ (net : Network NodeState) (forms : ℕ → LinkForm) (sound : IsSound n
       let there = stands-at net node AManager s is.out is.at n in
       all-pass (λ (a : Acted NodeState). node_kind.is_done a.state) (nodes_after node_kind net n) finished node (acted_as AManager (manager_run net s n) there.out) there.at
 
-  is-whole : AllAreAnswered net forms n
+  pub is-whole : AllAreAnswered net forms n
   is-whole finished =
       all-transactions net forms (λ (t : Transaction). HasAnswer t (answers_after n net)) (λ node s is place item at.
       let fact = manager-fact net forms sound node s is n in
@@ -255,17 +253,3 @@ module _ (net : Network NodeState) (forms : ℕ → LinkForm) (sound : IsSound n
       let noted : note_after net s n place ≡ there.0 = get_or_from_slice_get (manager_run net s n).answers place there.0 (unanswered 0) there.1 in
       any-answered net forms sound n (λ (a : Answer). a.number ≡ item.txn.number) node s place item (record { is = is; at = at })
       (ltb-true 0 (note_after net s n place).answered (ap is_answered noted ∙ all)) refl)
-
-pub rounds-are_right : RoundsAreRight
-rounds-are_right net forms sound n = record {
-  issues_belong = issues-belong net forms sound n;
-  issued_once = issued-once net forms sound n;
-  answered_once = answered-once net forms sound n;
-  issue_before_answer = issue-before_answer net forms sound n;
-  issues_in_order = issues-in_order net forms sound n;
-  answers_in_order = answers-in_order net forms sound n;
-  waits = waits net forms sound n;
-  issues_noted = issues-noted net forms sound n;
-  answers_noted = answers-noted net forms sound n;
-  whole = is-whole net forms sound n;
-}

@@ -1,11 +1,10 @@
 -- The nodes of a run: each is of one kind, and its state goes by the kind's table.
-use Rattle.std.proofs.Common.{◌≡◌, ◌<◌, ℕ, zero, suc, List, Option, Some, length, refl, sym, ap, ◌∙◌, subst, arith}
-use Rattle.std.specs.Prelude.{IfSome, slice_get}
+use Rattle.std.proofs.Common.{◌≡◌, ℕ, zero, suc, Some, ap, ◌∙◌}
+use Rattle.std.specs.Prelude.{slice_get}
 use Rattle.std.specs.Option.{option_map}
 use Rattle.axi_link.specs.declared.out.Out.{Out}
-use Rattle.memory_node.specs.Events.{Access}
 use Rattle.net_kinds.specs.NodeKind.{KindName, NodeState, StateOf, kind_by_name, node_kind}
-use Rattle.net_model.specs.Network.{Network, after_rounds, node_next}
+use Rattle.net_model.specs.Network.{Network, node_next}
 use Rattle.net_runs.proofs.ContractFacts.{at-some}
 use Rattle.net_runs.proofs.RoundLemmas.{node-after}
 use Rattle.net_runs.specs.Run.{HoldsAt, nodes_after, queues_after}

@@ -1,5 +1,5 @@
 -- What happened in the first rounds of a run: the accesses of its memories, and what its managers noted.
-use Rattle.std.specs.Prelude.{◌+◌, ◌++◌, ◌∷◌, [], ℕ, zero, suc, List, Option, Some, None, flat_map, map, nat_lt, zip, if◌then◌else◌}
+use Rattle.std.specs.Prelude.{◌++◌, ◌∷◌, [], ℕ, zero, suc, List, Option, Some, None, flat_map, map, nat_lt, zip, if◌then◌else◌}
 use Rattle.std.specs.List.{filter_map}
 use Rattle.std.specs.Option.{option_map_or}
 use Rattle.axi_history.specs.Records.{Answer, Event, Issue}

@@ -1,4 +1,4 @@
-use Rattle.net_history.proofs.RoundLemmas.{rounds-are_right}
+use Rattle.net_history.proofs.RunLemmas.{rounds-are_right}
 use Rattle.net_history.proofs.history_laws.laws_of_rounds.Goals as goal
 
 pub returns : goal.returns
