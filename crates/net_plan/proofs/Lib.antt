@@ -9,4 +9,6 @@ pub mod SoundParts
 pub mod NodeSound
 pub mod NodeBegins
 pub mod OnceLemmas
+pub mod WayEnds
+pub mod LineLemmas
 pub mod OpeningSound

@@ -9,11 +9,12 @@ use Rattle.elaborate.specs.declared.part.Part.TheVariants as part
 use Rattle.net_kinds.specs.NodeKind.{NodeState, node_kind}
 use Rattle.net_opening.specs.Opening.{opening}
 use Rattle.net_opening.specs.PlanLinks.{form_of_link}
+use Rattle.net_plan.proofs.LineLemmas.{keeps-lines}
 use Rattle.net_plan.proofs.NodeBegins.{begins-by}
 use Rattle.net_plan.proofs.NodeSound.{sound-by}
 use Rattle.net_plan.proofs.OnceLemmas.{once}
 use Rattle.net_plan.proofs.OpeningWired.{form-is, node-at, node-is, node-past, wired}
-use Rattle.net_plan.specs.PlanLaws.{CanRun, KeepsLines, OpeningsAreSound}
+use Rattle.net_plan.specs.PlanLaws.{CanRun, OpeningsAreSound}
 use Rattle.net_ways.specs.Sound.{IsSound}
 use Rattle.net_ways.specs.Ways.{schedules_of}
 use Rattle.node_core.specs.Acted.{Acted}
@@ -21,7 +22,7 @@ use Rattle.plan_traffic.specs.Accepted.{IsTraffic}
 use Rattle.plan_traffic.specs.Traffic.{TrafficItem}
 use Rattle.topology.specs.Document.{DocumentNode, node_at}
 
-module _ (nodes : List DocumentNode) (items : List TrafficItem) (run : CanRun nodes) (traffic : IsTraffic nodes items) (keeps : KeepsLines nodes items) where
+module _ (nodes : List DocumentNode) (items : List TrafficItem) (run : CanRun nodes) (traffic : IsTraffic nodes items) where
   begins : (number : ℕ) → IfSome (slice_get (opening nodes items).nodes number) (λ (a : Acted NodeState). node_kind.begins a.state)
   begins number =
       elim (cases_lt number (length (plan_nodes nodes))) [
@@ -44,17 +45,17 @@ module _ (nodes : List DocumentNode) (items : List TrafficItem) (run : CanRun no
             subst (λ (o : Option (Acted NodeState)). IfSome o (λ (a : Acted NodeState). node_kind.is_sound (form_of_link nodes) (schedules_of node_kind (opening nodes items) (form_of_link nodes)) a.state))
             (sym (node-is nodes items number less))
             (sound-by nodes items run traffic (schedules_of node_kind (opening nodes items) (form_of_link nodes)) number spot.place spot.inner (plan_node_at nodes number) at
-            (form-document nodes spot.place spot.inner (plan_node_at nodes number) (node_at nodes spot.place).kind spot.form) refl spot.within spot.sum spot.form (keeps number less))
+            (form-document nodes spot.place spot.inner (plan_node_at nodes number) (node_at nodes spot.place).kind spot.form) refl spot.within spot.sum spot.form (keeps-lines nodes items run traffic number less))
         | inr past ↦
             subst (λ (o : Option (Acted NodeState)). IfSome o (λ (a : Acted NodeState). node_kind.is_sound (form_of_link nodes) (schedules_of node_kind (opening nodes items) (form_of_link nodes)) a.state))
             (sym (node-past nodes items number past)) tt
       ]
 
 pub openings-are_sound : OpeningsAreSound
-openings-are_sound nodes items run traffic keeps = record {
+openings-are_sound nodes items run traffic = record {
   wired = wired nodes items run;
   formed = λ link less. form-is nodes items link;
-  begins = begins nodes items run traffic keeps;
-  nodes = each nodes items run traffic keeps;
+  begins = begins nodes items run traffic;
+  nodes = each nodes items run traffic;
   once = once nodes items run traffic;
 }

@@ -1,0 +1,238 @@
+-- A memory of a plan's network keeps the lines of the writes that come to it.
+use Rattle.std.proofs.Common.{◌≡◌, ◌<◌, ◌≤◌, ◌+◌, ◌-◌, ◌/◌, ◌*◌, ◌++◌, ◌==◌, ◌&&◌, ◌||◌, ℕ, zero, suc, Bool, true, false, cond, List, [], ◌∷◌, length, map, Option, Some, None, refl, sym, ◌∙◌, ap, subst, inl, inr, arith}
+use Rattle.std.specs.Prelude.{◌⊎◌, All, Contains, filter, find, flat_map, fold, nat_lt, slice_get, slice_index_or, unwrap_or, if◌then◌else◌}
+use Rattle.std.specs.Bool.{beq}
+use Rattle.std.specs.Option.{option_and_then}
+use Rattle.std.proofs.lemmas.Bool.{and_parts, cases_eq, eq-eqb, eqb-true, false≢true, or_cases}
+use Rattle.std.proofs.lemmas.List.Elements.{All-cons, All-nil}
+use Rattle.axi_beats.specs.Bus.{IsBusWidth, is_bus_width}
+use Rattle.axi_beats.specs.declared.beat.Addr.{Addr}
+use Rattle.axi_trail.specs.LinkContracts.{without_id}
+use Rattle.axi_trail.specs.Schedule.{Share, no_share}
+use Rattle.burst_address.specs.Formulas.{beat_at, beats_of}
+use Rattle.elaborate.proofs.Forms.{Part_at, part-at}
+use Rattle.elaborate.proofs.Lists.{None-Some, Some-same, mapped-in}
+use Rattle.elaborate.proofs.PathFacts.{onward, path-goes_on, last-later}
+use Rattle.elaborate.proofs.PlanFacts.{form-document}
+use Rattle.elaborate.specs.Laws.{is_first, is_mux}
+use Rattle.elaborate.specs.Path.{next_by_part, next_part, path_from, target_of}
+use Rattle.elaborate.specs.Plan.{PlanNode, first_part, plan_link_at, plan_links, plan_node_at, plan_nodes}
+use Rattle.elaborate.specs.declared.part.Part.{Part}
+use Rattle.elaborate.specs.declared.part.Part.TheVariants as part
+use Rattle.manager_node.specs.Beats.{item_request}
+use Rattle.memory_node.specs.MemoryState.{AreLinesAmong}
+use Rattle.memory_node.specs.Store.{line_number}
+use Rattle.net_kinds.specs.NodeKind.{node_kind}
+use Rattle.net_opening.specs.Opening.{opening, state_by_part}
+use Rattle.net_opening.specs.PlanLinks.{form_of_link, link_into, link_out_of, links_into, links_out_of}
+use Rattle.net_opening.specs.Scripts.{script_item}
+use Rattle.net_opening.specs.States.{memory_at}
+use Rattle.net_opening.specs.Touched.{among, is_write_to, lines_of_burst, lines_touched, upwards}
+use Rattle.net_plan.proofs.LinkLists.{contains-in}
+use Rattle.net_plan.proofs.NodeBegins.{begins-by}
+use Rattle.net_plan.proofs.NodeLinks.{into-is, leads-down, one-into, one-out, out-is}
+use Rattle.net_plan.proofs.OnceLemmas.{Started, manager-first, started}
+use Rattle.net_plan.proofs.OpeningWired.{node-at}
+use Rattle.net_plan.proofs.PartLemmas.{LowersSuit, lowers-suit}
+use Rattle.net_plan.proofs.WayEnds.{deeper, depth_at, ends-from, first-leads, last_of, lower-known, onward-is, shallow, some-path}
+use Rattle.net_plan.specs.PlanLaws.{CanRun}
+use Rattle.net_ways.specs.Ways.{is_origin, origins_in, schedules_of, share_on, way_of}
+use Rattle.node_graph.proofs.Levels.{in-back, in-front}
+use Rattle.node_graph.proofs.Members.{in-cases, in-first, in-rest, numbers-in}
+use Rattle.node_graph.specs.Graph.{is_in, numbers}
+use Rattle.node_shape.specs.Way.{Origin}
+use Rattle.plain_lists.proofs.PlaceLemmas.{contains-at, find-has}
+use Rattle.plan_traffic.specs.Accepted.{IsTraffic}
+use Rattle.plan_traffic.specs.Traffic.{TrafficItem}
+use Rattle.topology.specs.Document.{DocumentNode, node_at}
+
+-- ---- lines
+
+line-by : (bus width x : ℕ) → (bus == width) ≡ true → x / width * width / 128 ≡ x / 128 → x / bus * bus / 128 ≡ x / 128
+line-by bus width x is line = ap (λ (b : ℕ). x / b * b / 128) (eqb-true bus width is) ∙ line
+
+-- a word lies on the line of each of its bytes
+word-line : (bus x : ℕ) → IsBusWidth bus → x / bus * bus / 128 ≡ x / 128
+word-line bus x width =
+    elim (or_cases (bus == 4 || bus == 8 || bus == 16 || bus == 32 || bus == 64) (bus == 128) width) [
+      | inr is ↦ line-by bus 128 x is (omega arith)
+      | inl five ↦ elim (or_cases (bus == 4 || bus == 8 || bus == 16 || bus == 32) (bus == 64) five) [
+        | inr is ↦ line-by bus 64 x is (omega arith)
+        | inl four ↦ elim (or_cases (bus == 4 || bus == 8 || bus == 16) (bus == 32) four) [
+          | inr is ↦ line-by bus 32 x is (omega arith)
+          | inl three ↦ elim (or_cases (bus == 4 || bus == 8) (bus == 16) three) [
+            | inr is ↦ line-by bus 16 x is (omega arith)
+            | inl two ↦ elim (or_cases (bus == 4) (bus == 8) two) [
+              | inr is ↦ line-by bus 8 x is (omega arith)
+              | inl is ↦ line-by bus 4 x is (omega arith)
+            ]
+          ]
+        ]
+      ]
+    ]
+
+among-has : (xs : List ℕ) (number y : ℕ) → (number ≡ y) ⊎ (is_in xs y ≡ true) → is_in (among xs number) y ≡ true
+among-has [] number y (inl same) = in-first number [] y same
+among-has [] number y (inr there) = absurd (false≢true there)
+among-has (least ∷ xs) number y has = go (among-has xs number y) (number == least) (nat_lt number least) refl has
+  where
+    go : ((number ≡ y) ⊎ (is_in xs y ≡ true) → is_in (among xs number) y ≡ true) → (a b : Bool) → (number == least) ≡ a → (number ≡ y) ⊎ (is_in (least ∷ xs) y ≡ true) →
+        is_in (if a then least ∷ xs else if b then number ∷ least ∷ xs else least ∷ among xs number) y ≡ true
+    go more true b is (inl same) = in-first least xs y (sym (eqb-true number least is) ∙ same)
+    go more true b is (inr there) = there
+    go more false true is (inl same) = in-first number (least ∷ xs) y same
+    go more false true is (inr there) = in-rest number (least ∷ xs) y there
+    go more false false is (inl same) = in-rest least (among xs number) y (more (inl same))
+    go more false false is (inr there) = elim (in-cases least xs y there) [ inl here ↦ in-first least (among xs number) y here | inr further ↦ in-rest least (among xs number) y (more (inr further)) ]
+
+folded-has : (xs list : List ℕ) (y : ℕ) → (is_in xs y ≡ true) ⊎ (is_in list y ≡ true) → is_in (fold among xs list) y ≡ true
+folded-has xs [] y (inl there) = there
+folded-has xs [] y (inr there) = absurd (false≢true there)
+folded-has xs (n ∷ list) y (inl there) = folded-has (among xs n) list y (inl (among-has xs n y (inr there)))
+folded-has xs (n ∷ list) y (inr there) =
+    elim (in-cases n list y there) [
+      | inl here ↦ folded-has (among xs n) list y (inl (among-has xs n y (inl here)))
+      | inr further ↦ folded-has (among xs n) list y (inr further)
+    ]
+
+-- the numbers of an element that passes are among those of all that pass
+passing-has : (f : TrafficItem → List ℕ) (p : TrafficItem → Bool) (xs : List TrafficItem) (i : ℕ) (x : TrafficItem) (y : ℕ) → slice_get xs i ≡ Some x → p x ≡ true → is_in (f x) y ≡ true → is_in (flat_map f (filter p xs)) y ≡ true
+passing-has f p [] i x y at passes there = absurd (None-Some x at)
+passing-has f p (z ∷ zs) zero x y at passes there = go (p z) (ap p (Some-same z x at) ∙ passes)
+  where
+    go : (b : Bool) → b ≡ true → is_in (flat_map f (cond b (z ∷ filter p zs) (filter p zs))) y ≡ true
+    go true e = in-front (f z) (flat_map f (filter p zs)) y (ap (λ (w : TrafficItem). is_in (f w) y) (Some-same z x at) ∙ there)
+    go false e = absurd (false≢true e)
+passing-has f p (z ∷ zs) (suc i) x y at passes there = go (passing-has f p zs i x y at passes there) (p z)
+  where
+    go : is_in (flat_map f (filter p zs)) y ≡ true → (b : Bool) → is_in (flat_map f (cond b (z ∷ filter p zs) (filter p zs))) y ≡ true
+    go more true = in-back (f z) (flat_map f (filter p zs)) y more
+    go more false = more
+
+-- ---- the target of a transaction
+
+is-manager : (p : Part) → is_first p ≡ true → p ≡ part.Manager
+is-manager part.Manager e = refl
+is-manager other e = absurd (false≢true e)
+
+nothing-there : (xs : List ℕ) (place : ℕ) → length xs ≡ 0 → slice_get xs place ≡ None
+nothing-there [] place e = refl
+nothing-there (x ∷ xs) place e = absurd (omega (arith, e))
+
+is-write : (b : Bool) → beq b true ≡ true → b ≡ true
+is-write true e = refl
+is-write false e = absurd (false≢true e)
+
+module _ (nodes : List DocumentNode) (items : List TrafficItem) (run : CanRun nodes) (traffic : IsTraffic nodes items) (number : ℕ) (less : number < length (plan_nodes nodes))
+    (memory : (plan_node_at nodes number).part ≡ part.Memory) where
+  abbrev node : PlanNode
+  node = plan_node_at nodes number
+
+  at : slice_get (plan_nodes nodes) number ≡ Some (plan_node_at nodes number)
+  at = node-at nodes items number less
+
+  into : is_in (links_into nodes number) (link_into nodes number) ≡ true
+  into =
+      ap (λ xs. is_in xs (link_into nodes number)) (sym (one-into nodes run.accepted number (plan_node_at nodes number) at (ap is_first memory) (ap is_mux memory)))
+      ∙ in-first (link_into nodes number) [] (link_into nodes number) refl
+
+  ends : (address : ℕ) → onward nodes address (plan_link_at nodes (link_into nodes number)).lower ≡ None
+  ends address =
+      let suits : LowersSuit part.Memory (plan_node_at nodes number).lower =
+      subst (λ (p : Part). LowersSuit p (plan_node_at nodes number).lower) memory (lowers-suit nodes run number (plan_node_at nodes number) at) in
+      ap (onward nodes address) (into-is nodes number (link_into nodes number) into).1
+      ∙ onward-is nodes items run address number (plan_node_at nodes number) at
+      ∙ ap (next_by_part nodes address (plan_node_at nodes number)) memory
+      ∙ nothing-there (plan_node_at nodes number).lower 0 suits
+
+  -- what comes here of a transaction is its request, and this is its target
+  pub comes-here : (origin : Origin) (from : Started nodes items origin) (found : Share) → share_on (link_into nodes number) (way_of node_kind (opening nodes items) origin) ≡ Some found →
+      (target_of nodes from.item.manager from.item.txn.request.addr ≡ number) × (found.parts ≡ without_id (item_request (script_item from.item)) ∷ [])
+  comes-here origin from found there =
+      let request : Addr = without_id (item_request (script_item from.item)) in
+      let address : ℕ = from.item.txn.request.addr in
+      let manager : ℕ = from.number in
+      let at_manager = node-at nodes items from.number from.less in
+      let is_manager = is-manager (plan_node_at nodes from.number).part from.first in
+      let suits : LowersSuit part.Manager (plan_node_at nodes from.number).lower =
+      subst (λ (p : Part). LowersSuit p (plan_node_at nodes from.number).lower) is_manager (lowers-suit nodes run from.number (plan_node_at nodes from.number) at_manager) in
+      let out : is_in (links_out_of nodes from.number) (link_out_of nodes from.number) ≡ true =
+      ap (λ xs. is_in xs (link_out_of nodes from.number)) (sym (one-out nodes run.accepted from.number (plan_node_at nodes from.number) at_manager suits))
+      ∙ in-first (link_out_of nodes from.number) [] (link_out_of nodes from.number) refl in
+      let known = out-is nodes from.number (link_out_of nodes from.number) out in
+      let leads = first-leads nodes items run from.number (link_out_of nodes from.number) (plan_node_at nodes from.number) at_manager suits refl in
+      let lower : ℕ = (plan_link_at nodes (link_out_of nodes from.number)).lower in
+      let on : onward nodes from.item.txn.request.addr from.number ≡ Some (plan_link_at nodes (link_out_of nodes from.number)).lower =
+      onward-is nodes items run from.item.txn.request.addr from.number (plan_node_at nodes from.number) at_manager
+      ∙ ap (next_by_part nodes from.item.txn.request.addr (plan_node_at nodes from.number)) is_manager
+      ∙ leads.0 in
+      let down = deeper nodes items run (plan_link_at nodes (link_out_of nodes from.number)).upper (plan_link_at nodes (link_out_of nodes from.number)).lower
+      (lower-known nodes items run (link_out_of nodes from.number) known.0) (leads-down nodes (link_out_of nodes from.number) known.0) in
+      let small = shallow nodes items run (plan_link_at nodes (link_out_of nodes from.number)).lower (lower-known nodes items run (link_out_of nodes from.number) known.0) in
+      let link_is : origin.link ≡ link_out_of nodes from.number = ap (λ (o : Origin). o.link) from.is in
+      let end = ends-from nodes items run origin.write (suc (length (opening nodes items).nodes)) (link_into nodes number) (without_id (item_request (script_item from.item)))
+      origin.link (length (plan_nodes nodes) - 1) origin.share found
+      (subst (λ (k : ℕ). k < length (plan_links nodes)) (sym link_is) known.0) (ap (λ (o : Origin). o.share.parts) from.is) there (ends from.item.txn.request.addr)
+      (subst (λ (k : ℕ). length (plan_nodes nodes) ≤ depth_at nodes items run (plan_link_at nodes k).lower + (length (plan_nodes nodes) - 1)) (sym link_is) (omega (arith, down, small))) in
+      let count : length (plan_nodes nodes) ≡ suc (length (plan_nodes nodes) - 1) = omega (arith, small) in
+      let first : first_part nodes from.item.manager ≡ from.number = sym (manager-first nodes items run from.number from.less from.first ∙ ap (first_part nodes) (sym from.manager)) in (
+        ap (λ (k : ℕ). last_of (path_from nodes (plan_nodes nodes) from.item.txn.request.addr (length (plan_nodes nodes)) k)) first
+            ∙ ap (λ (n : ℕ). last_of (path_from nodes (plan_nodes nodes) from.item.txn.request.addr n from.number)) count
+            ∙ ap last_of (path-goes_on nodes from.item.txn.request.addr (length (plan_nodes nodes) - 1) from.number (plan_link_at nodes (link_out_of nodes from.number)).lower on)
+            ∙ last-later from.number (path_from nodes (plan_nodes nodes) from.item.txn.request.addr (length (plan_nodes nodes) - 1) (plan_link_at nodes (link_out_of nodes from.number)).lower)
+            (some-path nodes from.item.txn.request.addr (length (plan_nodes nodes) - 1) (plan_link_at nodes (link_out_of nodes from.number)).lower (omega (arith, down, small)))
+            ∙ ap (λ (k : ℕ). last_of (path_from nodes (plan_nodes nodes) from.item.txn.request.addr (length (plan_nodes nodes) - 1) (plan_link_at nodes k).lower)) (sym link_is)
+            ∙ end.0
+            ∙ (into-is nodes number (link_into nodes number) into).1,
+        end.1,
+      )
+
+  bus : IsBusWidth (memory_at nodes number items).area.bus
+  bus =
+      let spot : Part_at nodes number (plan_node_at nodes number) = part-at nodes number (plan_node_at nodes number) at in
+      let begins = begins-by nodes items run traffic number spot.place spot.inner (plan_node_at nodes number) at
+      (form-document nodes spot.place spot.inner (plan_node_at nodes number) (node_at nodes spot.place).kind spot.form) refl spot.within spot.form in
+      (subst (λ (p : Part). node_kind.begins (state_by_part nodes items number p)) memory begins).area.bus
+
+  -- the lines of a write to this memory are kept
+  pub lines-kept : (item : TrafficItem) (place : ℕ) → slice_get items place ≡ Some item → item.txn.write ≡ true → target_of nodes item.manager item.txn.request.addr ≡ number →
+      AreLinesAmong (memory_at nodes number items).area (memory_at nodes number items).inner.kept.lines (without_id (item_request (script_item item)))
+  lines-kept item place there write target = λ beat few inside.
+      let to_here : (item.txn.write && target_of nodes item.manager item.txn.request.addr == number) ≡ true =
+      ap (λ (b : Bool). b && target_of nodes item.manager item.txn.request.addr == number) write ∙ eq-eqb (target_of nodes item.manager item.txn.request.addr) number target in
+      let burst : is_in (lines_of_burst item.txn.request) (line_number (beat_at item.txn.request beat)) ≡ true =
+      mapped-in (λ beat. line_number (beat_at item.txn.request beat)) (numbers (beats_of item.txn.request)) beat (numbers-in (beats_of item.txn.request) beat (omega (arith, few))) in
+      let touched : is_in (lines_touched nodes items number) (line_number (beat_at item.txn.request beat)) ≡ true =
+      folded-has [] (flat_map (λ (item : TrafficItem). lines_of_burst item.txn.request) (filter (is_write_to nodes items number) items)) (line_number (beat_at item.txn.request beat))
+      (inr (passing-has (λ (item : TrafficItem). lines_of_burst item.txn.request) (is_write_to nodes items number) items place item (line_number (beat_at item.txn.request beat)) there to_here burst)) in
+      contains-in (lines_touched nodes items number) (beat_at item.txn.request beat / (memory_at nodes number items).area.bus * (memory_at nodes number items).area.bus / 128)
+      (ap (is_in (lines_touched nodes items number)) (word-line (memory_at nodes number items).area.bus (beat_at item.txn.request beat) bus) ∙ touched)
+
+  abbrev pub IsKept : Addr → Type 0
+  IsKept = AreLinesAmong (memory_at nodes number items).area (memory_at nodes number items).inner.kept.lines
+
+  pub keeps : (t : ℕ) → (o : Option Origin) → find (is_origin true t) (origins_in node_kind (opening nodes items).nodes) ≡ o →
+      All IsKept (unwrap_or (option_and_then (λ origin. share_on (link_into nodes number) (way_of node_kind (opening nodes items) origin)) o) no_share).parts
+  keeps t None none = All-nil IsKept
+  keeps t (Some origin) found = go (share_on (link_into nodes number) (way_of node_kind (opening nodes items) origin)) refl
+    where
+      go : (s : Option Share) → share_on (link_into nodes number) (way_of node_kind (opening nodes items) origin) ≡ s → All IsKept (unwrap_or s no_share).parts
+      go None e = All-nil IsKept
+      go (Some share) e =
+          let has = find-has (is_origin true t) (origins_in node_kind (opening nodes items).nodes) origin found in
+          let parts = and_parts (beq origin.write true) (origin.number == t) has.0 in
+          let from : Started nodes items origin = started nodes items origin (contains-at (origins_in node_kind (opening nodes items).nodes) has.1 origin has.2) in
+          let write : from.item.txn.write ≡ true = sym (ap (λ (o : Origin). o.write) from.is) ∙ is-write origin.write parts.0 in
+          let here = comes-here origin from share e in
+          subst (λ (ps : List Addr). All IsKept ps) (sym here.1)
+          (All-cons IsKept (without_id (item_request (script_item from.item))) [] (lines-kept from.item from.place from.at write here.0) (All-nil IsKept))
+
+-- each memory keeps the lines of its area on which the writes lie that come to it
+abbrev pub KeepsLines : List DocumentNode → List TrafficItem → Type 0
+KeepsLines nodes items =
+    (number : ℕ) → number < length (plan_nodes nodes) → (plan_node_at nodes number).part ≡ part.Memory → (t : ℕ) →
+    All (AreLinesAmong (memory_at nodes number items).area (memory_at nodes number items).inner.kept.lines)
+    ((schedules_of node_kind (opening nodes items) (form_of_link nodes) (link_into nodes number)).writes t).parts
+
+pub keeps-lines : (nodes : List DocumentNode) (items : List TrafficItem) → CanRun nodes → IsTraffic nodes items → KeepsLines nodes items
+keeps-lines nodes items run traffic number less memory t = keeps nodes items run traffic number less memory t (find (is_origin true t) (origins_in node_kind (opening nodes items).nodes)) refl
