@@ -10,3 +10,5 @@ pub mod Once
 pub mod Depths
 pub mod PathSteps
 pub mod Kept
+pub mod LinkFacts
+pub mod MuxFacts

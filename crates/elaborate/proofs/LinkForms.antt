@@ -188,7 +188,7 @@ enters nodes place inner node next e exit =
     let found : (to : ℕ) × (is_in (targets nodes place) to ≡ true) × (entrance nodes place to ≡ next) = in-mapped (entrance nodes place) (targets nodes place) next e in
     Enters found.0 found.1 (sym found.2) (exit found.0)
 
-split-behind : (k : Kind) (p : Part) → split_kind k ≡ Some p → is_behind p ≡ true
+pub split-behind : (k : Kind) (p : Part) → split_kind k ≡ Some p → is_behind p ≡ true
 split-behind kind.Down p e = ap is_behind (sym (Some-part part.Down p e))
 split-behind kind.Lite p e = ap is_behind (sym (Some-part part.Lite p e))
 split-behind other p e = absurd (None-Some p e)

@@ -17,7 +17,7 @@ use Rattle.elaborate.proofs.LinkForms.{Entered, at-kind, entered, is_behind, rep
 use Rattle.elaborate.proofs.Lists.{Some-same, in-mapped, in-one}
 
 -- what differs before differs after
-repeats-mapped : (f : ℕ → ℕ) (xs : List ℕ) → ((x y : ℕ) → is_in xs x ≡ true → is_in xs y ≡ true → f x ≡ f y → x ≡ y) → repeats xs ≡ false → repeats (map f xs) ≡ false
+pub repeats-mapped : (f : ℕ → ℕ) (xs : List ℕ) → ((x y : ℕ) → is_in xs x ≡ true → is_in xs y ≡ true → f x ≡ f y → x ≡ y) → repeats xs ≡ false → repeats (map f xs) ≡ false
 unfolding repeats
 repeats-mapped f [] apart once = refl
 repeats-mapped f (x ∷ xs) apart once =

@@ -230,7 +230,7 @@ first-behind : (p : Part) → is_behind p ≡ true → is_first p ≡ false
 first-behind part.Manager e = absurd (false≢true e)
 first-behind other e = refl
 
-no_upper : (nodes : List DocumentNode) → IsAccepted nodes → (place upper : ℕ) → place < length nodes → is_manager (node_at nodes place).kind ≡ true → is_in (uppers_of nodes place) upper ≡ true → ⊥
+pub no_upper : (nodes : List DocumentNode) → IsAccepted nodes → (place upper : ℕ) → place < length nodes → is_manager (node_at nodes place).kind ≡ true → is_in (uppers_of nodes place) upper ≡ true → ⊥
 no_upper nodes accepted place upper less manager there =
     elim (and_cases (not (joins_links (node_at nodes place).kind)) (nat_lt (if is_manager (node_at nodes place).kind then 0 else 1) (length (uppers_of nodes place))) (accepted-is_clean nodes accepted place less).uppers_are_few) [
       | inl no_test ↦ true≢false (ap not (sym (manager-joins (node_at nodes place).kind manager)) ∙ no_test)

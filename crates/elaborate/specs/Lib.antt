@@ -6,3 +6,4 @@ pub mod KnownPlans
 pub mod Order
 pub mod Inside
 pub mod Unbuilt
+pub mod LinkLaws

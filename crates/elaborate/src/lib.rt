@@ -5,6 +5,7 @@
 pub use kinds::unbuilt;
 pub use known::known_plans;
 pub use link::PlanLink;
+pub use link_laws::laws_of_links;
 pub use part::Part;
 pub use path_laws::{laws_of_order, laws_of_paths};
 pub use plan::{Plan, plan_of};
@@ -17,6 +18,7 @@ mod firsts;
 mod kinds;
 mod known;
 mod link;
+mod link_laws;
 mod links;
 mod names;
 mod node;

@@ -1,6 +1,6 @@
 //! By how many rounds a run is finished at the latest.
 
-ghost use Rattle.std.specs.Prelude.{◌≡◌, ◌≤◌, ◌*◌, length};
+ghost use Rattle.std.specs.Prelude.{◌≡◌, ◌<◌, ◌≤◌, ◌*◌, ◌^◌, length, sum_by};
 ghost use Rattle.burst_address.specs.Formulas.{beats_of};
 ghost use Rattle.node_core.specs.Paces.{longest};
 ghost use Rattle.plan_traffic.specs.Accepted.{IsTraffic, Suits};
@@ -17,14 +17,24 @@ use topology::Wiring;
 /// times one more than the longest delay of a node.
 pub fn round_bound(plan: &Plan, traffic: &Traffic) -> u64
     requires { IsTraffic plan.now traffic.now }
-    ensures { result ≡ round_bound plan.now traffic.now }
+    ensures bound { result ≡ round_bound plan.now traffic.now }
+    ensures small { result < 2 ^ 62 }
+{
+    let delay = u64::from(longest_delay(plan.wiring()));
+    (1 + delay) * all_moves(plan, traffic)
+}
+
+// The most moves of all transactions.
+fn all_moves(plan: &Plan, traffic: &Traffic) -> u64
+    requires { IsTraffic plan.now traffic.now }
+    ensures moves { result ≡ sum_by (most_moves plan.now) traffic.now }
+    ensures small { result ≤ 51539607552 }
 {
     let mut moves = 0;
     for item in traffic.items() {
         moves += most_moves(plan, item);
     }
-    let delay = u64::from(longest_delay(plan.wiring()));
-    (1 + delay) * moves
+    moves
 }
 
 // The most moves that the pieces of a transaction make on its path.

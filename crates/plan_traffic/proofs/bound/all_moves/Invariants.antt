@@ -1,6 +1,6 @@
 -- The moves of the transactions so far.
 use Rattle.plan_traffic.proofs.BoundLemmas.{AreMoves}
-use Rattle.plan_traffic.proofs.bound.round_bound.Given as goal
+use Rattle.plan_traffic.proofs.bound.all_moves.Given as goal
 
 abbrev pub invariant-loop-item : goal.invariant-loop-item
 invariant-loop-item l = AreMoves l.plan l.traffic l.item-index l.moves
