@@ -126,7 +126,7 @@ fn compare(rt: &(impl Alloc<A = std::alloc::Global> + Abort), row: &Row) -> Resu
 
 /// The verdict on a row: its last line breaks the rule, if one does.
 fn verdict_on(row: &RuleRow) -> Verdict {
-    let lines = row.trace.lines().count() as u32;
+    let lines = u32::try_from(row.trace.lines().count()).unwrap_or(0);
     match row.breaks {
         Some((channel, rule)) => broken(lines, u64::from(lines), 0, channel, rule),
         None => Verdict::Legal { lines },
