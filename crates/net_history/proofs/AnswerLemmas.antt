@@ -1,16 +1,19 @@
 -- Delivery, and what the answers carry.
-use Rattle.std.proofs.Common.{◌≡◌, ◌<◌, ◌∷◌, ◌++◌, ℕ, zero, suc, false, List, Some, refl, sym, ap, ◌∙◌, subst, arith}
+use Rattle.std.proofs.Common.{◌≡◌, ◌<◌, ◌∷◌, [], ◌++◌, ℕ, zero, suc, Bool, false, cond, List, Some, refl, sym, ap, ◌∙◌, subst, inl, inr, arith}
 use Rattle.std.specs.Prelude.{All, Any, map, slice_get}
+use Rattle.std.proofs.lemmas.Bool.{cases_Bool}
 use Rattle.std.proofs.lemmas.List.Elements.{All-contains}
+use Rattle.axi_history.specs.Answered.{HasItsBytes, values_of}
 use Rattle.axi_history.specs.Delivered.{Delivered, HasAnswer, access_due, access_made, is_write_at}
-use Rattle.axi_history.specs.Records.{Answer, Event, Transaction, bytes_due, events_of}
+use Rattle.axi_history.specs.Records.{Answer, Event, NamedByte, Transaction, bytes_due, events_of}
 use Rattle.manager_node.proofs.NumberLemmas.{number-once}
 use Rattle.manager_node.specs.Answer.{AnswerView}
 use Rattle.manager_node.specs.ManagerState.{ManagerState}
 use Rattle.manager_node.specs.Script.{ScriptItem}
 use Rattle.net_history.proofs.BelongLemmas.{belongs}
+use Rattle.net_history.proofs.ByteLemmas.{bytes-noted}
 use Rattle.net_history.proofs.DoneLemmas.{all-early, done-from}
-use Rattle.net_history.proofs.ItemLemmas.{responses-noted}
+use Rattle.net_history.proofs.ItemLemmas.{responses-noted, write-note}
 use Rattle.net_history.proofs.ManagerRuns.{IsManagerAt, answered-in, begins, note_after, one-node, one-state}
 use Rattle.net_history.proofs.NetTransactions.{all-transactions, any-transaction, due_of}
 use Rattle.net_history.proofs.RoundLemmas.{IsItem, all-answered}
@@ -21,7 +24,7 @@ use Rattle.net_kinds.specs.NodeKind.{NodeState, node_kind}
 use Rattle.net_model.specs.Network.{Network}
 use Rattle.net_ways.specs.Sound.{IsSound}
 use Rattle.node_shape.specs.LinkForm.{LinkForm}
-use Rattle.burst_address.specs.Accesses.{value_after}
+use Rattle.burst_address.specs.Accesses.{answered_bytes, value_after}
 use Rattle.plain_lists.proofs.PlaceLemmas.{contains-at}
 use Rattle.plain_lists.specs.Prefixes.{IsPrefix}
 
@@ -93,3 +96,21 @@ module _ (net : Network NodeState) (forms : ℕ → LinkForm) (sound : IsSound n
   event-before_answer =
       all-answered net forms sound n (λ (a : Answer). All (λ (e : Event). e.number ≡ a.number → e.round < a.round) (events_after n net))
       (λ node s place item own answered. early-by node s place item own answered)
+
+  -- an answer has the bytes that were read
+  pub has-bytes : All (λ (t : Transaction). All (HasItsBytes (events_after n net) t) (answers_after n net)) (transactions_of net forms)
+  has-bytes =
+      all-transactions net forms (λ (t : Transaction). All (HasItsBytes (events_after n net) t) (answers_after n net)) (λ node s is place item at.
+      all-answered net forms sound n (HasItsBytes (events_after n net) (due_of net forms node s item)) (λ l y r v other answered same.
+      let own : IsItem net node s place item = record { is = is; at = at } in
+      let one = same-note node l s y place r item v own other same in
+      let noted : 0 < (note_after net s n place).answered = subst (λ (a : AnswerView). 0 < a.answered) one answered in
+      ap (λ (a : AnswerView). a.bytes) one
+      ∙ elim (cases_Bool item.txn.write) [
+        | inl writes ↦
+            (write-note net forms sound node s place item own n writes).bytes
+            ∙ sym (ap (λ (b : Bool). cond b [] (answered_bytes (map (λ (x : NamedByte). x.allowed) (due_of net forms node s item).bytes) (values_of item.txn.number (events_after n net)))) writes)
+        | inr reads ↦
+            bytes-noted net forms sound node s place item own reads n noted
+            ∙ sym (ap (λ (b : Bool). cond b [] (answered_bytes (map (λ (x : NamedByte). x.allowed) (due_of net forms node s item).bytes) (values_of item.txn.number (events_after n net)))) reads)
+      ]))

@@ -82,7 +82,7 @@ module _ (net : Network NodeState) (forms : ℕ → LinkForm) (sound : IsSound n
   known = (own-link net forms sound node s own.is).0
 
   -- the last link carries what the first one does
-  same-there : IsSameShare (first_share net forms sound its_origin (among net forms sound node s place item own)) there
+  pub same-there : IsSameShare (first_share net forms sound its_origin (among net forms sound node s place item own)) there
   same-there =
       carried-same net forms sound its_origin (among net forms sound node s place item own) _ there (end-carried net forms sound its_origin (among net forms sound node s place item own))
 

@@ -1,6 +1,7 @@
 pub mod AnswerLemmas
 pub mod AskedLemmas
 pub mod BelongLemmas
+pub mod ByteLemmas
 pub mod DoneLemmas
 pub mod DueLemmas
 pub mod EndLemmas

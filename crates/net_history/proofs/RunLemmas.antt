@@ -1,5 +1,5 @@
 -- The history of every network that can be run.
-use Rattle.net_history.proofs.AnswerLemmas.{delivered, event-before_answer, has-response}
+use Rattle.net_history.proofs.AnswerLemmas.{delivered, event-before_answer, has-bytes, has-response}
 use Rattle.net_history.proofs.BelongLemmas.{issue-before_event}
 use Rattle.net_history.proofs.RoundLemmas.{answered-once, answers-in_order, answers-noted, is-whole, issue-before_answer, issued-once, issues-belong, issues-in_order, issues-noted, waits}
 use Rattle.net_history.specs.HistoryLaws.{RoundsAreRight, RunsDeliver}
@@ -13,6 +13,7 @@ rounds-are_right net forms sound n = record {
   issued_once = issued-once net forms sound n;
   answered_once = answered-once net forms sound n;
   response = has-response net forms sound n;
+  bytes = has-bytes net forms sound n;
   issue_before_event = issue-before_event net forms sound n;
   event_before_answer = event-before_answer net forms sound n;
   issue_before_answer = issue-before_answer net forms sound n;

@@ -9,6 +9,7 @@ use Rattle.std.proofs.lemmas.List.{map-append}
 use Rattle.std.proofs.lemmas.List.Elements.{All-map, All-weaker}
 use Rattle.std.proofs.lemmas.Option.{none-some}
 use Rattle.axi_beats.specs.declared.beat.WBeat.{WBeat}
+use Rattle.axi_history.specs.Answered.{values_of}
 use Rattle.axi_history.specs.Delivered.{access_due, access_made, is_write_at}
 use Rattle.axi_history.specs.Records.{Event, bytes_due, events_of}
 use Rattle.axi_link.specs.declared.out.Out.{Out}
@@ -18,14 +19,14 @@ use Rattle.burst_address.proofs.LaneBytes.{lanes-ordered}
 use Rattle.burst_address.specs.Accesses.{value_after}
 use Rattle.manager_node.specs.ManagerState.{ManagerState}
 use Rattle.manager_node.specs.Script.{ScriptItem}
-use Rattle.memory_node.specs.Accesses.{accesses_of, due_reads, due_writes, read_addresses, writes_at}
+use Rattle.memory_node.specs.Accesses.{accesses_of, allowed_bytes, due_reads, due_writes, read_addresses, writes_at}
 use Rattle.memory_node.specs.Beats.{stored_bytes}
 use Rattle.memory_node.specs.Events.{Access}
 use Rattle.memory_node.specs.MemoryArea.{MemoryArea}
 use Rattle.memory_node.specs.MemoryState.{IsRequest, MemoryState}
 use Rattle.memory_node.specs.Status.{may_write}
 use Rattle.net_history.proofs.BelongLemmas.{IsOfItem, of-item}
-use Rattle.net_history.proofs.DueLemmas.{HasLanes, is_allowed, none-allowed, reads-due, writes-due}
+use Rattle.net_history.proofs.DueLemmas.{HasLanes, is_allowed, none-allowed, reads-allowed, reads-due, writes-due}
 use Rattle.net_history.proofs.EndLemmas.{end-carried, end-known}
 use Rattle.net_history.proofs.EventLemmas.{all-events, events-noted, events_at, node_of_event}
 use Rattle.net_history.proofs.ItemLemmas.{among, carried-is, origin, schedules}
@@ -35,7 +36,7 @@ use Rattle.net_history.proofs.MemoryRuns.{IsMemoryAt, area-is, has-form, memory-
 use Rattle.net_history.proofs.NetTransactions.{due_of}
 use Rattle.net_history.proofs.RoundLemmas.{IsItem}
 use Rattle.net_history.proofs.RunStates.{acted_as, run_state, stands-at}
-use Rattle.net_history.proofs.ShownLemmas.{access_of_event, beq-true, event_value, events-read, events-written, held-left, shown_read, shown_write}
+use Rattle.net_history.proofs.ShownLemmas.{access_of_event, beq-true, event_value, events-read, events-values, events-written, held-left, shown_read, shown_write}
 use Rattle.net_history.specs.Due.{bytes_carried, fill_of, may_access, may_at_target, of_target, strobed_of_beat, wanted_of_beat, way_end, way_target}
 use Rattle.net_history.specs.History.{event_of, events_after}
 use Rattle.net_kinds.specs.NodeHolds.{node_holds}
@@ -287,6 +288,21 @@ module _ (net : Network NodeState) (forms : ℕ → LinkForm) (sound : IsSound n
           ap (λ (b : Bool). map access_due (filter is_allowed (bytes_carried (forms (way_end net forms its_origin).link) (may_at_target net forms b its_origin) b carried_there))) reads
           ∙ ap (λ (may : ℕ → Bool). map access_due (filter is_allowed (flat_map (wanted_of_beat (forms (way_end net forms its_origin).link) may) (beats_of_parts carried_there.parts)))) (may-is false)
           ∙ reads-due c.area (forms (way_end net forms its_origin).link) form-full form-bus (beats_of_parts carried_there.parts) (lanes-in_order reads)
+
+      -- which of its bytes may be read
+      pub reads-named_allowed : item.txn.write ≡ false → map is_allowed (due_of net forms node s item).bytes ≡ flat_map (allowed_bytes c.area) (beats_of_parts carried_there.parts)
+      reads-named_allowed reads =
+          ap (λ (b : Bool). map is_allowed (bytes_carried (forms (way_end net forms its_origin).link) (may_at_target net forms b its_origin) b carried_there)) reads
+          ∙ ap (λ (may : ℕ → Bool). map is_allowed (flat_map (wanted_of_beat (forms (way_end net forms its_origin).link) may) (beats_of_parts carried_there.parts))) (may-is false)
+          ∙ reads-allowed c.area (forms (way_end net forms its_origin).link) form-full form-bus (beats_of_parts carried_there.parts) (lanes-in_order reads)
+
+      -- and the values that it has read
+      pub item-values : item.txn.write ≡ false → (n : ℕ) → values_of number (events_after n net) ≡ map (λ (a : Access). a.byte.value) (accesses_of false number (noted_by node_kind net target n))
+      item-values reads n =
+          let all = events-noted net target n in
+          ap (map (λ (e : Event). e.value)) (events-here n)
+          ∙ events-values number (events_at net target n) (ap (accesses_of true number) all ∙ no-writes n reads)
+          ∙ ap (λ (xs : List Access). map (λ (a : Access). a.byte.value) (accesses_of false number xs)) all
 
       -- the events are the first of what is due
       begins-there : (n : ℕ) → IsPrefix (map access_made (events_of number (events_after n net))) (map access_due (bytes_due (due_of net forms node s item)))

@@ -1,6 +1,6 @@
 -- What holds of the history of every network that can be run.
 use Rattle.std.specs.Prelude.{◌≡◌, ◌≢◌, ◌<◌, ℕ, All, AllPairs, Any}
-use Rattle.axi_history.specs.Answered.{AreAnsweredInOrder, AreIssuedInOrder, IsIssuedBefore, OfEachTwo, WaitsForAnswers}
+use Rattle.axi_history.specs.Answered.{AreAnsweredInOrder, AreIssuedInOrder, HasItsBytes, IsIssuedBefore, OfEachTwo, WaitsForAnswers}
 use Rattle.axi_history.specs.Delivered.{Delivered}
 use Rattle.axi_history.specs.Records.{Answer, Event, Issue, Transaction}
 use Rattle.net_history.specs.Due.{transactions_of}
@@ -21,7 +21,7 @@ RunsDeliver =
     (net : Network NodeState) (forms : ℕ → LinkForm) → IsSound node_kind net forms → (rounds : ℕ) →
     Delivered (transactions_of net forms) (events_after rounds net) (answers_after rounds net)
 
--- What is right of issues and answers: what `IsRight` says of them, but for the bytes of an answer and the order of accesses.
+-- What is right of issues and answers: all that `IsRight` says of them but for the order of accesses.
 pub record HasRightRounds (net : Network NodeState) (forms : ℕ → LinkForm) (rounds : ℕ) : Type 0 where
   pub issues_belong : All (λ (i : Issue). Any (λ (t : Transaction). t.number ≡ i.number) (transactions_of net forms)) (issues_after rounds net)
   pub issued_once : AllPairs (λ (i j : Issue). i.number ≢ j.number) (issues_after rounds net)
@@ -29,6 +29,7 @@ pub record HasRightRounds (net : Network NodeState) (forms : ℕ → LinkForm) (
   pub response :
       All (λ (a : Answer). Any (λ (t : Transaction). (t.number ≡ a.number) × (a.responses ≡ t.response)) (transactions_of net forms))
       (answers_after rounds net)
+  pub bytes : All (λ (t : Transaction). All (HasItsBytes (events_after rounds net) t) (answers_after rounds net)) (transactions_of net forms)
   pub issue_before_event : All (λ (e : Event). IsIssuedBefore (issues_after rounds net) e.number e.round) (events_after rounds net)
   pub event_before_answer :
       All (λ (a : Answer). All (λ (e : Event). e.number ≡ a.number → e.round < a.round) (events_after rounds net)) (answers_after rounds net)

@@ -10,7 +10,7 @@ pub fn laws_of_deliveries()
 {}
 
 /// After any number of rounds each transaction was issued once at most and answered once at most, with
-/// the response that is due, in order for each manager, ID and direction, and after those that it waits
+/// the response that is due and the bytes that were read, in order for each manager, ID and direction, and after those that it waits
 /// for; its accesses are between its issue and its answer; and once the network is finished, each is
 /// answered.
 pub fn laws_of_rounds()
