@@ -1,11 +1,11 @@
 -- A memory of a plan's network keeps the lines of the writes that come to it.
-use Rattle.std.proofs.Common.{◌≡◌, ◌<◌, ◌≤◌, ◌+◌, ◌-◌, ◌/◌, ◌*◌, ◌++◌, ◌==◌, ◌&&◌, ◌||◌, ℕ, zero, suc, Bool, true, false, cond, List, [], ◌∷◌, length, map, Option, Some, None, refl, sym, ◌∙◌, ap, subst, inl, inr, arith}
-use Rattle.std.specs.Prelude.{◌⊎◌, All, Contains, filter, find, flat_map, fold, nat_lt, slice_get, slice_index_or, unwrap_or, if◌then◌else◌}
+use Rattle.std.proofs.Common.{◌≡◌, ◌<◌, ◌≤◌, ◌+◌, ◌-◌, ◌/◌, ◌*◌, ◌==◌, ◌&&◌, ◌||◌, ℕ, zero, suc, Bool, true, false, cond, List, [], ◌∷◌, length, Option, Some, None, refl, sym, ◌∙◌, ap, subst, inl, inr, arith}
+use Rattle.std.specs.Prelude.{◌⊎◌, All, filter, find, flat_map, fold, nat_lt, slice_get, unwrap_or, if◌then◌else◌}
 use Rattle.std.specs.Bool.{beq}
 use Rattle.std.specs.Option.{option_and_then}
-use Rattle.std.proofs.lemmas.Bool.{and_parts, cases_eq, eq-eqb, eqb-true, false≢true, or_cases}
+use Rattle.std.proofs.lemmas.Bool.{and_parts, eq-eqb, eqb-true, false≢true, or_cases}
 use Rattle.std.proofs.lemmas.List.Elements.{All-cons, All-nil}
-use Rattle.axi_beats.specs.Bus.{IsBusWidth, is_bus_width}
+use Rattle.axi_beats.specs.Bus.{IsBusWidth}
 use Rattle.axi_beats.specs.declared.beat.Addr.{Addr}
 use Rattle.axi_trail.specs.LinkContracts.{without_id}
 use Rattle.axi_trail.specs.Schedule.{Share, no_share}
@@ -15,7 +15,7 @@ use Rattle.elaborate.proofs.Lists.{None-Some, Some-same, mapped-in}
 use Rattle.elaborate.proofs.PathFacts.{onward, path-goes_on, last-later}
 use Rattle.elaborate.proofs.PlanFacts.{form-document}
 use Rattle.elaborate.specs.Laws.{is_first, is_mux}
-use Rattle.elaborate.specs.Path.{next_by_part, next_part, path_from, target_of}
+use Rattle.elaborate.specs.Path.{next_by_part, path_from, target_of}
 use Rattle.elaborate.specs.Plan.{PlanNode, first_part, plan_link_at, plan_links, plan_node_at, plan_nodes}
 use Rattle.elaborate.specs.declared.part.Part.{Part}
 use Rattle.elaborate.specs.declared.part.Part.TheVariants as part
@@ -27,7 +27,7 @@ use Rattle.net_opening.specs.Opening.{opening, state_by_part}
 use Rattle.net_opening.specs.PlanLinks.{form_of_link, link_into, link_out_of, links_into, links_out_of}
 use Rattle.net_opening.specs.Scripts.{script_item}
 use Rattle.net_opening.specs.States.{memory_at}
-use Rattle.net_opening.specs.Touched.{among, is_write_to, lines_of_burst, lines_touched, upwards}
+use Rattle.net_opening.specs.Touched.{among, is_write_to, lines_of_burst, lines_touched}
 use Rattle.net_plan.proofs.LinkLists.{contains-in}
 use Rattle.net_plan.proofs.NodeBegins.{begins-by}
 use Rattle.net_plan.proofs.NodeLinks.{into-is, leads-down, one-into, one-out, out-is}

@@ -1,29 +1,29 @@
 -- What the links around a plan node are, by its document node.
-use Rattle.std.proofs.Common.{◌≡◌, ◌<◌, ◌≤◌, ◌+◌, ◌*◌, ◌==◌, ◌||◌, ℕ, zero, suc, Bool, true, false, cond, not, List, [], ◌∷◌, length, map, Option, Some, None, refl, sym, ◌∙◌, ap, subst, inl, inr, arith}
+use Rattle.std.proofs.Common.{◌≡◌, ◌<◌, ◌≤◌, ◌+◌, ◌*◌, ◌||◌, ℕ, zero, suc, Bool, true, false, not, List, [], ◌∷◌, length, map, Some, refl, sym, ◌∙◌, ap, subst, inl, inr, arith}
 use Rattle.std.specs.Prelude.{nat_lt, slice_get, slice_index_or, if◌then◌else◌}
 use Rattle.std.specs.List.{list_any}
-use Rattle.std.proofs.lemmas.Bool.{and_cases, cases_Bool, false≢true, ltb-false, or_parts, true≢false}
-use Rattle.elaborate.proofs.Forms.{Form, Part_at, input_count, own_part, part-at, split_kind}
+use Rattle.std.proofs.lemmas.Bool.{and_cases, false≢true, ltb-false, or_parts, true≢false}
+use Rattle.elaborate.proofs.Forms.{Form, Part_at, input_count, own_part, part-at}
 use Rattle.elaborate.proofs.Forms.Form.{Behind, Demux, DemuxError, Input, InputError, Own, Split, Target}
 use Rattle.elaborate.proofs.LinkForms.{Entered, Leads, exit_by, exit_of, is_behind, is_mux_kind, place-within, step_of, target-upper}
 use Rattle.elaborate.proofs.LinkForms.Leads.{Enters, Joins, Steps}
-use Rattle.elaborate.proofs.Lists.{None-Some, Some-same, nth-in}
+use Rattle.elaborate.proofs.Lists.{None-Some, Some-same}
 use Rattle.elaborate.proofs.PlanFacts.{Known, entered-target, known-link, target-at}
 use Rattle.elaborate.proofs.Uppers.{nth-place}
 use Rattle.elaborate.specs.Laws.{is_mux}
-use Rattle.elaborate.specs.Plan.{PlanNode, entrance, first_part, is_crossbar, plan_graph, plan_link_at, plan_links, plan_node_at, plan_nodes, target_mux, targets}
+use Rattle.elaborate.specs.Plan.{PlanNode, entrance, first_part, is_crossbar, plan_link_at, plan_links, plan_node_at, plan_nodes, target_mux, targets}
 use Rattle.elaborate.specs.Unbuilt.{is_unbuilt}
 use Rattle.elaborate.specs.declared.link.PlanLink.{PlanLink}
 use Rattle.elaborate.specs.declared.part.Part.{Part}
 use Rattle.elaborate.specs.declared.part.Part.TheVariants as part
 use Rattle.net_opening.specs.PlanLinks.{cuts_bursts, form_of_link, links_into, links_out_of}
-use Rattle.net_plan.proofs.LinkLists.{at-some, some-at}
-use Rattle.net_plan.proofs.LinkPlaces.{LinkFacts, link-facts, link_down}
+use Rattle.net_plan.proofs.LinkLists.{at-some}
+use Rattle.net_plan.proofs.LinkPlaces.{LinkFacts, link-facts}
 use Rattle.net_plan.proofs.NodeLinks.{into-is, leads-down, out-is}
 use Rattle.net_plan.proofs.PartLemmas.{is-built, no-split}
 use Rattle.net_plan.specs.PlanLaws.{CanRun}
-use Rattle.node_graph.proofs.Members.{in-cases, in-first}
-use Rattle.node_graph.specs.Graph.{is_in, nodes_below}
+use Rattle.node_graph.proofs.Members.{in-cases}
+use Rattle.node_graph.specs.Graph.{is_in}
 use Rattle.node_graph.specs.Order.{place_in}
 use Rattle.node_shape.specs.LinkForm.{LinkForm}
 use Rattle.topology.proofs.AcceptedFacts.{accepted-is_clean}

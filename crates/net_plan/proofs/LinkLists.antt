@@ -1,10 +1,10 @@
 -- Lists of numbers of which none repeats, and ranges of numbers that pass a test.
-use Rattle.std.proofs.Common.{◌≡◌, ◌<◌, ◌≤◌, ◌+◌, ◌-◌, ◌++◌, ◌==◌, ℕ, zero, suc, Bool, true, false, cond, List, [], ◌∷◌, length, map, Option, Some, None, refl, sym, ◌∙◌, ap, inl, inr, arith}
+use Rattle.std.proofs.Common.{◌≡◌, ◌<◌, ◌≤◌, ◌+◌, ℕ, zero, suc, Bool, true, false, cond, List, [], ◌∷◌, length, map, Some, refl, sym, ◌∙◌, ap, inl, inr, arith}
 use Rattle.std.specs.Prelude.{All, Contains, filter, option_map, slice_get, slice_index_or}
 use Rattle.std.specs.List.{range_with_len}
 use Rattle.std.proofs.lemmas.Bool.{false≢true, or_parts, true≢false}
-use Rattle.std.proofs.lemmas.Option.{slice_get-map, slice_get_within}
-use Rattle.elaborate.proofs.Lists.{None-Some, Some-same, get-in, nth-in}
+use Rattle.std.proofs.lemmas.Option.{slice_get-map}
+use Rattle.elaborate.proofs.Lists.{None-Some, Some-same, get-in}
 use Rattle.node_graph.specs.Graph.{is_in}
 use Rattle.node_graph.specs.Order.{repeats}
 use Rattle.node_graph.proofs.Members.{in-cases, in-first, in-rest}

@@ -1,5 +1,5 @@
 -- Where the links of a plan stand: those below a plan node stand in a row, in order of port.
-use Rattle.std.proofs.Common.{◌≡◌, ◌<◌, ◌≤◌, ◌+◌, ◌-◌, ◌++◌, ◌==◌, ℕ, zero, suc, Bool, true, false, List, [], ◌∷◌, length, map, Option, Some, None, refl, sym, ◌∙◌, ap, inl, inr, arith}
+use Rattle.std.proofs.Common.{◌≡◌, ◌<◌, ◌≤◌, ◌+◌, ◌-◌, ◌++◌, ◌==◌, ℕ, zero, suc, List, [], ◌∷◌, length, Some, refl, sym, ◌∙◌, ap, inl, inr, arith}
 use Rattle.std.specs.Prelude.{filter, slice_get, slice_index_or}
 use Rattle.std.specs.List.{range_with_len}
 use Rattle.std.proofs.lemmas.Bool.{cases_lt, eq-eqb, eqb-true, false_from_ne_true}
@@ -7,8 +7,7 @@ use Rattle.std.proofs.lemmas.List.{length-append, length-map}
 use Rattle.std.proofs.lemmas.Option.{slice_get_within}
 use Rattle.elaborate.proofs.Lists.{None-Some, Some-same, get-back, get-front}
 use Rattle.elaborate.specs.declared.link.PlanLink.{PlanLink}
-use Rattle.elaborate.specs.Plan.{PlanNode, links_below, links_from, plan_link_at, plan_links, plan_node_at, plan_nodes}
-use Rattle.elaborate.specs.declared.part.Part.TheVariants as part
+use Rattle.elaborate.specs.Plan.{PlanNode, links_below, links_from, plan_link_at, plan_links, plan_nodes}
 use Rattle.net_opening.specs.PlanLinks.{links_out_of}
 use Rattle.net_plan.proofs.LinkLists.{at-some, made-from, made-into, part-passes, some-at}
 use Rattle.node_graph.specs.Graph.{numbers}
@@ -148,8 +147,7 @@ module _ (nodes : List DocumentNode) where
   port-of upper node at link less same =
       let facts : LinkFacts link = link-facts link less in
       let is_node : facts.node ≡ node = Some-same facts.node node (sym facts.at ∙ ap (slice_get (plan_nodes nodes)) same ∙ at) in
-      let within : facts.port < length facts.node.lower = slice_get_within facts.node.lower facts.port (plan_link_at nodes link).lower facts.at_port in
-      (
+      let within : facts.port < length facts.node.lower = slice_get_within facts.node.lower facts.port (plan_link_at nodes link).lower facts.at_port in (
         facts.port,
         omega (arith, within, ap (λ (n : PlanNode). length n.lower) is_node),
         facts.sum ∙ ap (λ (k : ℕ). links_before (plan_nodes nodes) k + facts.port) same,

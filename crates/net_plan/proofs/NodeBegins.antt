@@ -1,6 +1,6 @@
 -- Each node of a plan's network begins as its kind does.
 use Rattle.std.proofs.Common.{◌≡◌, ◌≢◌, ◌<◌, ◌≤◌, ◌+◌, ◌*◌, ◌%◌, ◌^◌, ◌++◌, ◌==◌, ◌||◌, ◌&&◌, ℕ, zero, suc, Bool, true, false, cond, not, List, [], ◌∷◌, length, map, take, Option, Some, None, refl, sym, ◌∙◌, ap, subst, inl, inr, arith}
-use Rattle.std.specs.Prelude.{◌⊎◌, All, AllPairs, IfSome, filter, flat_map, fold, nat_lt, slice_get, slice_index_or, unwrap_or, if◌then◌else◌}
+use Rattle.std.specs.Prelude.{All, AllPairs, IfSome, filter, flat_map, fold, nat_lt, slice_get, slice_index_or, unwrap_or, if◌then◌else◌}
 use Rattle.std.specs.List.{list_any}
 use Rattle.std.proofs.lemmas.Bool.{eq-eqb, eqb-true, false≢true, ltb-false, ltb-true, not-false, or_cases, or_parts, true≢false}
 use Rattle.std.proofs.lemmas.List.FromFn.{length-map-range_with_len}
@@ -10,7 +10,7 @@ use Rattle.std.proofs.lemmas.List.Elements.{All-cons, All-map, All-nil}
 use Rattle.std.proofs.lemmas.List.Kept.{AllPairs-cons, AllPairs-filter}
 use Rattle.axi_trail.specs.Schedule.{Schedule, no_share}
 use Rattle.axi_beats.specs.Bus.{IsBusWidth, is_bus_width}
-use Rattle.elaborate.proofs.Forms.{Form, own_part, target_count}
+use Rattle.elaborate.proofs.Forms.{Form, own_part}
 use Rattle.elaborate.proofs.Forms.Form.{Behind, Demux, DemuxError, Input, InputError, Own, Split, Target}
 use Rattle.elaborate.proofs.Lists.{None-Some, Some-same, nth-in}
 use Rattle.elaborate.proofs.Sizes.{small}
@@ -25,7 +25,6 @@ use Rattle.address_map.specs.declared.region.Region.{Region}
 use Rattle.burst_address.specs.Legal.{IsLegal}
 use Rattle.manager_node.specs.Script.{CanPush, IsScript, ScriptItem}
 use Rattle.memory_node.specs.MemoryArea.{IsMemoryArea, IsRangeOf}
-use Rattle.memory_node.specs.declared.config.Range.{Range}
 use Rattle.net_kinds.specs.NodeKind.{node_kind}
 use Rattle.net_opening.specs.Opening.{state_by_part}
 use Rattle.net_opening.specs.PlanLinks.{links_into, links_out_of}
@@ -33,7 +32,7 @@ use Rattle.net_opening.specs.Scripts.{script_item, script_of}
 use Rattle.net_opening.specs.States.{area_of_node, memory_range}
 use Rattle.net_opening.specs.Touched.{among, is_write_to, lines_of_burst, lines_touched, upwards}
 use Rattle.net_plan.proofs.LinkKinds.{nth-input}
-use Rattle.net_plan.proofs.LinkLists.{all-of, at-some, made-from, some-at}
+use Rattle.net_plan.proofs.LinkLists.{at-some, made-from}
 use Rattle.net_plan.proofs.NodeLinks.{out-long, some-into}
 use Rattle.net_plan.proofs.NodeSound.{crossbar-few, crossbar-input, manager-is, mux-few, mux-input, of-manager}
 use Rattle.net_plan.proofs.PartLemmas.{formed-at, is-built, no-split}
@@ -46,7 +45,7 @@ use Rattle.plan_traffic.proofs.ScriptLemmas.{can-push}
 use Rattle.plan_traffic.specs.Accepted.{AreInOrder, IsTraffic, Suits, items_of_manager}
 use Rattle.plan_traffic.specs.Traffic.{TrafficItem}
 use Rattle.topology.proofs.AcceptedFacts.{accepted-is_clean}
-use Rattle.topology.specs.Document.{DocumentNode, NamedRegion, input_digits, inputs_of, is_memory, joins_links, link_kind_of, named, node_at, targets_of, uppers_of, widest}
+use Rattle.topology.specs.Document.{DocumentNode, NamedRegion, input_digits, inputs_of, is_memory, joins_links, link_kind_of, named, node_at, uppers_of, widest}
 use Rattle.topology.specs.Refused.{is_bad_range}
 use Rattle.topology.specs.declared.link.LinkKind.{LinkKind}
 use Rattle.topology_text.specs.Form.{table_form}

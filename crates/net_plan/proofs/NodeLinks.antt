@@ -1,6 +1,6 @@
 -- The links above a plan node, and those below it, by what the node is.
-use Rattle.std.proofs.Common.{◌≡◌, ◌<◌, ◌≤◌, ◌+◌, ◌==◌, ℕ, zero, suc, Bool, true, false, List, [], ◌∷◌, length, map, Option, Some, None, refl, sym, ◌∙◌, ap, inl, inr, arith}
-use Rattle.std.specs.Prelude.{filter, slice_get, slice_index_or}
+use Rattle.std.proofs.Common.{◌≡◌, ◌<◌, ◌+◌, ◌==◌, ℕ, zero, suc, true, false, List, [], ◌∷◌, length, map, Some, refl, sym, ◌∙◌, ap}
+use Rattle.std.specs.Prelude.{slice_get, slice_index_or}
 use Rattle.std.specs.List.{range_with_len}
 use Rattle.std.proofs.lemmas.Bool.{eq-eqb, eqb-true, false≢true, true≢false}
 use Rattle.std.proofs.lemmas.List.FromFn.{length-range_with_len}
@@ -11,8 +11,7 @@ use Rattle.elaborate.proofs.PlanFacts.{one-is_above}
 use Rattle.elaborate.proofs.Uppers.{node-below, none-is_above, some-is_above}
 use Rattle.elaborate.specs.Laws.{is_first, is_mux}
 use Rattle.elaborate.specs.declared.link.PlanLink.{PlanLink}
-use Rattle.elaborate.specs.Plan.{PlanNode, plan_graph, plan_link_at, plan_links, plan_node_at, plan_nodes}
-use Rattle.elaborate.specs.declared.part.Part.TheVariants as part
+use Rattle.elaborate.specs.Plan.{PlanNode, plan_graph, plan_link_at, plan_links, plan_nodes}
 use Rattle.net_opening.specs.PlanLinks.{link_into, link_out_of, links_into, links_out_of}
 use Rattle.net_plan.proofs.LinkLists.{apart, first-alone, none-in, only-one, place-of}
 use Rattle.net_plan.proofs.LinkPlaces.{LinkFacts, link-by_port, link-facts, link-there, link_down, links-out, links_before}

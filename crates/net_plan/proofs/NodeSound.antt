@@ -1,36 +1,31 @@
 -- The links around each node of a plan's network are as its kind wants them, where memories keep the lines of what comes to them.
-use Rattle.std.proofs.Common.{◌≡◌, ◌<◌, ◌≤◌, ◌+◌, ◌*◌, ◌^◌, ◌==◌, ◌||◌, ℕ, zero, suc, Bool, true, false, cond, not, List, [], ◌∷◌, length, map, Option, Some, None, refl, sym, ◌∙◌, ap, subst, inl, inr, arith}
-use Rattle.std.specs.Prelude.{All, filter, slice_get, slice_index_or}
-use Rattle.std.specs.List.{list_any, range_with_len}
-use Rattle.std.proofs.lemmas.Bool.{eqb-true, false≢true, not-false, true≢false}
+use Rattle.std.proofs.Common.{◌≡◌, ◌<◌, ◌≤◌, ◌+◌, ◌*◌, ◌^◌, ◌==◌, ℕ, suc, Bool, true, false, cond, List, [], ◌∷◌, length, map, Some, refl, sym, ◌∙◌, ap, subst, arith}
+use Rattle.std.specs.Prelude.{All, slice_get, slice_index_or}
+use Rattle.std.proofs.lemmas.Bool.{eqb-true, true≢false}
 use Rattle.std.proofs.lemmas.List.{length-map}
 use Rattle.std.proofs.lemmas.List.Elements.{All-cons, All-map, All-nil}
 use Rattle.std.proofs.lemmas.List.FromFn.{length-range_with_len}
-use Rattle.demux_node.specs.DemuxTrail.{IsSoundDemux}
-use Rattle.elaborate.proofs.Forms.{Form, Part_at, input_count, own_part, part-at}
+use Rattle.elaborate.proofs.Forms.{Form, input_count, own_part}
 use Rattle.elaborate.proofs.Forms.Form.{Behind, Demux, DemuxError, Input, InputError, Own, Split, Target}
 use Rattle.elaborate.proofs.LinkForms.{exit_of, is_behind}
 use Rattle.elaborate.proofs.Lists.{None-Some, Some-same, mapped-in, nth-in}
-use Rattle.elaborate.proofs.PlanFacts.{form-document}
 use Rattle.elaborate.specs.Laws.{is_first, is_mux}
-use Rattle.elaborate.specs.Plan.{PlanNode, demux_itself, first_part, input_demux, itself, plan_link_at, plan_links, plan_node_at, plan_nodes, target_mux}
+use Rattle.elaborate.specs.Plan.{PlanNode, first_part, plan_link_at, plan_node_at, plan_nodes}
 use Rattle.elaborate.specs.Unbuilt.{is_unbuilt}
 use Rattle.elaborate.specs.declared.part.Part.{Part}
 use Rattle.elaborate.specs.declared.part.Part.TheVariants as part
-use Rattle.manager_node.specs.ManagerTrail.{IsManagerLink}
 use Rattle.manager_node.specs.Script.{ScriptItem}
 use Rattle.memory_node.specs.MemoryState.{AreLinesAmong}
-use Rattle.mux_node.specs.MuxTrail.{IsSoundMux}
 use Rattle.net_kinds.specs.NodeKind.{node_kind}
 use Rattle.net_opening.specs.Opening.{state_by_part}
 use Rattle.net_opening.specs.PlanLinks.{form_of_link, link_into, link_out_of, links_into, links_out_of}
-use Rattle.net_opening.specs.Scripts.{script_item, script_of}
-use Rattle.net_opening.specs.States.{demux_at, manager_at, memory_at, mux_at}
-use Rattle.net_plan.proofs.LinkKinds.{Comes, JoinsAt, comes, first-input, form-plain, joins, link-below, no-input, nth-input, own-input, plain_form}
-use Rattle.net_plan.proofs.LinkLists.{all-of, at-some}
+use Rattle.net_opening.specs.Scripts.{script_item}
+use Rattle.net_opening.specs.States.{memory_at}
+use Rattle.net_plan.proofs.LinkKinds.{Comes, JoinsAt, comes, first-input, form-plain, joins, link-below, nth-input, own-input, plain_form}
+use Rattle.net_plan.proofs.LinkLists.{at-some}
 use Rattle.net_plan.proofs.NodeLinks.{into-is, into-once, one-into, one-out, out-is, same-link}
 use Rattle.net_plan.proofs.PartLemmas.{LowersSuit, is-built, lowers-suit, no-split}
-use Rattle.net_plan.proofs.SoundParts.{IsInput, below-alike, first-is, handed, same-bus, some-in, sound-demux, sound-mux}
+use Rattle.net_plan.proofs.SoundParts.{below-alike, first-is, handed, same-bus, some-in, sound-demux, sound-mux}
 use Rattle.net_plan.proofs.WidthLemmas.{no-longer}
 use Rattle.net_plan.specs.PlanLaws.{CanRun}
 use Rattle.axi_trail.specs.Schedule.{Schedule}
@@ -40,7 +35,7 @@ use Rattle.node_shape.specs.LinkForm.{LinkForm}
 use Rattle.plan_traffic.specs.Accepted.{IsTraffic, Suits, items_of_manager}
 use Rattle.plan_traffic.specs.Traffic.{TrafficItem}
 use Rattle.topology.proofs.AcceptedFacts.{accepted-is_clean}
-use Rattle.topology.specs.Document.{DocumentNode, first_link, inputs_of, joins_links, link_kind_of, merged_link, node_at, node_of_kind, uppers_of}
+use Rattle.topology.specs.Document.{DocumentNode, first_link, inputs_of, joins_links, link_kind_of, node_at, node_of_kind, uppers_of}
 use Rattle.topology.specs.Refused.{bus_differs, protocol_differs}
 use Rattle.topology.specs.declared.link.LinkKind.{LinkKind}
 use Rattle.topology_text.specs.declared.kind.Kind.{Kind}

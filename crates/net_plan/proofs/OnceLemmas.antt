@@ -1,7 +1,7 @@
 -- Each transaction of a plan's network has its own number.
-use Rattle.std.proofs.Common.{◌≡◌, ◌<◌, ◌≤◌, ◌+◌, ◌-◌, ◌++◌, ◌==◌, ℕ, zero, suc, Bool, true, false, cond, List, [], ◌∷◌, length, map, Option, Some, None, refl, sym, ◌∙◌, ap, subst, inl, inr, arith}
-use Rattle.std.specs.Prelude.{Contains, filter, flat_map, slice_get, slice_index_or}
-use Rattle.std.proofs.lemmas.Bool.{cases_lt, eqb-true, false≢true, true≢false}
+use Rattle.std.proofs.Common.{◌≡◌, ◌<◌, ◌+◌, ◌-◌, ◌==◌, ℕ, zero, suc, Bool, true, false, cond, List, [], ◌∷◌, length, Some, refl, sym, ◌∙◌, ap, inl, inr, arith}
+use Rattle.std.specs.Prelude.{Contains, filter, flat_map, slice_get}
+use Rattle.std.proofs.lemmas.Bool.{cases_lt, eqb-true, true≢false}
 use Rattle.std.proofs.lemmas.Option.{slice_get_within}
 use Rattle.elaborate.proofs.Forms.{Form, Part_at, part-at}
 use Rattle.elaborate.proofs.Forms.Form.{Behind, Demux, DemuxError, Input, InputError, Own, Split, Target}
@@ -12,7 +12,6 @@ use Rattle.elaborate.specs.Plan.{PlanNode, first_part, plan_node_at, plan_nodes}
 use Rattle.elaborate.specs.declared.part.Part.{Part}
 use Rattle.elaborate.specs.declared.part.Part.TheVariants as part
 use Rattle.manager_node.specs.ManagerTrail.{item_origin}
-use Rattle.manager_node.specs.Script.{ScriptItem}
 use Rattle.net_kinds.specs.NodeKind.{NodeState, node_kind}
 use Rattle.net_opening.specs.Opening.{opening, state_at, state_by_part}
 use Rattle.net_opening.specs.PlanLinks.{link_out_of}

@@ -1,11 +1,10 @@
 -- The network of a plan can be run.
-use Rattle.std.proofs.Common.{◌≡◌, ◌<◌, ◌≤◌, ◌+◌, ℕ, Bool, true, false, List, [], ◌∷◌, length, map, Option, Some, None, refl, sym, ◌∙◌, ap, subst, inl, inr, arith}
-use Rattle.std.specs.Prelude.{All, Contains, IfSome, slice_get, slice_index_or}
+use Rattle.std.proofs.Common.{ℕ, List, length, Option, refl, sym, subst, inl, inr}
+use Rattle.std.specs.Prelude.{IfSome, slice_get}
 use Rattle.std.proofs.lemmas.Bool.{cases_lt}
 use Rattle.elaborate.proofs.Forms.{Part_at, part-at}
 use Rattle.elaborate.proofs.PlanFacts.{form-document}
-use Rattle.elaborate.specs.Plan.{PlanNode, plan_node_at, plan_nodes}
-use Rattle.elaborate.specs.declared.part.Part.TheVariants as part
+use Rattle.elaborate.specs.Plan.{plan_node_at, plan_nodes}
 use Rattle.net_kinds.specs.NodeKind.{NodeState, node_kind}
 use Rattle.net_opening.specs.Opening.{opening}
 use Rattle.net_opening.specs.PlanLinks.{form_of_link}
@@ -15,7 +14,6 @@ use Rattle.net_plan.proofs.NodeSound.{sound-by}
 use Rattle.net_plan.proofs.OnceLemmas.{once}
 use Rattle.net_plan.proofs.OpeningWired.{form-is, node-at, node-is, node-past, wired}
 use Rattle.net_plan.specs.PlanLaws.{CanRun, OpeningsAreSound}
-use Rattle.net_ways.specs.Sound.{IsSound}
 use Rattle.net_ways.specs.Ways.{schedules_of}
 use Rattle.node_core.specs.Acted.{Acted}
 use Rattle.plan_traffic.specs.Accepted.{IsTraffic}

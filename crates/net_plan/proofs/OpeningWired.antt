@@ -1,12 +1,12 @@
 -- The network of a plan is wired.
-use Rattle.std.proofs.Common.{◌≡◌, ◌<◌, ◌≤◌, ◌+◌, ℕ, zero, suc, Bool, true, false, List, [], ◌∷◌, length, map, max, Option, Some, None, refl, sym, ◌∙◌, ap, subst, inl, inr, arith}
+use Rattle.std.proofs.Common.{◌≡◌, ◌<◌, ◌≤◌, ◌+◌, ℕ, zero, suc, true, false, List, [], ◌∷◌, length, map, Option, Some, None, refl, sym, ◌∙◌, ap, subst, inl, inr, arith}
 use Rattle.std.specs.Prelude.{All, Contains, slice_get, slice_index_or}
 use Rattle.std.specs.Option.{option_map_or}
-use Rattle.std.proofs.lemmas.Bool.{cases_lt, false≢true, true≢false}
+use Rattle.std.proofs.lemmas.Bool.{cases_lt}
 use Rattle.std.proofs.lemmas.List.{length-map}
 use Rattle.std.proofs.lemmas.List.FromFn.{length-map-range_with_len}
 use Rattle.std.proofs.lemmas.Option.{slice_get_past, slice_get_within}
-use Rattle.axi_link.specs.LinkView.{LinkView, empty_link}
+use Rattle.axi_link.specs.LinkView.{empty_link}
 use Rattle.axi_link.specs.LinkWords.{link_of}
 use Rattle.elaborate.proofs.Lists.{get-mapped}
 use Rattle.elaborate.proofs.PlanFacts.{lowers-are_nodes, plan-is_acyclic}
@@ -22,15 +22,14 @@ use Rattle.net_model.specs.declared.net_link.NetLink.{NetLink}
 use Rattle.net_opening.specs.Opening.{opening, state_at, state_by_part}
 use Rattle.net_opening.specs.PlanLinks.{form_of_link, link_into, link_out_of, links_into, links_out_of, net_link_of, queue_of}
 use Rattle.net_plan.proofs.LinkLists.{all-of, apart, contains-in, none-in, some-at}
-use Rattle.net_plan.proofs.LinkPlaces.{LinkFacts, link-facts, link_down}
+use Rattle.net_plan.proofs.LinkPlaces.{LinkFacts, link-facts}
 use Rattle.net_plan.proofs.NodeLinks.{into-is, into-once, is-into, is-out, leads-down, none-into, none-out, one-into, one-out, out-is, out-once}
 use Rattle.net_plan.proofs.PartLemmas.{LowersSuit, deep, lowers-suit}
 use Rattle.net_plan.specs.PlanLaws.{CanRun, FormsAreOfLinks, OpeningsAreWired}
 use Rattle.net_ways.specs.Sound.{IsFormOf}
 use Rattle.node_core.specs.Acted.{Acted, opened}
-use Rattle.node_graph.proofs.Members.{in-first, in-rest}
 use Rattle.node_graph.proofs.Ways.{links-lead_deeper}
-use Rattle.node_graph.specs.Graph.{Graph, depth_of, handed_in, is_in, nodes_above, nodes_below, numbers, one_more}
+use Rattle.node_graph.specs.Graph.{Graph, depth_of, handed_in, nodes_above, numbers, one_more}
 use Rattle.node_shape.specs.WaysAround.{AreApart}
 use Rattle.plan_traffic.specs.Traffic.{TrafficItem}
 use Rattle.topology.specs.Document.{DocumentNode, no_link}

@@ -1,34 +1,29 @@
 -- The links around slices, demuxes, muxes and error subordinates of a plan are as these want them.
-use Rattle.std.proofs.Common.{◌≡◌, ◌<◌, ◌≤◌, ◌+◌, ◌*◌, ◌^◌, ◌==◌, ◌||◌, ℕ, zero, suc, Bool, true, false, not, List, [], ◌∷◌, length, map, Option, Some, None, refl, sym, ◌∙◌, ap, subst, inl, inr, arith}
-use Rattle.std.specs.Prelude.{All, nat_lt, slice_get, slice_index_or}
-use Rattle.std.specs.List.{list_any, range_with_len}
-use Rattle.std.proofs.lemmas.Bool.{and_cases, eqb-true, false≢true, ltb-false, not-false, or_parts, true≢false}
-use Rattle.std.proofs.lemmas.List.{length-append, length-map}
+use Rattle.std.proofs.Common.{◌≡◌, ◌<◌, ◌≤◌, ◌==◌, ◌||◌, ℕ, Bool, true, false, not, List, [], ◌∷◌, length, map, Some, refl, sym, ◌∙◌, ap, subst, arith}
+use Rattle.std.specs.Prelude.{slice_get}
+use Rattle.std.specs.List.{list_any}
+use Rattle.std.proofs.lemmas.Bool.{eqb-true, false≢true, not-false, or_parts, true≢false}
+use Rattle.std.proofs.lemmas.List.{length-map}
 use Rattle.address_map.specs.Regions.{is_bad_region, is_bad_span}
 use Rattle.demux_node.specs.DemuxTrail.{IsSoundDemux}
-use Rattle.elaborate.proofs.Forms.{input_count}
-use Rattle.elaborate.proofs.LinkForms.{exit_of}
-use Rattle.elaborate.proofs.Lists.{mapped-in, nth-in}
 use Rattle.elaborate.proofs.Sizes.{small}
-use Rattle.elaborate.specs.Laws.{is_first, is_mux}
 use Rattle.elaborate.specs.Path.{ported_regions}
-use Rattle.elaborate.specs.Plan.{PlanNode, first_part, plan_link_at, plan_links, plan_node_at, plan_nodes}
+use Rattle.elaborate.specs.Plan.{PlanNode, plan_link_at, plan_links, plan_node_at, plan_nodes}
 use Rattle.mux_node.specs.MuxTrail.{IsSoundMux}
 use Rattle.net_opening.specs.PlanLinks.{form_of_link, link_into, link_out_of, links_into, links_out_of}
 use Rattle.net_opening.specs.States.{demux_at, mux_at}
-use Rattle.net_plan.proofs.LinkKinds.{Comes, JoinsAt, form-plain, link-below, no-input, nth-input, plain_form}
+use Rattle.net_plan.proofs.LinkKinds.{form-plain, link-below, no-input, plain_form}
 use Rattle.net_plan.proofs.LinkLists.{all-of}
-use Rattle.net_plan.proofs.NodeLinks.{into-is, into-once, out-is, same-link}
-use Rattle.net_plan.proofs.WidthLemmas.{no-longer, wide-enough, widest-most, widest-of}
+use Rattle.net_plan.proofs.NodeLinks.{into-is, out-is}
+use Rattle.net_plan.proofs.WidthLemmas.{wide-enough, widest-most, widest-of}
 use Rattle.net_plan.specs.PlanLaws.{CanRun}
-use Rattle.node_graph.proofs.Members.{in-first, numbers-in}
-use Rattle.node_graph.specs.Graph.{is_in, numbers}
+use Rattle.node_graph.proofs.Members.{in-first}
+use Rattle.node_graph.specs.Graph.{is_in}
 use Rattle.node_shape.specs.LinkForm.{IsAlike, LinkForm}
 use Rattle.topology.proofs.AcceptedFacts.{accepted-is_clean, links-are_handed_down}
-use Rattle.topology.specs.Document.{DocumentNode, NamedRegion, first_link, input_digits, inputs_of, link_below, link_kind_of, merged_link, node_at, uppers_of, widest}
+use Rattle.topology.specs.Document.{DocumentNode, NamedRegion, first_link, inputs_of, link_below, link_kind_of, merged_link, node_at, uppers_of, widest}
 use Rattle.topology.specs.declared.link.LinkKind.{LinkKind}
 use Rattle.topology_text.specs.declared.kind.Kind.{Kind}
-use Rattle.topology_text.specs.declared.kind.Kind.TheVariants as kind
 
 module _ (nodes : List DocumentNode) (run : CanRun nodes) where
   -- what a document node has below it
@@ -98,18 +93,18 @@ module _ (nodes : List DocumentNode) (run : CanRun nodes) where
         omega (arith, ap (λ (l : LinkKind). l.id_width) input.is, widest-of (link_kind_of nodes) (uppers_of nodes place) input.upper input.among)) in
         record {
           alike = all-of (λ link. IsAlike (form_of_link nodes link) (form_of_link nodes (link_out_of nodes number))) (links_into nodes number) (λ link there.
-          let input : IsInput place link = inputs link there in
-          let form : form_of_link nodes link ≡ plain_form (link_kind_of nodes input.upper) = form-plain nodes run link (into-is nodes number link there).0 ∙ ap plain_form input.is in
-          let lite : (link_kind_of nodes input.upper).lite ≡ false = no-input nodes (λ (other : LinkKind). other.lite) (uppers_of nodes place) input.upper lites input.among in
-          let first_lite : (first_link (inputs_of nodes place)).lite ≡ false = first-is (uppers_of nodes place) (λ (other : LinkKind). other.lite) (some-in (uppers_of nodes place) input.upper input.among) lites in
-          let bus : (link_kind_of nodes input.upper).bus ≡ (first_link (inputs_of nodes place)).bus =
-          same-bus (link_kind_of nodes input.upper).bus (first_link (inputs_of nodes place)).bus
-          (no-input nodes (λ (other : LinkKind). not (other.bus == (first_link (inputs_of nodes place)).bus)) (uppers_of nodes place) input.upper buses input.among) in
-          record {
-            lite = ap (λ (f : LinkForm). f.lite) out_form ∙ first_lite ∙ sym lite ∙ sym (ap (λ (f : LinkForm). f.lite) form);
-            bus = ap (λ (f : LinkForm). f.bus) out_form ∙ sym bus ∙ sym (ap (λ (f : LinkForm). f.bus) form);
-            single = ap (λ (f : LinkForm). f.single) out_form ∙ ap (λ (b : Bool). b || false) (first_lite ∙ sym lite) ∙ sym (ap (λ (f : LinkForm). f.single) form);
-          });
+              let input : IsInput place link = inputs link there in
+              let form : form_of_link nodes link ≡ plain_form (link_kind_of nodes input.upper) = form-plain nodes run link (into-is nodes number link there).0 ∙ ap plain_form input.is in
+              let lite : (link_kind_of nodes input.upper).lite ≡ false = no-input nodes (λ (other : LinkKind). other.lite) (uppers_of nodes place) input.upper lites input.among in
+              let first_lite : (first_link (inputs_of nodes place)).lite ≡ false = first-is (uppers_of nodes place) (λ (other : LinkKind). other.lite) (some-in (uppers_of nodes place) input.upper input.among) lites in
+              let bus : (link_kind_of nodes input.upper).bus ≡ (first_link (inputs_of nodes place)).bus =
+              same-bus (link_kind_of nodes input.upper).bus (first_link (inputs_of nodes place)).bus
+              (no-input nodes (λ (other : LinkKind). not (other.bus == (first_link (inputs_of nodes place)).bus)) (uppers_of nodes place) input.upper buses input.among) in
+              record {
+                lite = ap (λ (f : LinkForm). f.lite) out_form ∙ first_lite ∙ sym lite ∙ sym (ap (λ (f : LinkForm). f.lite) form);
+                bus = ap (λ (f : LinkForm). f.bus) out_form ∙ sym bus ∙ sym (ap (λ (f : LinkForm). f.bus) form);
+                single = ap (λ (f : LinkForm). f.single) out_form ∙ ap (λ (b : Bool). b || false) (first_lite ∙ sym lite) ∙ sym (ap (λ (f : LinkForm). f.single) form);
+              });
           narrow = all-of (λ link. (form_of_link nodes link).id_width ≤ (mux_at nodes number).shape.width) (links_into nodes number)
               (λ link there. widest-of (λ link. (plan_link_at nodes link).link) (links_into nodes number) link there);
           wide = wide-enough (widest (map (λ link. (plan_link_at nodes link).link) (links_into nodes number))) (widest (inputs_of nodes place)) (length (inputs_of nodes place))

@@ -1,46 +1,42 @@
 -- The way of a transaction follows the path of its address, so that it ends at its target.
-use Rattle.std.proofs.Common.{◌≡◌, ◌<◌, ◌≤◌, ◌+◌, ◌-◌, ◌/◌, ◌*◌, ◌==◌, ◌&&◌, ℕ, zero, suc, Bool, true, false, cond, List, [], ◌∷◌, length, map, Option, Some, None, refl, sym, ◌∙◌, ap, subst, inl, inr, arith}
-use Rattle.std.specs.Prelude.{All, Contains, IsTrue, filter, find, flat_map, fold, nat_lt, slice_get, slice_index_or, unwrap_or, ◌⊎◌, if◌then◌else◌}
+use Rattle.std.proofs.Common.{◌≡◌, ◌<◌, ◌≤◌, ◌+◌, ◌-◌, ◌*◌, ◌==◌, ℕ, zero, suc, Bool, true, false, cond, List, [], ◌∷◌, length, map, Option, Some, None, refl, sym, ◌∙◌, ap, subst, inl, inr, arith}
+use Rattle.std.specs.Prelude.{slice_get, slice_index_or, unwrap_or, ◌⊎◌}
 use Rattle.std.specs.Option.{option_and_then, option_map_or}
 use Rattle.std.specs.List.{range_with_len}
-use Rattle.std.proofs.lemmas.Bool.{and_parts, cases_eq, eq-eqb, eqb-true, false≢true, ltb-true, ne_eqb, or_cases, true≢false}
+use Rattle.std.proofs.lemmas.Bool.{eqb-true, true≢false}
 use Rattle.std.proofs.lemmas.List.{length-append, length-map}
-use Rattle.std.proofs.lemmas.List.Elements.{All-cons, All-nil}
 use Rattle.std.proofs.lemmas.List.FromFn.{length-map-range_with_len, length-range_with_len}
 use Rattle.std.proofs.lemmas.Option.{slice_get_within}
 use Rattle.address_map.specs.Regions.{serving_port}
-use Rattle.axi_beats.specs.Bus.{IsBusWidth}
 use Rattle.axi_beats.specs.declared.beat.Addr.{Addr}
-use Rattle.axi_trail.specs.LinkContracts.{without_id}
-use Rattle.axi_trail.specs.Schedule.{Share, no_share}
+use Rattle.axi_trail.specs.Schedule.{Share}
 use Rattle.elaborate.proofs.Forms.{Form, Part_at, own_part, part-at}
 use Rattle.elaborate.proofs.Forms.Form.{Behind, Demux, DemuxError, Input, InputError, Own, Split, Target}
 use Rattle.elaborate.proofs.Lists.{None-Some, Some-same}
 use Rattle.elaborate.proofs.PathFacts.{last-later, onward, onward-below, path-goes_on, path-stops}
 use Rattle.elaborate.proofs.PlanFacts.{form-document, lowers-are_nodes, plan-is_acyclic}
-use Rattle.elaborate.specs.Path.{next_by_part, path_from, path_of, ported_regions, target_of}
+use Rattle.elaborate.specs.Path.{next_by_part, path_from, ported_regions}
 use Rattle.elaborate.specs.Plan.{PlanNode, entrance, entrances, first_part, plan_graph, plan_link_at, plan_links, plan_node_at, plan_nodes}
 use Rattle.elaborate.specs.declared.link.PlanLink.{PlanLink}
 use Rattle.elaborate.specs.declared.part.Part.{Part}
 use Rattle.elaborate.specs.declared.part.Part.TheVariants as part
 use Rattle.net_kinds.specs.NodeKind.{NodeState, node_kind}
-use Rattle.net_model.specs.Network.{lower_node, net_link}
 use Rattle.net_model.specs.declared.net_link.NetLink.{NetLink}
 use Rattle.net_opening.specs.Opening.{opening, state_at, state_by_part}
 use Rattle.demux_node.specs.DemuxTrail.{port_of_parts}
-use Rattle.net_opening.specs.PlanLinks.{link_into, link_out_of, links_out_of}
+use Rattle.net_opening.specs.PlanLinks.{link_out_of, links_out_of}
 use Rattle.net_opening.specs.States.{demux_at}
-use Rattle.net_plan.proofs.LinkLists.{at-some, range-at, some-at}
-use Rattle.net_plan.proofs.LinkPlaces.{LinkFacts, link-by_port, link-facts, link-there, link_down, links-out, links_before}
+use Rattle.net_plan.proofs.LinkLists.{range-at, some-at}
+use Rattle.net_plan.proofs.LinkPlaces.{link-by_port, link-there, link_down, links-out, links_before}
 use Rattle.net_plan.proofs.NodeLinks.{leads-down}
-use Rattle.net_plan.proofs.OpeningWired.{link-is, node-at, node-is, node-past}
+use Rattle.net_plan.proofs.OpeningWired.{link-is, node-at, node-is}
 use Rattle.net_plan.proofs.PartLemmas.{LowersSuit, is-built, lowers-suit, no-split}
 use Rattle.net_plan.specs.PlanLaws.{CanRun}
 use Rattle.net_ways.specs.Ways.{Hop, hop_at_end, hop_before, share_on, way_at, way_below, way_from}
-use Rattle.node_core.specs.Acted.{Acted, opened}
+use Rattle.node_core.specs.Acted.{Acted}
 use Rattle.node_graph.proofs.Ways.{depths-are_small, links-lead_deeper}
 use Rattle.node_graph.specs.Graph.{depth_of, is_in, nodes_below, numbers}
-use Rattle.node_shape.specs.Way.{Way, onto, start_here, with_responses}
+use Rattle.node_shape.specs.Way.{Way, onto, start_here}
 use Rattle.plan_traffic.specs.Traffic.{TrafficItem}
 use Rattle.topology.specs.Document.{DocumentNode, node_at, targets_of, uppers_of}
 use Rattle.topology_text.specs.declared.kind.Kind.{Kind}
@@ -86,8 +82,7 @@ module _ (nodes : List DocumentNode) (items : List TrafficItem) (run : CanRun no
       let less : port < length node.lower =
       omega (arith, slice_get_within (range_with_len (links_before (plan_nodes nodes) number) (length node.lower)) port next in_range, length-range_with_len (links_before (plan_nodes nodes) number) (length node.lower)) in
       let same : links_before (plan_nodes nodes) number + port ≡ next = Some-same (links_before (plan_nodes nodes) number + port) next (sym (range-at (links_before (plan_nodes nodes) number) (length node.lower) port less) ∙ in_range) in
-      let lower : slice_get node.lower port ≡ Some (slice_index_or node.lower port 0) = some-at node.lower port 0 less in
-      (
+      let lower : slice_get node.lower port ≡ Some (slice_index_or node.lower port 0) = some-at node.lower port 0 less in (
         lower
             ∙ ap (λ (l : PlanLink). Some l.lower) (sym (link-by_port nodes number port (slice_index_or node.lower port 0) node at lower))
             ∙ ap (λ (k : ℕ). Some (plan_link_at nodes k).lower) same,
