@@ -4,11 +4,11 @@ ghost use Rattle.std.specs.Prelude.{◌≡◌};
 ghost use Rattle.net_kinds.specs.NodeTable.{node_done};
 
 use axi_link::{Link, Out};
-use memory_node::MemoryNode;
-use manager_node::ManagerNode;
-use mux_node::MuxNode;
-use error_node::ErrorNode;
 use demux_node::DemuxNode;
+use error_node::ErrorNode;
+use manager_node::ManagerNode;
+use memory_node::MemoryNode;
+use mux_node::MuxNode;
 use node_core::Step;
 use slice_node::SliceNode;
 use std::marker::{Send, Sync};
