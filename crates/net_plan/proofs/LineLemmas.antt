@@ -25,7 +25,7 @@ use Rattle.memory_node.specs.Store.{line_number}
 use Rattle.net_kinds.specs.NodeKind.{node_kind}
 use Rattle.net_opening.specs.Opening.{opening, state_by_part}
 use Rattle.net_opening.specs.PlanLinks.{form_of_link, link_into, link_out_of, links_into, links_out_of}
-use Rattle.net_opening.specs.Scripts.{script_item}
+use Rattle.plan_traffic.specs.Scripts.{script_item}
 use Rattle.net_opening.specs.States.{memory_at}
 use Rattle.net_opening.specs.Touched.{among, is_write_to, lines_of_burst, lines_touched}
 use Rattle.net_plan.proofs.LinkLists.{contains-in}

@@ -28,7 +28,7 @@ use Rattle.memory_node.specs.MemoryArea.{IsMemoryArea, IsRangeOf}
 use Rattle.net_kinds.specs.NodeKind.{node_kind}
 use Rattle.net_opening.specs.Opening.{state_by_part}
 use Rattle.net_opening.specs.PlanLinks.{links_into, links_out_of}
-use Rattle.net_opening.specs.Scripts.{script_item, script_of}
+use Rattle.plan_traffic.specs.Scripts.{script_item, script_of}
 use Rattle.net_opening.specs.States.{area_of_node, memory_range}
 use Rattle.net_opening.specs.Touched.{among, is_write_to, lines_of_burst, lines_touched, upwards}
 use Rattle.net_plan.proofs.LinkKinds.{nth-input}
@@ -85,17 +85,6 @@ place-most (y ∷ ys) x = go (y == x) (place_in ys x) (length ys) (place-most ys
 none-bad : {X : Type 0} (p : X → Bool) (P : X → Type 0) (xs : List X) → ((x : X) → p x ≡ false → P x) → list_any p xs ≡ false → All P xs
 none-bad p P [] each e = All-nil P
 none-bad p P (x ∷ xs) each e = let parts = or_parts (p x) (list_any p xs) e in All-cons P x xs (each x parts.0) (none-bad p P xs each parts.1)
-
-any-front : {X : Type 0} (p : X → Bool) (xs ys : List X) → list_any p (xs ++ ys) ≡ false → (list_any p xs ≡ false) × (list_any p ys ≡ false)
-any-front p [] ys e = (refl, e)
-any-front p (x ∷ xs) ys e =
-    let parts = or_parts (p x) (list_any p (xs ++ ys)) e in
-    let more = any-front p xs ys parts.1 in
-    (both (p x) (list_any p xs) parts.0 more.0, more.1)
-  where
-    both : (a b : Bool) → a ≡ false → b ≡ false → (a || b) ≡ false
-    both true b e d = absurd (true≢false e)
-    both false b e d = d
 
 -- numbers that rise, and of which none stands twice
 all-below : (number : ℕ) (xs : List ℕ) (more : ℕ) → number < more → All (λ x. number < x) xs → All (λ x. number < x) (among xs more)
@@ -257,21 +246,24 @@ module _ (nodes : List DocumentNode) (items : List TrafficItem) (run : CanRun no
       let formed : IsFormed (node_at nodes place) = formed-at nodes run place within in
       let bad = (accepted-is_clean nodes run.accepted place within).regions_are_good in
       let node : DocumentNode = node_at nodes place in
-      let one = or_parts (list_any (λ (region : NamedRegion). is_bad_span region.base region.size) (node_at nodes place).region || is_memory (node_at nodes place).kind && is_bad_span (node_at nodes place).base (node_at nodes place).size)
-      (list_any (is_bad_range (node_at nodes place).base (node_at nodes place).size) ((node_at nodes place).read_only ++ (node_at nodes place).hole)) bad in
-      let two = or_parts (list_any (λ (region : NamedRegion). is_bad_span region.base region.size) (node_at nodes place).region) (is_memory (node_at nodes place).kind && is_bad_span (node_at nodes place).base (node_at nodes place).size) one.0 in
+      let bad_regions = list_any (λ (region : NamedRegion). is_bad_span region.base region.size) (node_at nodes place).region in
+      let bad_area = is_memory (node_at nodes place).kind && is_bad_span (node_at nodes place).base (node_at nodes place).size in
+      let bad_read_only = list_any (is_bad_range (node_at nodes place).base (node_at nodes place).size) (node_at nodes place).read_only in
+      let bad_hole = list_any (is_bad_range (node_at nodes place).base (node_at nodes place).size) (node_at nodes place).hole in
+      let holes = or_parts (bad_regions || bad_area || bad_read_only) bad_hole bad in
+      let kept = or_parts (bad_regions || bad_area) bad_read_only holes.0 in
+      let two = or_parts bad_regions bad_area kept.0 in
       let span = good-span (node_at nodes place).base (node_at nodes place).size
       (and-right (is_memory (node_at nodes place).kind) (is_bad_span (node_at nodes place).base (node_at nodes place).size) (ap is_memory own) two.1) in
-      let ranges = any-front (is_bad_range (node_at nodes place).base (node_at nodes place).size) (node_at nodes place).read_only (node_at nodes place).hole one.1 in
       record {
         bus = width-of (node_at nodes place).bus (memory-bus (node_at nodes place).bus (subst (λ (k : Kind). IsNumberAt (table_form k).bus bus_limits (node_at nodes place).bus) own formed.bus)) formed.bus_is_width;
         base = span.0;
         size = span.1;
         end = span.2;
         read_only = All-map (IsRangeOf (area_of_node (node_at nodes place))) memory_range (node_at nodes place).read_only
-            (none-bad (is_bad_range (node_at nodes place).base (node_at nodes place).size) (λ (r : Span). IsRangeOf (area_of_node (node_at nodes place)) (memory_range r)) (node_at nodes place).read_only (good-range (node_at nodes place)) ranges.0);
+            (none-bad (is_bad_range (node_at nodes place).base (node_at nodes place).size) (λ (r : Span). IsRangeOf (area_of_node (node_at nodes place)) (memory_range r)) (node_at nodes place).read_only (good-range (node_at nodes place)) kept.1);
         hole = All-map (IsRangeOf (area_of_node (node_at nodes place))) memory_range (node_at nodes place).hole
-            (none-bad (is_bad_range (node_at nodes place).base (node_at nodes place).size) (λ (r : Span). IsRangeOf (area_of_node (node_at nodes place)) (memory_range r)) (node_at nodes place).hole (good-range (node_at nodes place)) ranges.1);
+            (none-bad (is_bad_range (node_at nodes place).base (node_at nodes place).size) (λ (r : Span). IsRangeOf (area_of_node (node_at nodes place)) (memory_range r)) (node_at nodes place).hole (good-range (node_at nodes place)) holes.1);
       }
 
   as-memory : (node_at nodes place).kind ≡ kind.Memory → BeginsAs part.Memory

@@ -19,7 +19,7 @@ use Rattle.memory_node.specs.MemoryState.{AreLinesAmong}
 use Rattle.net_kinds.specs.NodeKind.{node_kind}
 use Rattle.net_opening.specs.Opening.{state_by_part}
 use Rattle.net_opening.specs.PlanLinks.{form_of_link, link_into, link_out_of, links_into, links_out_of}
-use Rattle.net_opening.specs.Scripts.{script_item}
+use Rattle.plan_traffic.specs.Scripts.{script_item}
 use Rattle.net_opening.specs.States.{memory_at}
 use Rattle.net_plan.proofs.LinkKinds.{Comes, JoinsAt, comes, first-input, form-plain, joins, link-below, nth-input, own-input, plain_form}
 use Rattle.net_plan.proofs.LinkLists.{at-some}
@@ -36,7 +36,7 @@ use Rattle.plan_traffic.specs.Accepted.{IsTraffic, Suits, items_of_manager}
 use Rattle.plan_traffic.specs.Traffic.{TrafficItem}
 use Rattle.topology.proofs.AcceptedFacts.{accepted-is_clean}
 use Rattle.topology.specs.Document.{DocumentNode, first_link, inputs_of, joins_links, link_kind_of, node_at, node_of_kind, uppers_of}
-use Rattle.topology.specs.Refused.{bus_differs, protocol_differs}
+use Rattle.topology.specs.Fits.{bus_differs_at, protocol_differs_at}
 use Rattle.topology.specs.declared.link.LinkKind.{LinkKind}
 use Rattle.topology_text.specs.declared.kind.Kind.{Kind}
 use Rattle.topology_text.specs.declared.kind.Kind.TheVariants as kind
@@ -124,7 +124,7 @@ module _ (nodes : List DocumentNode) (items : List TrafficItem) (run : CanRun no
       let long : LowersSuit part.Mux node.lower = subst (λ (p : Part). LowersSuit p node.lower) is (lowers-suit nodes run number node at) in
       let clean = accepted-is_clean nodes run.accepted place within in
       sound-mux nodes run number node at place within (link_is ∙ handed nodes run place kind.Mux within own)
-      (ap (bus_differs nodes place) (sym own) ∙ clean.widths_fit) (ap (protocol_differs nodes place) (sym own) ∙ clean.protocols_fit) (out-there long) (mux-few is own)
+      (ap (bus_differs_at (node_at nodes place) (inputs_of nodes place)) (sym own) ∙ clean.widths_fit) (ap (protocol_differs_at (inputs_of nodes place)) (sym own) ∙ clean.protocols_fit) (out-there long) (mux-few is own)
       (λ link there. let from = mux-input is own link there in record { upper = from.from; among = from.among; is = from.is })
 
   pub crossbar-input : node.part ≡ part.Mux → (node_at nodes place).kind ≡ kind.Crossbar → (link : ℕ) → is_in (links_into nodes number) link ≡ true → JoinsAt nodes place (plan_link_at nodes link).upper (plan_link_at nodes link).link
@@ -151,7 +151,7 @@ module _ (nodes : List DocumentNode) (items : List TrafficItem) (run : CanRun no
       let long : LowersSuit part.Mux node.lower = subst (λ (p : Part). LowersSuit p node.lower) is (lowers-suit nodes run number node at) in
       let clean = accepted-is_clean nodes run.accepted place within in
       sound-mux nodes run number node at place within (link_is ∙ handed nodes run place kind.Crossbar within own)
-      (ap (bus_differs nodes place) (sym own) ∙ clean.widths_fit) (ap (protocol_differs nodes place) (sym own) ∙ clean.protocols_fit) (out-there long) (crossbar-few is own)
+      (ap (bus_differs_at (node_at nodes place) (inputs_of nodes place)) (sym own) ∙ clean.widths_fit) (ap (protocol_differs_at (inputs_of nodes place)) (sym own) ∙ clean.protocols_fit) (out-there long) (crossbar-few is own)
       (λ link there.
       let from = crossbar-input is own link there in
       record {
@@ -192,9 +192,9 @@ module _ (nodes : List DocumentNode) (items : List TrafficItem) (run : CanRun no
       record {
         full = ap (λ (f : LinkForm). f.lite) form
             ∙ first-is nodes run number node at (uppers_of nodes place) (λ (other : LinkKind). other.lite) (some-in nodes run number node at (uppers_of nodes place) from.from from.among)
-            (ap (protocol_differs nodes place) (sym own) ∙ clean.protocols_fit);
+            (ap (protocol_differs_at (inputs_of nodes place)) (sym own) ∙ clean.protocols_fit);
         bus = ap (λ (f : LinkForm). f.bus) form
-            ∙ sym (same-bus nodes run number node at (node_at nodes place).bus (first_link (inputs_of nodes place)).bus (ap (bus_differs nodes place) (sym own) ∙ clean.widths_fit))
+            ∙ sym (same-bus nodes run number node at (node_at nodes place).bus (first_link (inputs_of nodes place)).bus (ap (bus_differs_at (node_at nodes place) (inputs_of nodes place)) (sym own) ∙ clean.widths_fit))
             ∙ ap (λ (k : ℕ). (node_at nodes k).bus) (sym document_is);
         lines = lines;
       }

@@ -15,7 +15,7 @@ use Rattle.manager_node.specs.ManagerTrail.{item_origin}
 use Rattle.net_kinds.specs.NodeKind.{NodeState, node_kind}
 use Rattle.net_opening.specs.Opening.{opening, state_at, state_by_part}
 use Rattle.net_opening.specs.PlanLinks.{link_out_of}
-use Rattle.net_opening.specs.Scripts.{script_item, script_of}
+use Rattle.plan_traffic.specs.Scripts.{script_item, script_of}
 use Rattle.net_plan.proofs.LinkLists.{at-some, made-from, some-at}
 use Rattle.net_plan.proofs.NodeBegins.{number-at}
 use Rattle.net_plan.proofs.OpeningWired.{node-at}

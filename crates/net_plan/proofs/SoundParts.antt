@@ -56,7 +56,7 @@ module _ (nodes : List DocumentNode) (run : CanRun nodes) where
     sound-demux place less document into_known same = record {
       regions = subst (λ (k : ℕ). list_any is_bad_region (ported_regions nodes (node_at nodes k)) ≡ false) (sym document)
           (good-regions _ (node_at nodes place).region
-          (or_parts _ _ (or_parts _ _ (accepted-is_clean nodes run.accepted place less).regions_are_good).0).0);
+          (or_parts _ _ (or_parts _ _ (or_parts _ _ (accepted-is_clean nodes run.accepted place less).regions_are_good).0).0).0);
       alike = all-of (λ link. form_of_link nodes link ≡ form_of_link nodes (link_into nodes number)) (links_out_of nodes number) (λ link there. below-alike (link_into nodes number) link into_known same there);
     }
 
