@@ -12,7 +12,7 @@ use Rattle.manager_node.specs.ManagerState.{ManagerState}
 use Rattle.manager_node.specs.Script.{ScriptItem}
 use Rattle.net_history.proofs.BelongLemmas.{belongs}
 use Rattle.net_history.proofs.ByteLemmas.{bytes-noted}
-use Rattle.net_history.proofs.DoneLemmas.{all-early, done-from}
+use Rattle.net_history.proofs.DoneLemmas.{all-early, answers-there, done-from}
 use Rattle.net_history.proofs.ItemLemmas.{responses-noted, write-note}
 use Rattle.net_history.proofs.ManagerRuns.{IsManagerAt, answered-in, begins, note_after, one-node, one-state}
 use Rattle.net_history.proofs.NetTransactions.{all-transactions, any-transaction, due_of}
@@ -48,7 +48,7 @@ module _ (net : Network NodeState) (forms : ℕ → LinkForm) (sound : IsSound n
         by zero is some = absurd (omega (arith, some))
         by (suc m) is some =
             let noted = answered-in net forms sound node s own.is place n (suc m) is some in
-            done-from net forms sound node s place item own m (omega (arith, noted.1)) n (omega (arith, noted.0))
+            done-from net forms sound node s place item own m (answers-there net forms sound node s place item own m (omega (arith, noted.1))) n (omega (arith, noted.0))
 
     early-by : 0 < (note_after net s n place).answered → All (λ (e : Event). e.number ≡ item.txn.number → e.round < (note_after net s n place).answered) (events_after n net)
     early-by answered = by (note_after net s n place).answered refl answered
@@ -57,7 +57,7 @@ module _ (net : Network NodeState) (forms : ℕ → LinkForm) (sound : IsSound n
         by zero is some = absurd (omega (arith, some))
         by (suc m) is some =
             let noted = answered-in net forms sound node s own.is place n (suc m) is some in
-            subst (λ (r : ℕ). All (λ (e : Event). e.number ≡ item.txn.number → e.round < r) (events_after n net)) (sym is) (all-early net forms sound node s place item own m (omega (arith, noted.1)) n)
+            subst (λ (r : ℕ). All (λ (e : Event). e.number ≡ item.txn.number → e.round < r) (events_after n net)) (sym is) (all-early net forms sound node s place item own m (answers-there net forms sound node s place item own m (omega (arith, noted.1))) n)
 
     whole-by : HasAnswer (due_of net forms node s item) (answers_after n net) → map access_made (events_of item.txn.number (events_after n net)) ≡ map access_due (bytes_due (due_of net forms node s item))
     whole-by answer =

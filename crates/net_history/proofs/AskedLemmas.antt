@@ -1,8 +1,8 @@
 -- What is accessed was asked for: an access is of a transaction of a manager that was issued before, and whose way ends at the
 -- memory.
 use Rattle.std.proofs.Common.{◌≡◌, ◌<◌, ◌==◌, [], ◌∷◌, ◌++◌, ℕ, zero, suc, Bool, true, false, List, Option, Some, None, cond, length, refl, sym, ap, ◌∙◌, subst, inl, inr, arith}
-use Rattle.std.specs.Prelude.{All, Contains, IsTrue, filter, find, flat_map, ◌&&◌, map, slice_get, take, unwrap_or}
-use Rattle.std.specs.List.{range_with_len}
+use Rattle.std.specs.Prelude.{All, Contains, IsTrue, filter, find, flat_map, get_or, ◌&&◌, map, slice_get, take, unwrap_or}
+use Rattle.std.specs.List.{list_any, range_with_len}
 use Rattle.std.specs.Option.{option_map_or}
 use Rattle.std.proofs.lemmas.Bool.{and_from, cases_Bool, cases_eq, eq-eqb, eqb-true}
 use Rattle.memory_node.specs.Accesses.{read_addresses}
@@ -10,10 +10,9 @@ use Rattle.memory_node.specs.Beats.{stored_bytes}
 use Rattle.subordinate.specs.Parts.{BeatOf, beats_of_parts, beats_with_data}
 use Rattle.std.proofs.lemmas.List.{length-map}
 use Rattle.std.proofs.lemmas.List.Elements.{All-contains, All-head, All-map, All-tail, All-weaker, Contains-append_cases}
-use Rattle.std.proofs.lemmas.List.Folds.{Any-from_list_any}
+use Rattle.std.proofs.lemmas.List.Folds.{Any-from_list_any, list_any_at}
 use Rattle.std.proofs.lemmas.Option.{none-some, same_Some}
 use Rattle.axi_beats.specs.declared.beat.Addr.{Addr}
-use Rattle.axi_beats.specs.declared.beat.RBeat.{RBeat}
 use Rattle.axi_beats.specs.declared.beat.WBeat.{WBeat}
 use Rattle.axi_link.specs.declared.out.Out.{Out}
 use Rattle.axi_trail.proofs.IdFacts.{answers_have_requests}
@@ -37,7 +36,7 @@ use Rattle.net_history.proofs.ManagerRuns.{IsManagerAt, at-run, from-first, has-
 use Rattle.net_history.proofs.MemoryRuns.{IsMemoryAt, ends-here, memory-keeps, memory_run, upper-link}
 use Rattle.net_history.proofs.RoundLemmas.{IsItem}
 use Rattle.net_history.proofs.RunStates.{acted_as, run_state, stands-at}
-use Rattle.net_history.specs.Due.{way_target}
+use Rattle.net_history.specs.Due.{way_end, way_target}
 use Rattle.net_kinds.specs.NodeHolds.{node_holds}
 use Rattle.net_kinds.specs.NodeKind.{KindName, NodeState, StateOf, node_kind}
 use Rattle.net_kinds.specs.NodeKind.KindName.{ADemux, AManager, AMemory, AMux, ASlice, AnError}
@@ -60,6 +59,19 @@ use Rattle.axi_trail.specs.Waiting.{beats_by}
 use Rattle.std.proofs.lemmas.Bool.{and_parts}
 use Rattle.std.specs.Bool.{beq}
 
+-- the addresses of a direction, and whether one of a transaction is among them
+abbrev pub asked_on : Bool → Beats → List Addr
+asked_on write beats = cond write beats.aw beats.ar
+
+abbrev pub is_asked : Bool → ℕ → Beats → Bool
+is_asked write number beats = list_any (λ (a : Addr). number_of_address a == number) (asked_on write beats)
+
+-- each of them is
+all-asked : (write : Bool) (beats : Beats) → All (λ (a : Addr). is_asked write (number_of_address a) beats ≡ true) (asked_on write beats)
+all-asked write beats k d lt =
+    let a = get_or (asked_on write beats) k d in
+    list_any_at (λ (x : Addr). number_of_address x == number_of_address a) (asked_on write beats) k d lt (eq-eqb (number_of_address a) (number_of_address a) refl)
+
 -- what holds of the key of each element holds of a key that one has
 some-of_key : {X : Type 0} (P : ℕ → Type 0) (key_of : X → ℕ) (key : ℕ) (xs : List X) → All (λ x. P (key_of x)) xs → 0 < length (of_key key_of key xs) → P key
 some-of_key P key_of key [] all some = absurd (omega (arith, some))
@@ -73,7 +85,7 @@ some-beats : (addresses : List Addr) → 0 < beats_by len_of_address addresses �
 some-beats [] some = some
 some-beats (a ∷ addresses) some = omega arith
 
-some-all : {X : Type 0} (test : X → Bool) (xs : List X) (x : X) → Contains xs x → test x ≡ true → 0 < length (filter test xs)
+pub some-all : {X : Type 0} (test : X → Bool) (xs : List X) (x : X) → Contains xs x → test x ≡ true → 0 < length (filter test xs)
 some-all test [] x among passes = absurd (omega (arith, among.1))
 some-all test (y ∷ ys) x (zero, within, same) passes =
     let is : y ≡ x = same in
@@ -187,31 +199,28 @@ module _ (net : Network NodeState) (forms : ℕ → LinkForm) (sound : IsSound n
         (asked_through_link (schedules net forms sound link) (now net forms sound m) (now net forms sound m) link (queues_after node_kind net) (chosen node_kind net (upper_node net.links link)) (chosen node_kind net (lower_node net.links link))
         (grows-itself (now net forms sound m)) (link-run net forms sound link known) m ((run-keeps net forms sound m).asked link known)).2
 
-    -- where data or an answer of a transaction is there, it was issued
-    written-issued : (t : ℕ) → 0 < length (of_key number_of_data t seen.w) → IsTrue ((now net forms sound m).issued t)
-    written-issued t some =
-        let own = (memory-keeps net forms sound k c is (suc m)).order.writes.own t in
-        some-of_key (λ (number : ℕ). IsTrue ((now net forms sound m).issued number)) number_of_address t seen.aw asked-below.writes.was_issued
-        (some-beats (of_key number_of_address t seen.aw) (omega (arith, own.addresses_first, some)))
+    -- what holds of the number of each address holds of that of data, and of that of an answer
+    module _ (Known : ℕ → Type 0) where
+      data-known : All (λ (a : Addr). Known (number_of_address a)) seen.aw → (t : ℕ) → 0 < length (of_key number_of_data t seen.w) → Known t
+      data-known all t some =
+          let own = (memory-keeps net forms sound k c is (suc m)).order.writes.own t in
+          some-of_key Known number_of_address t seen.aw all (some-beats (of_key number_of_address t seen.aw) (omega (arith, own.addresses_first, some)))
 
-    answered-issued : All (λ (r : RBeat). IsTrue ((now net forms sound m).issued (number_of_read_data r))) seen.r
-    answered-issued =
-        let Known : ℕ → Type 0 = λ number. IsTrue ((now net forms sound m).issued number) in
-        let each = answers_have_requests (map burst_asked seen.ar) (map read_reply seen.r) (memory-keeps net forms sound k c is (suc m)).order.reads.in_order_of_id in
-        let asked : All (λ (a : Asked). Known a.number) (map burst_asked seen.ar) = All-map (λ (a : Asked). Known a.number) burst_asked seen.ar asked-below.reads.was_issued in
-        all-unmap (λ (p : Reply). Known p.number) read_reply seen.r
-        (All-weaker (λ (p : Reply). (a : Asked) × Contains (map burst_asked seen.ar) a × (a.id ≡ p.id) × (a.number ≡ p.number)) (λ (p : Reply). Known p.number)
-        (λ p has. subst Known has.3 (All-contains (λ (a : Asked). Known a.number) (map burst_asked seen.ar) has.0 asked has.1)) (map read_reply seen.r) each)
+      answer-known : All (λ (a : Addr). Known (number_of_address a)) seen.ar → (t : ℕ) → 0 < length (of_key number_of_read_data t seen.r) → Known t
+      answer-known all t some =
+          let each = answers_have_requests (map burst_asked seen.ar) (map read_reply seen.r) (memory-keeps net forms sound k c is (suc m)).order.reads.in_order_of_id in
+          let asked : All (λ (a : Asked). Known a.number) (map burst_asked seen.ar) = All-map (λ (a : Asked). Known a.number) burst_asked seen.ar all in
+          some-of_key Known number_of_read_data t seen.r
+          (all-unmap (λ (p : Reply). Known p.number) read_reply seen.r
+          (All-weaker (λ (p : Reply). (a : Asked) × Contains (map burst_asked seen.ar) a × (a.id ≡ p.id) × (a.number ≡ p.number)) (λ (p : Reply). Known p.number)
+          (λ p has. subst Known has.3 (All-contains (λ (a : Asked). Known a.number) (map burst_asked seen.ar) has.0 asked has.1)) (map read_reply seen.r) each)) some
 
-    read-issued : (t : ℕ) → 0 < length (of_key number_of_read_data t seen.r) → IsTrue ((now net forms sound m).issued t)
-    read-issued t some = some-of_key (λ (number : ℕ). IsTrue ((now net forms sound m).issued number)) number_of_read_data t seen.r answered-issued some
-
-    -- the manager's transaction of a number that the link carries goes its way, and ends here
+    -- the manager's transaction of a number that the link carries goes its way, which ends with this link
     of-carried : (write : Bool) (t : ℕ) (by : IsIssuedBy m t) (share : Share) → carried node_kind net write link t ≡ Some share →
-        (by.item.txn.write ≡ write) × (way_target net forms (item_origin by.s.bus by.s.lower by.item) ≡ k)
+        (by.item.txn.write ≡ write) × ((way_end net forms (item_origin by.s.bus by.s.lower by.item)).link ≡ link)
     of-carried write t by share there = go (find (is_origin write t) (origins_in node_kind net.nodes)) refl
       where
-        go : (o : Option Origin) → find (is_origin write t) (origins_in node_kind net.nodes) ≡ o → (by.item.txn.write ≡ write) × (way_target net forms (item_origin by.s.bus by.s.lower by.item) ≡ k)
+        go : (o : Option Origin) → find (is_origin write t) (origins_in node_kind net.nodes) ≡ o → (by.item.txn.write ≡ write) × ((way_end net forms (item_origin by.s.bus by.s.lower by.item)).link ≡ link)
         go None none = absurd (none-some share (sym (not-carried node_kind node_holds net forms sound write t link none) ∙ there))
         go (Some other) found =
             let origin = item_origin by.s.bus by.s.lower by.item in
@@ -223,8 +232,7 @@ module _ (net : Network NodeState) (forms : ℕ → LinkForm) (sound : IsSound n
             let comes : carried node_kind net by.item.txn.write link by.item.txn.number ≡ Some share =
             ap (λ (b : Bool). carried node_kind net b link by.item.txn.number) direction ∙ ap (carried node_kind net write link) by.same_number ∙ there in
             let here = upper-link net forms sound k c is in
-            let end = end-at net forms sound origin among link share comes (ends-here net forms sound k c is link here.1 share) in
-            (direction, ap (lower_node net.links) end ∙ here.1)
+            (direction, end-at net forms sound origin among link share comes (ends-here net forms sound k c is link here.1 share))
 
     some-writes : (area : MemoryArea) (count : ℕ) (o : Option Share) → 0 < length (due_writes area (unwrap_or o no_share) count) → (0 < count) × (share : Share) × (o ≡ Some share)
     some-writes area count None some = absurd (omega (arith, (some-count (λ (b : BeatOf × WBeat). stored_bytes area b.0.request b.0.beat b.1) count [] some).1))
@@ -234,17 +242,29 @@ module _ (net : Network NodeState) (forms : ℕ → LinkForm) (sound : IsSound n
     some-reads area count None some = absurd (omega (arith, (some-count (read_addresses area) count [] some).1))
     some-reads area count (Some share) some = ((some-count (read_addresses area) count (beats_of_parts share.parts) some).0, share, refl)
 
-    -- an access is of a transaction of a manager, which was issued by the round before, and ends here
+    -- an access is of a transaction of a manager, which was issued by the round before, and ends here, where its request stands
+    -- after the round
     pub record IsAskedBy (a : Access) : Type 0 where
       pub by : IsIssuedBy m a.number
       pub direction : by.item.txn.write ≡ a.write
       pub target : way_target net forms (item_origin by.s.bus by.s.lower by.item) ≡ k
+      pub asked : is_asked a.write a.number (lower_end node_kind net (way_end net forms (item_origin by.s.bus by.s.lower by.item)).link (suc m)) ≡ true
 
-    asked-as : (write : Bool) (a : Access) → a.write ≡ write → IsTrue ((now net forms sound m).issued a.number) → (share : Share) → carried node_kind net write link a.number ≡ Some share → IsAskedBy a
-    asked-as write a direction known share there =
+    asked-as : (write : Bool) (a : Access) → a.write ≡ write → IsTrue ((now net forms sound m).issued a.number) → is_asked write a.number seen ≡ true →
+        (share : Share) → carried node_kind net write link a.number ≡ Some share → IsAskedBy a
+    asked-as write a direction known asked share there =
         let by = issued-by m a.number known in
         let its = of-carried write a.number by share there in
-        record { by = by; direction = its.0 ∙ sym direction; target = its.1 }
+        record {
+          by = by;
+          direction = its.0 ∙ sym direction;
+          target = ap (lower_node net.links) its.1 ∙ (upper-link net forms sound k c is).1;
+          asked = subst (λ (l : ℕ). is_asked a.write a.number (lower_end node_kind net l (suc m)) ≡ true) (sym its.1)
+              (subst (λ (b : Bool). is_asked b a.number seen ≡ true) (sym direction) asked);
+        }
+
+    abbrev Issued : ℕ → Type 0
+    Issued t = IsTrue ((now net forms sound m).issued t)
 
     test-passes : (write : Bool) (a : Access) → a.write ≡ write → (beq a.write write && a.number == a.number) ≡ true
     test-passes write a direction = and_from (beq a.write write) (a.number == a.number) (ap (λ (b : Bool). beq b write) direction ∙ beq-itself write) (eq-eqb a.number a.number refl)
@@ -259,10 +279,12 @@ module _ (net : Network NodeState) (forms : ℕ → LinkForm) (sound : IsSound n
               let some = some-all (λ (x : Access). beq x.write true && x.number == a.number) all a among (test-passes true a writes) in
               let due = some-writes area (length (of_key number_of_data a.number seen.w)) (carried node_kind net true link a.number)
               (omega (arith, some, ap length (accessed.written a.number), length-map (accesses_of true a.number all) (λ (x : Access). x.byte))) in
-              asked-as true a writes (written-issued a.number due.0) due.1 due.2
+              asked-as true a writes (data-known Issued asked-below.writes.was_issued a.number due.0)
+              (data-known (λ (t : ℕ). is_asked true t seen ≡ true) (all-asked true seen) a.number due.0) due.1 due.2
           | inr reads ↦
               let some = some-all (λ (x : Access). beq x.write false && x.number == a.number) all a among (test-passes false a reads) in
               let due = some-reads area (length (of_key number_of_read_data a.number seen.r)) (carried node_kind net false link a.number)
               (omega (arith, some, ap length (accessed.read a.number), length-map (accesses_of false a.number all) (λ (x : Access). x.byte.address))) in
-              asked-as false a reads (read-issued a.number due.0) due.1 due.2
+              asked-as false a reads (answer-known Issued asked-below.reads.was_issued a.number due.0)
+              (answer-known (λ (t : ℕ). is_asked false t seen ≡ true) (all-asked false seen) a.number due.0) due.1 due.2
         ]

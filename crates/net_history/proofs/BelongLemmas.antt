@@ -1,6 +1,6 @@
 -- Each event is of a transaction of the network, at its target, which was issued before; so those of a transaction are what its
 -- target has noted.
-use Rattle.std.proofs.Common.{◌≡◌, ◌<◌, [], ◌∷◌, ℕ, zero, suc, List, Option, Some, None, length, refl, sym, ap, ◌∙◌, subst, inl, inr, arith}
+use Rattle.std.proofs.Common.{◌≡◌, ◌<◌, [], ◌∷◌, ℕ, zero, suc, true, List, Option, Some, None, length, refl, sym, ap, ◌∙◌, subst, inl, inr, arith}
 use Rattle.std.specs.Prelude.{◌⊎◌, All, get_or, slice_get}
 use Rattle.std.specs.Option.{option_map_or}
 use Rattle.std.proofs.lemmas.List.Elements.{All-nil, All-weaker, Contains-append_right}
@@ -13,19 +13,19 @@ use Rattle.manager_node.specs.ManagerTrail.{item_origin}
 use Rattle.manager_node.specs.Script.{ScriptItem}
 use Rattle.memory_node.specs.Events.{Access}
 use Rattle.memory_node.specs.MemoryState.{MemoryState}
-use Rattle.net_history.proofs.AskedLemmas.{asked-by}
+use Rattle.net_history.proofs.AskedLemmas.{asked-by, is_asked}
 use Rattle.net_history.proofs.EventLemmas.{all-events}
 use Rattle.net_history.proofs.ManagerRuns.{from-first, issue-stays, manager-keeps, note_after}
 use Rattle.net_history.proofs.MemoryRuns.{IsMemoryAt}
 use Rattle.net_history.proofs.NetTransactions.{any-transaction}
 use Rattle.net_history.proofs.RoundLemmas.{IsItem, any-issued}
 use Rattle.net_history.proofs.RunStates.{acted_as, run_state, stands-at}
-use Rattle.net_history.specs.Due.{transactions_of, way_target}
+use Rattle.net_history.specs.Due.{transactions_of, way_end, way_target}
 use Rattle.net_history.specs.History.{event_of, events_after, issues_after}
 use Rattle.net_kinds.specs.NodeKind.{KindName, NodeState, StateOf, node_kind}
 use Rattle.net_kinds.specs.NodeKind.KindName.{ADemux, AManager, AMemory, AMux, ASlice, AnError}
 use Rattle.net_model.specs.Network.{Network}
-use Rattle.net_runs.specs.Run.{nodes_after, noted_by, noted_in, queues_after}
+use Rattle.net_runs.specs.Run.{lower_end, nodes_after, noted_by, noted_in, queues_after}
 use Rattle.net_ways.specs.Sound.{IsSound}
 use Rattle.node_core.specs.Acted.{Acted}
 use Rattle.node_shape.specs.LinkForm.{LinkForm}
@@ -42,6 +42,7 @@ module _ (net : Network NodeState) (forms : ℕ → LinkForm) (sound : IsSound n
     pub direction : item.txn.write ≡ a.write
     pub issued : 0 < (note_after net s m place).issued
     pub target : way_target net forms (item_origin s.bus s.lower item) ≡ node
+    pub asked : is_asked a.write a.number (lower_end node_kind net (way_end net forms (item_origin s.bus s.lower item)).link (suc m)) ≡ true
 
   of-memory : (m node : ℕ) (c : MemoryState) → IsMemoryAt net node c → All (IsOfItem m node) (noted_in node_kind net node m)
   of-memory m node c is k d lt =
@@ -58,6 +59,7 @@ module _ (net : Network NodeState) (forms : ℕ → LinkForm) (sound : IsSound n
         direction = asked.direction;
         issued = asked.by.issued;
         target = asked.target;
+        asked = asked.asked;
       }
     where
       get_or_itself : (xs : List Access) (k : ℕ) (d : Access) → k < length xs → get_or xs k (get_or xs k d) ≡ get_or xs k d

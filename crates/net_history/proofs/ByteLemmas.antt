@@ -32,7 +32,7 @@ use Rattle.manager_node.specs.Script.{ScriptItem}
 use Rattle.memory_node.proofs.LaneLemmas.{lanes-within}
 use Rattle.net_history.proofs.DoneLemmas.{all-read, same-there}
 use Rattle.net_history.proofs.DueLemmas.{is_allowed}
-use Rattle.net_history.proofs.EndLemmas.{end-carried}
+use Rattle.net_history.proofs.EndLemmas.{end-carried, first-carried, first_share}
 use Rattle.net_history.proofs.ItemLemmas.{among, answers-above, now, origin, own-reads as first-reads, read-note, schedules}
 use Rattle.net_history.proofs.ListLemmas.{All-flat}
 use Rattle.net_history.proofs.ManagerRuns.{begins, from-first, note_after, own-link, run-keeps}
@@ -216,7 +216,9 @@ module _ (net : Network NodeState) (forms : ℕ → LinkForm) (sound : IsSound n
     bytes-there : (c : MemoryState) → IsMemoryAt net (target net forms sound node s place item own) c →
         bytes_on beats spans ≡ answered_bytes (map is_allowed (due_of net forms node s item).bytes) (values_of number (events_after n net))
     bytes-there c is =
-        (all-read net forms sound node s place item own c is reads n beats whole (omega (arith, came)) (above.bytes_are_filled number)).0
+        let its_origin = origin net forms sound node s place item own in
+        let its = among net forms sound node s place item own in
+        (all-read net forms sound node s place item own c is reads s.lower (first_share net forms sound its_origin its) (first-carried net forms sound its_origin its) n beats whole (omega (arith, came)) (above.bytes_are_filled number)).0
         ∙ ap₂ (λ (allowed : List Bool) (values : List ℕ). answered_bytes allowed values)
         (sym (reads-named_allowed net forms sound node s place item own c is reads)) (sym (item-values net forms sound node s place item own c is reads n))
 

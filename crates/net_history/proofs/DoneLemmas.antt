@@ -1,4 +1,4 @@
--- Where a transaction is answered, all that is due of it was done in earlier rounds.
+-- Where all answers to a transaction have been put on a link that carries it, all that is due of it was done by then.
 use Rattle.std.proofs.Common.{◌≡◌, ◌≤◌, ◌<◌, ◌+◌, ◌==◌, [], ◌∷◌, ℕ, zero, suc, Bool, true, false, List, Option, Some, None, length, refl, sym, ap, ◌∙◌, subst, inl, inr, arith, length-append}
 use Rattle.std.specs.Prelude.{All, flat_map, map, unwrap_or}
 use Rattle.std.proofs.lemmas.Bool.{cases_Bool, cases_eq, cases_lt}
@@ -21,9 +21,9 @@ use Rattle.memory_node.specs.Accesses.{accesses_of, allowed_bytes, beat_span, du
 use Rattle.memory_node.specs.Beats.{stored_bytes}
 use Rattle.memory_node.specs.Events.{Access}
 use Rattle.memory_node.specs.MemoryState.{MemoryState}
-use Rattle.net_history.proofs.EndLemmas.{IsSameShare, carried-same, end-at, end-carried, first_share}
+use Rattle.net_history.proofs.EndLemmas.{IsSameShare, carried-same, end-at, end-carried, first-carried, first_share}
 use Rattle.net_history.proofs.EventLemmas.{all-nodes}
-use Rattle.net_history.proofs.ItemLemmas.{among, beat-count, now, origin, own-reads as first-reads, own-writes as first-writes, read-note, schedules, taken-before, write-note}
+use Rattle.net_history.proofs.ItemLemmas.{among, beat-count, carried-is, now, origin, read-note, schedules, taken-before, write-note}
 use Rattle.net_history.proofs.ManagerRuns.{note_after, own-link, run-keeps}
 use Rattle.net_history.proofs.MemoryRuns.{IsMemoryAt, memory-begins, memory-keeps}
 use Rattle.net_history.proofs.NetTransactions.{due_of}
@@ -46,7 +46,7 @@ use Rattle.plain_lists.specs.Keys.{of_key}
 use Rattle.plain_lists.specs.Prefixes.{IsPrefix}
 use Rattle.subordinate.specs.Parts.{BeatOf, beats_of_parts, beats_with_data}
 
-some-share : (o : Option Share) → 0 < length (unwrap_or o no_share).parts → (share : Share) × (o ≡ Some share)
+pub some-share : (o : Option Share) → 0 < length (unwrap_or o no_share).parts → (share : Share) × (o ≡ Some share)
 some-share None some = absurd (omega (arith, some))
 some-share (Some share) some = (share, refl)
 
@@ -75,16 +75,45 @@ module _ (net : Network NodeState) (forms : ℕ → LinkForm) (sound : IsSound n
   abbrev there : Share
   there = carried_there net forms sound node s place item own
 
-  abbrev above_link : ℕ
-  above_link = s.lower
+  -- each link carries what the first one does
+  pub same-on : (link : ℕ) (share : Share) → carried node_kind net item.txn.write link number ≡ Some share → IsSameShare (first_share net forms sound its_origin (among net forms sound node s place item own)) share
+  same-on link share comes = carried-same net forms sound its_origin (among net forms sound node s place item own) link share comes
 
-  known : above_link < length net.links
-  known = (own-link net forms sound node s own.is).0
-
-  -- the last link carries what the first one does
   pub same-there : IsSameShare (first_share net forms sound its_origin (among net forms sound node s place item own)) there
-  same-there =
-      carried-same net forms sound its_origin (among net forms sound node s place item own) _ there (end-carried net forms sound its_origin (among net forms sound node s place item own))
+  same-there = same-on _ there (end-carried net forms sound its_origin (among net forms sound node s place item own))
+
+  -- all answers to it have been put on a link
+  pub record AreAnswersThere (m : ℕ) : Type 0 where
+    pub link : ℕ
+    pub known : link < length net.links
+    pub share : Share
+    pub comes : carried node_kind net item.txn.write link number ≡ Some share
+    pub responses : item.txn.write ≡ true → 0 < length (of_key number_of_response number (lower_end node_kind net link m).b)
+    pub beats : item.txn.write ≡ false → item.txn.request.len < length (of_key number_of_read_data number (lower_end node_kind net link m).r)
+
+  -- so it is where the manager notes in the next round that it is answered
+  pub answers-there : (m : ℕ) → 0 < (note_after net s (suc m) place).answered → AreAnswersThere m
+  answers-there m answered =
+      let known = (own-link net forms sound node s own.is).0 in
+      let behind : IsBehind (lower_end node_kind net s.lower m) (upper_end node_kind net s.lower (suc m)) = taken-before net forms sound s.lower known m in
+      record {
+        link = s.lower;
+        known = known;
+        share = first_share net forms sound its_origin (among net forms sound node s place item own);
+        comes = first-carried net forms sound its_origin (among net forms sound node s place item own);
+        responses = λ writes.
+            let came = (write-note net forms sound node s place item own (suc m) writes).answered.0 answered in
+            omega (arith, came, prefix_length (prefix_of_key number_of_response number behind.b));
+        beats = λ reads.
+            let came = (read-note net forms sound node s place item own (suc m) reads).answered.0 answered in
+            omega (arith, came, prefix_length (prefix_of_key number_of_read_data number behind.r));
+      }
+
+  pub written-share : (link : ℕ) (share : Share) → carried node_kind net item.txn.write link number ≡ Some share → item.txn.write ≡ true → (schedules net forms sound link).writes number ≡ share
+  written-share link share comes writes = carried-is net forms sound true link number share (ap (λ (b : Bool). carried node_kind net b link number) (sym writes) ∙ comes)
+
+  pub read-share : (link : ℕ) (share : Share) → carried node_kind net item.txn.write link number ≡ Some share → item.txn.write ≡ false → (schedules net forms sound link).reads number ≡ share
+  read-share link share comes reads = carried-is net forms sound false link number share (ap (λ (b : Bool). carried node_kind net b link number) (sym reads) ∙ comes)
 
   module _ (c : MemoryState) (is : IsMemoryAt net end c) where
     abbrev due : List BeatOf
@@ -95,9 +124,10 @@ module _ (net : Network NodeState) (forms : ℕ → LinkForm) (sound : IsSound n
 
     -- ---- what is read of a read of which all beats have come
 
-    lanes-are : item.txn.write ≡ false → ((schedules net forms sound above_link).reads number).lanes ≡ map (beat_span c.area) due
-    lanes-are reads =
-        ap (λ (share : Share). share.lanes) (first-reads net forms sound node s place item own reads) ∙ sym same-there.lanes
+    lanes-are : item.txn.write ≡ false → (link : ℕ) (share : Share) → carried node_kind net item.txn.write link number ≡ Some share →
+        ((schedules net forms sound link).reads number).lanes ≡ map (beat_span c.area) due
+    lanes-are reads link share comes =
+        ap (λ (o : Share). o.lanes) (read-share link share comes reads) ∙ (same-on link share comes).lanes ∙ sym same-there.lanes
         ∙ ap (λ (share : Share). share.lanes) (sym (share-read net forms sound node s place item own c is reads))
         ∙ ((memory-keeps net forms sound end c is 0).suits.lanes number)
         ∙ ap (λ (share : Share). map (beat_span c.area) (beats_of_parts share.parts)) (share-read net forms sound node s place item own c is reads)
@@ -105,35 +135,33 @@ module _ (net : Network NodeState) (forms : ℕ → LinkForm) (sound : IsSound n
     abbrev values : ℕ → List ℕ
     values n = map (λ (a : Access). a.byte.value) (accesses_of false number (noted_by node_kind net end n))
 
-    pub all-read : item.txn.write ≡ false → (n : ℕ) (beats : List RBeat) → All (λ (r : RBeat). length r.lanes ≡ 128) beats → suc item.txn.request.len ≤ length beats →
-        IsPrefix (bytes_on beats ((schedules net forms sound above_link).reads number).lanes) ((now net forms sound n).filled number) →
-        (bytes_on beats ((schedules net forms sound above_link).reads number).lanes ≡ answered_bytes (flat_map (allowed_bytes c.area) due) (values n))
+    pub all-read : item.txn.write ≡ false → (link : ℕ) (share : Share) → carried node_kind net item.txn.write link number ≡ Some share →
+        (n : ℕ) (beats : List RBeat) → All (λ (r : RBeat). length r.lanes ≡ 128) beats → suc item.txn.request.len ≤ length beats →
+        IsPrefix (bytes_on beats ((schedules net forms sound link).reads number).lanes) ((now net forms sound n).filled number) →
+        (bytes_on beats ((schedules net forms sound link).reads number).lanes ≡ answered_bytes (flat_map (allowed_bytes c.area) due) (values n))
         × (length (flat_map (read_addresses c.area) due) ≤ length (values n))
-    all-read reads n beats whole enough front =
+    all-read reads link share comes n beats whole enough front =
         let known_there : IsPrefix ((now net forms sound n).filled number) (answered_bytes (flat_map (allowed_bytes c.area) due) (values n)) =
         prefix_of_same (filled-there net forms sound its_origin (among net forms sound node s place item own) reads n)
         (filled-memory net forms sound its_origin (among net forms sound node s place item own) reads n c is
         ∙ ap (λ (share : Share). answered_bytes (flat_map (allowed_bytes c.area) (beats_of_parts share.parts)) (values n)) (share-read net forms sound node s place item own c is reads)) in
-        let lanes = lanes-are reads in
+        let lanes = lanes-are reads link share comes in
         let all = reads-whole c.area (memory-begins net forms sound end c is).area.bus due beats (values n) (lanes-in_order net forms sound node s place item own c is reads) whole
         (subst (λ (spans : List Span). IsPrefix (bytes_on beats spans) (answered_bytes (flat_map (allowed_bytes c.area) due) (values n))) lanes (prefix_trans front known_there)) (omega (arith, due-long, enough)) in
         (ap (bytes_on beats) lanes ∙ all.0, all.1)
 
-    -- ---- an answered transaction
+    -- ---- where its answers are there
 
-    module _ (m : ℕ) (answered : 0 < (note_after net s (suc m) place).answered) where
-      below : Answers (schedules net forms sound above_link) (now net forms sound m) (lower_end node_kind net above_link m)
-      below = (run-keeps net forms sound m).answered above_link known
-
-      behind : IsBehind (lower_end node_kind net above_link m) (upper_end node_kind net above_link (suc m))
-      behind = taken-before net forms sound above_link known m
+    module _ (m : ℕ) (answers : AreAnswersThere m) where
+      below : Answers (schedules net forms sound answers.link) (now net forms sound m) (lower_end node_kind net answers.link m)
+      below = (run-keeps net forms sound m).answered answers.link answers.known
 
       writes-done : item.txn.write ≡ true → length (beats_of_parts there.parts) ≤ data_count net forms sound node s place item own c is m
       writes-done writes =
-          let came = (write-note net forms sound node s place item own (suc m) writes).answered.0 answered in
-          let put = prefix_length (prefix_of_key number_of_response number behind.b) in
-          let part : length ((schedules net forms sound above_link).writes number).parts ≡ 1 = ap (λ (share : Share). length share.parts) (first-writes net forms sound node s place item own writes) in
-          let written = written-where net forms sound m number (below.done_when_answered number (omega (arith, part)) (omega (arith, part, came, put))) in
+          let came = answers.responses writes in
+          let part : length ((schedules net forms sound answers.link).writes number).parts ≡ 1 =
+          ap (λ (share : Share). length share.parts) (written-share answers.link answers.share answers.comes writes) ∙ ap length (same-on answers.link answers.share answers.comes).parts in
+          let written = written-where net forms sound m number (below.done_when_answered number (omega (arith, part)) (omega (arith, part, came))) in
           let share = some-share (carried node_kind net true written.link number) written.some in
           let last = end-at net forms sound its_origin (among net forms sound node s place item own) written.link share.0 (ap (λ (b : Bool). carried node_kind net b written.link number) writes ∙ share.1) (written.ends share.0) in
           let link : written.link ≡ c.inner.upper = sym last ∙ end-link net forms sound node s place item own c is in
@@ -143,11 +171,10 @@ module _ (net : Network NodeState) (forms : ℕ → LinkForm) (sound : IsSound n
 
       reads-done : item.txn.write ≡ false → length (flat_map (read_addresses c.area) due) ≤ length (accesses_of false number (noted_by node_kind net end m))
       reads-done reads =
-          let beats = of_key number_of_read_data number (lower_end node_kind net above_link m).r in
-          let came = (read-note net forms sound node s place item own (suc m) reads).answered.0 answered in
-          let put = prefix_length (prefix_of_key number_of_read_data number behind.r) in
-          let whole = All-filter (λ (r : RBeat). number_of_read_data r == number) (λ (r : RBeat). length r.lanes ≡ 128) (lower_end node_kind net above_link m).r below.lanes_are_whole in
-          let all = all-read reads m beats whole (omega (arith, came, put)) (below.bytes_are_filled number) in
+          let beats = of_key number_of_read_data number (lower_end node_kind net answers.link m).r in
+          let came = answers.beats reads in
+          let whole = All-filter (λ (r : RBeat). number_of_read_data r == number) (λ (r : RBeat). length r.lanes ≡ 128) (lower_end node_kind net answers.link m).r below.lanes_are_whole in
+          let all = all-read reads answers.link answers.share answers.comes m beats whole (omega (arith, came)) (below.bytes_are_filled number) in
           omega (arith, all.1, length-map (accesses_of false number (noted_by node_kind net end m)) (λ (a : Access). a.byte.value))
 
       full-there : map access_made (events_of number (events_after m net)) ≡ map access_due (bytes_due (due_of net forms node s item))
@@ -172,7 +199,7 @@ module _ (net : Network NodeState) (forms : ℕ → LinkForm) (sound : IsSound n
             sym (prefix_whole (map access_made (events_of number (events_after m net))) (map access_due (bytes_due (due_of net forms node s item))) (item-begins net forms sound node s place item own m) long)
       ]
 
-  module _ (m : ℕ) (answered : 0 < (note_after net s (suc m) place).answered) where
+  module _ (m : ℕ) (answers : AreAnswersThere m) where
     abbrev made : ℕ → List (ℕ × Option ℕ)
     made n = map access_made (events_of number (events_after n net))
 
@@ -181,7 +208,7 @@ module _ (net : Network NodeState) (forms : ℕ → LinkForm) (sound : IsSound n
 
     full-at : made m ≡ wanted
     full-at = elim (ends-at net forms sound its_origin) [
-      | inl memory ↦ full-there memory.0 memory.1 m answered
+      | inl memory ↦ full-there memory.0 memory.1 m answers
       | inr quiet ↦ ap (map access_made) (no-events net forms sound node s place item own quiet m) ∙ sym (ap (map access_due) (none-due net forms sound node s place item own quiet))
     ]
 

@@ -2,6 +2,8 @@ pub mod AnswerLemmas
 pub mod AskedLemmas
 pub mod BelongLemmas
 pub mod ByteLemmas
+pub mod ComeLemmas
+pub mod DemuxLemmas
 pub mod DoneLemmas
 pub mod DueLemmas
 pub mod EndLemmas
@@ -12,6 +14,8 @@ pub mod ManagerRuns
 pub mod MemoryRuns
 pub mod NetTransactions
 pub mod NotedLists
+pub mod OrderLemmas
+pub mod PartLemmas
 pub mod ReadLemmas
 pub mod RoundLemmas
 pub mod RunLemmas

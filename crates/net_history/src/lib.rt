@@ -8,4 +8,4 @@
 
 mod history_laws;
 
-pub use history_laws::{laws_of_deliveries, laws_of_rounds};
+pub use history_laws::runs_are_right;
