@@ -123,6 +123,48 @@ is-write : (b : Bool) → beq b true ≡ true → b ≡ true
 is-write true e = refl
 is-write false e = absurd (false≢true e)
 
+-- what comes by a link below which the path of a transaction ends is its request, and its target stands there
+module _ (nodes : List DocumentNode) (items : List TrafficItem) (run : CanRun nodes) (origin : Origin) (from : Started nodes items origin) where
+  pub comes-to : (to : ℕ) (found : Share) → share_on to (way_of node_kind (opening nodes items) origin) ≡ Some found → onward nodes from.item.txn.request.addr (plan_link_at nodes to).lower ≡ None →
+      (target_of nodes from.item.manager from.item.txn.request.addr ≡ (plan_link_at nodes to).lower) × (found.parts ≡ without_id (item_request (script_item from.item)) ∷ [])
+  comes-to to found there stops =
+      let request : Addr = without_id (item_request (script_item from.item)) in
+      let address : ℕ = from.item.txn.request.addr in
+      let manager : ℕ = from.number in
+      let at_manager = node-at nodes items from.number from.less in
+      let is_manager = is-manager (plan_node_at nodes from.number).part from.first in
+      let suits : LowersSuit part.Manager (plan_node_at nodes from.number).lower =
+      subst (λ (p : Part). LowersSuit p (plan_node_at nodes from.number).lower) is_manager (lowers-suit nodes run from.number (plan_node_at nodes from.number) at_manager) in
+      let out : is_in (links_out_of nodes from.number) (link_out_of nodes from.number) ≡ true =
+      ap (λ xs. is_in xs (link_out_of nodes from.number)) (sym (one-out nodes run.accepted from.number (plan_node_at nodes from.number) at_manager suits))
+      ∙ in-first (link_out_of nodes from.number) [] (link_out_of nodes from.number) refl in
+      let known = out-is nodes from.number (link_out_of nodes from.number) out in
+      let leads = first-leads nodes items run from.number (link_out_of nodes from.number) (plan_node_at nodes from.number) at_manager suits refl in
+      let lower : ℕ = (plan_link_at nodes (link_out_of nodes from.number)).lower in
+      let on : onward nodes from.item.txn.request.addr from.number ≡ Some (plan_link_at nodes (link_out_of nodes from.number)).lower =
+      onward-is nodes items run from.item.txn.request.addr from.number (plan_node_at nodes from.number) at_manager
+      ∙ ap (next_by_part nodes from.item.txn.request.addr (plan_node_at nodes from.number)) is_manager
+      ∙ leads.0 in
+      let down = deeper nodes items run (plan_link_at nodes (link_out_of nodes from.number)).upper (plan_link_at nodes (link_out_of nodes from.number)).lower
+      (lower-known nodes items run (link_out_of nodes from.number) known.0) (leads-down nodes (link_out_of nodes from.number) known.0) in
+      let small = shallow nodes items run (plan_link_at nodes (link_out_of nodes from.number)).lower (lower-known nodes items run (link_out_of nodes from.number) known.0) in
+      let link_is : origin.link ≡ link_out_of nodes from.number = ap (λ (o : Origin). o.link) from.is in
+      let end = ends-from nodes items run origin.write (suc (length (opening nodes items).nodes)) to (without_id (item_request (script_item from.item)))
+      origin.link (length (plan_nodes nodes) - 1) origin.share found
+      (subst (λ (k : ℕ). k < length (plan_links nodes)) (sym link_is) known.0) (ap (λ (o : Origin). o.share.parts) from.is) there stops
+      (subst (λ (k : ℕ). length (plan_nodes nodes) ≤ depth_at nodes items run (plan_link_at nodes k).lower + (length (plan_nodes nodes) - 1)) (sym link_is) (omega (arith, down, small))) in
+      let count : length (plan_nodes nodes) ≡ suc (length (plan_nodes nodes) - 1) = omega (arith, small) in
+      let first : first_part nodes from.item.manager ≡ from.number = sym (manager-first nodes items run from.number from.less from.first ∙ ap (first_part nodes) (sym from.manager)) in (
+        ap (λ (k : ℕ). last_of (path_from nodes (plan_nodes nodes) from.item.txn.request.addr (length (plan_nodes nodes)) k)) first
+            ∙ ap (λ (n : ℕ). last_of (path_from nodes (plan_nodes nodes) from.item.txn.request.addr n from.number)) count
+            ∙ ap last_of (path-goes_on nodes from.item.txn.request.addr (length (plan_nodes nodes) - 1) from.number (plan_link_at nodes (link_out_of nodes from.number)).lower on)
+            ∙ last-later from.number (path_from nodes (plan_nodes nodes) from.item.txn.request.addr (length (plan_nodes nodes) - 1) (plan_link_at nodes (link_out_of nodes from.number)).lower)
+            (some-path nodes from.item.txn.request.addr (length (plan_nodes nodes) - 1) (plan_link_at nodes (link_out_of nodes from.number)).lower (omega (arith, down, small)))
+            ∙ ap (λ (k : ℕ). last_of (path_from nodes (plan_nodes nodes) from.item.txn.request.addr (length (plan_nodes nodes) - 1) (plan_link_at nodes k).lower)) (sym link_is)
+            ∙ end.0,
+        end.1,
+      )
+
 module _ (nodes : List DocumentNode) (items : List TrafficItem) (run : CanRun nodes) (traffic : IsTraffic nodes items) (number : ℕ) (less : number < length (plan_nodes nodes))
     (memory : (plan_node_at nodes number).part ≡ part.Memory) where
   abbrev node : PlanNode
@@ -149,43 +191,8 @@ module _ (nodes : List DocumentNode) (items : List TrafficItem) (run : CanRun no
   pub comes-here : (origin : Origin) (from : Started nodes items origin) (found : Share) → share_on (link_into nodes number) (way_of node_kind (opening nodes items) origin) ≡ Some found →
       (target_of nodes from.item.manager from.item.txn.request.addr ≡ number) × (found.parts ≡ without_id (item_request (script_item from.item)) ∷ [])
   comes-here origin from found there =
-      let request : Addr = without_id (item_request (script_item from.item)) in
-      let address : ℕ = from.item.txn.request.addr in
-      let manager : ℕ = from.number in
-      let at_manager = node-at nodes items from.number from.less in
-      let is_manager = is-manager (plan_node_at nodes from.number).part from.first in
-      let suits : LowersSuit part.Manager (plan_node_at nodes from.number).lower =
-      subst (λ (p : Part). LowersSuit p (plan_node_at nodes from.number).lower) is_manager (lowers-suit nodes run from.number (plan_node_at nodes from.number) at_manager) in
-      let out : is_in (links_out_of nodes from.number) (link_out_of nodes from.number) ≡ true =
-      ap (λ xs. is_in xs (link_out_of nodes from.number)) (sym (one-out nodes run.accepted from.number (plan_node_at nodes from.number) at_manager suits))
-      ∙ in-first (link_out_of nodes from.number) [] (link_out_of nodes from.number) refl in
-      let known = out-is nodes from.number (link_out_of nodes from.number) out in
-      let leads = first-leads nodes items run from.number (link_out_of nodes from.number) (plan_node_at nodes from.number) at_manager suits refl in
-      let lower : ℕ = (plan_link_at nodes (link_out_of nodes from.number)).lower in
-      let on : onward nodes from.item.txn.request.addr from.number ≡ Some (plan_link_at nodes (link_out_of nodes from.number)).lower =
-      onward-is nodes items run from.item.txn.request.addr from.number (plan_node_at nodes from.number) at_manager
-      ∙ ap (next_by_part nodes from.item.txn.request.addr (plan_node_at nodes from.number)) is_manager
-      ∙ leads.0 in
-      let down = deeper nodes items run (plan_link_at nodes (link_out_of nodes from.number)).upper (plan_link_at nodes (link_out_of nodes from.number)).lower
-      (lower-known nodes items run (link_out_of nodes from.number) known.0) (leads-down nodes (link_out_of nodes from.number) known.0) in
-      let small = shallow nodes items run (plan_link_at nodes (link_out_of nodes from.number)).lower (lower-known nodes items run (link_out_of nodes from.number) known.0) in
-      let link_is : origin.link ≡ link_out_of nodes from.number = ap (λ (o : Origin). o.link) from.is in
-      let end = ends-from nodes items run origin.write (suc (length (opening nodes items).nodes)) (link_into nodes number) (without_id (item_request (script_item from.item)))
-      origin.link (length (plan_nodes nodes) - 1) origin.share found
-      (subst (λ (k : ℕ). k < length (plan_links nodes)) (sym link_is) known.0) (ap (λ (o : Origin). o.share.parts) from.is) there (ends from.item.txn.request.addr)
-      (subst (λ (k : ℕ). length (plan_nodes nodes) ≤ depth_at nodes items run (plan_link_at nodes k).lower + (length (plan_nodes nodes) - 1)) (sym link_is) (omega (arith, down, small))) in
-      let count : length (plan_nodes nodes) ≡ suc (length (plan_nodes nodes) - 1) = omega (arith, small) in
-      let first : first_part nodes from.item.manager ≡ from.number = sym (manager-first nodes items run from.number from.less from.first ∙ ap (first_part nodes) (sym from.manager)) in (
-        ap (λ (k : ℕ). last_of (path_from nodes (plan_nodes nodes) from.item.txn.request.addr (length (plan_nodes nodes)) k)) first
-            ∙ ap (λ (n : ℕ). last_of (path_from nodes (plan_nodes nodes) from.item.txn.request.addr n from.number)) count
-            ∙ ap last_of (path-goes_on nodes from.item.txn.request.addr (length (plan_nodes nodes) - 1) from.number (plan_link_at nodes (link_out_of nodes from.number)).lower on)
-            ∙ last-later from.number (path_from nodes (plan_nodes nodes) from.item.txn.request.addr (length (plan_nodes nodes) - 1) (plan_link_at nodes (link_out_of nodes from.number)).lower)
-            (some-path nodes from.item.txn.request.addr (length (plan_nodes nodes) - 1) (plan_link_at nodes (link_out_of nodes from.number)).lower (omega (arith, down, small)))
-            ∙ ap (λ (k : ℕ). last_of (path_from nodes (plan_nodes nodes) from.item.txn.request.addr (length (plan_nodes nodes) - 1) (plan_link_at nodes k).lower)) (sym link_is)
-            ∙ end.0
-            ∙ (into-is nodes number (link_into nodes number) into).1,
-        end.1,
-      )
+      let come = comes-to nodes items run origin from (link_into nodes number) found there (ends from.item.txn.request.addr) in
+      (come.0 ∙ (into-is nodes number (link_into nodes number) into).1, come.1)
 
   bus : IsBusWidth (memory_at nodes number items).area.bus
   bus =

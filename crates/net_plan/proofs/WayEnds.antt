@@ -144,7 +144,7 @@ module _ (nodes : List DocumentNode) (items : List TrafficItem) (run : CanRun no
   abbrev pub below : ℕ → Way
   below link = way_below node_kind (opening nodes items) link
 
-  below-is : (link : ℕ) → (plan_link_at nodes link).lower < length (plan_nodes nodes) → below link ≡ node_kind.way (state_at nodes items (plan_link_at nodes link).lower)
+  pub below-is : (link : ℕ) → (plan_link_at nodes link).lower < length (plan_nodes nodes) → below link ≡ node_kind.way (state_at nodes items (plan_link_at nodes link).lower)
   below-is link less =
       ap (λ (k : ℕ). way_at node_kind (opening nodes items).nodes k) (ap (λ (l : NetLink). l.lower) (link-is nodes items link))
       ∙ ap (λ (o : Option (Acted NodeState)). option_map_or (λ (n : Acted NodeState). node_kind.way n.state) o (start_here [])) (node-is nodes items (plan_link_at nodes link).lower less)
@@ -178,7 +178,7 @@ module _ (nodes : List DocumentNode) (items : List TrafficItem) (run : CanRun no
   ports-by place inner node less (InputError i own within first is) demux = absurd (true≢false (ap is_demux (sym demux ∙ ap (λ (n : PlanNode). n.part) is)))
   ports-by place inner node less (Target j own within first is) demux = absurd (true≢false (ap is_demux (sym demux ∙ ap (λ (n : PlanNode). n.part) is)))
 
-  ports-long : (number : ℕ) (node : PlanNode) → slice_get (plan_nodes nodes) number ≡ Some node → node.part ≡ part.Demux → length node.lower ≡ suc (length (targets_of nodes (node_at nodes node.document)))
+  pub ports-long : (number : ℕ) (node : PlanNode) → slice_get (plan_nodes nodes) number ≡ Some node → node.part ≡ part.Demux → length node.lower ≡ suc (length (targets_of nodes (node_at nodes node.document)))
   ports-long number node at demux =
       let spot : Part_at nodes number node = part-at nodes number node at in
       ports-by spot.place spot.inner node spot.within spot.form demux

@@ -9,7 +9,7 @@ use Rattle.burst_address.specs.Bytes.{Byte, beat_bytes, burst_bytes, bytes_with}
 use Rattle.burst_address.specs.Formulas.{beats_of}
 use Rattle.burst_address.specs.Status.{worst_among}
 use Rattle.elaborate.specs.Path.{target_of}
-use Rattle.elaborate.specs.Plan.{PlanNode, plan_node_at}
+use Rattle.elaborate.specs.Plan.{PlanNode, first_part, plan_node_at}
 use Rattle.elaborate.specs.declared.part.Part.{Part}
 use Rattle.elaborate.specs.declared.part.Part.TheVariants as part
 use Rattle.manager_node.specs.declared.script.WriteByte.{WriteByte}
@@ -87,7 +87,7 @@ module _ (nodes : List DocumentNode) where
   abbrev pub transaction_due : TrafficItem → Transaction
   transaction_due item = record {
     number = item.txn.number;
-    manager = item.manager;
+    manager = first_part nodes item.manager;
     id = item.txn.request.id;
     write = item.txn.write;
     after = item.txn.after;

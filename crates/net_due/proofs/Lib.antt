@@ -1,0 +1,10 @@
+pub mod ByteStatuses
+pub mod CarriedBytes
+pub mod CarriedStatuses
+pub mod DueItems
+pub mod DueLists
+pub mod ErrorFills
+pub mod PlanRuns
+pub mod SameTransactions
+pub mod Targets
+pub mod WayForms
