@@ -4,6 +4,8 @@ pub mod CarriedStatuses
 pub mod DueItems
 pub mod DueLists
 pub mod ErrorFills
+pub mod KnownHistory
+pub mod KnownNetwork
 pub mod PlanRuns
 pub mod SameTransactions
 pub mod Targets

@@ -7,5 +7,7 @@
 #![tactic(auto)]
 
 mod due_laws;
+mod known;
 
 pub use due_laws::{plan_runs_deliver, transactions_are_due};
+pub use known::known_runs;
