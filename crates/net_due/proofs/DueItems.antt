@@ -44,10 +44,11 @@ use Rattle.net_opening.specs.States.{area_of_node, manager_at, memory_at}
 use Rattle.net_plan.proofs.OnceLemmas.{manager-first}
 use Rattle.net_plan.proofs.OpeningWired.{node-is}
 use Rattle.net_plan.specs.PlanLaws.{CanRun}
-use Rattle.net_ways.specs.Ways.{way_below}
+use Rattle.net_ways.specs.Sound.{IsSound}
+use Rattle.net_ways.specs.Ways.{Hop, way_below}
 use Rattle.node_core.specs.Acted.{Acted, opened}
 use Rattle.node_shape.specs.LinkForm.{LinkForm}
-use Rattle.node_shape.specs.Way.{Way, start_here}
+use Rattle.node_shape.specs.Way.{Origin, Way, start_here}
 use Rattle.plain_lists.proofs.PlaceLemmas.{at-all}
 use Rattle.plan_traffic.specs.Accepted.{IsTraffic}
 use Rattle.plan_traffic.specs.Due.{bytes_at, bytes_strobed, given_status, is_accessed, response_at, response_of_write, transaction_due, written_status}
@@ -77,13 +78,13 @@ module _ (nodes : List DocumentNode) (items : List TrafficItem) (run : CanRun no
   abbrev script : ScriptItem
   script = script_item item
 
-  abbrev its_sound : _
+  abbrev its_sound : IsSound node_kind (opening nodes items) (form_of_link nodes)
   its_sound = sound nodes items run traffic number inner item planned
 
-  abbrev its_start : _
+  abbrev its_start : Origin
   its_start = starts nodes items run traffic number inner item planned
 
-  abbrev its_end : _
+  abbrev its_end : Hop
   its_end = end nodes items run traffic number inner item planned
 
   abbrev its_target : ℕ

@@ -23,7 +23,7 @@ use Rattle.net_model.specs.Network.{Network, lower_node}
 use Rattle.net_ways.proofs.HopLemmas.{IsEnd, IsJoined, IsStep}
 use Rattle.net_ways.proofs.OriginLemmas.{HasItsWay, is-found, its-way}
 use Rattle.net_ways.specs.Sound.{IsSound}
-use Rattle.net_ways.specs.Ways.{Hop, carried, responses_from, schedules_of, share_on, way_below, way_of}
+use Rattle.net_ways.specs.Ways.{Hop, origins_in, responses_from, schedules_of, share_on, way_below, way_of}
 use Rattle.node_core.specs.Acted.{Acted}
 use Rattle.node_shape.specs.LinkForm.{IsAlike, LinkForm}
 use Rattle.node_shape.specs.Way.{Origin, start_here, with_responses}
@@ -47,17 +47,17 @@ module _ (net : Network NodeState) (forms : ℕ → LinkForm) (sound : IsSound n
   -- a node sends on by a link of the same form
   alike-by : (name : KindName) (s : StateOf name) (link next : ℕ) (share : Share) → (kind_by_name name).is_sound forms schedules s → Contains ((kind_by_name name).uppers s) link →
       ((kind_by_name name).way s).goes_on share ≡ Some next → IsAlike (forms link) (forms next)
-  alike-by ASlice s link next share fits among goes =
-      alike-of (forms link) (forms next) (ap forms (only link s.upper among) ∙ sym fits ∙ ap forms (same_Some s.lower next goes))
-  alike-by AMux s link next share fits among goes =
+  alike-by ASlice s link next share fits above goes =
+      alike-of (forms link) (forms next) (ap forms (only link s.upper above) ∙ sym fits ∙ ap forms (same_Some s.lower next goes))
+  alike-by AMux s link next share fits above goes =
       subst (λ (l : ℕ). IsAlike (forms link) (forms l)) (same_Some s.shape.lower next goes)
-      (All-contains (λ l. IsAlike (forms l) (forms s.shape.lower)) s.shape.uppers link fits.alike among)
-  alike-by ADemux s link next share fits among goes =
+      (All-contains (λ l. IsAlike (forms l) (forms s.shape.lower)) s.shape.uppers link fits.alike above)
+  alike-by ADemux s link next share fits above goes =
       let equal = All-contains (λ l. forms l ≡ forms s.shape.upper) s.shape.lowers next fits.alike (contains-at s.shape.lowers (port_of_parts s.shape share.parts) next goes) in
-      alike-of (forms link) (forms next) (ap forms (only link s.shape.upper among) ∙ sym equal)
-  alike-by AManager s link next share fits among goes = absurd (none-some next goes)
-  alike-by AMemory s link next share fits among goes = absurd (none-some next goes)
-  alike-by AnError s link next share fits among goes = absurd (none-some next goes)
+      alike-of (forms link) (forms next) (ap forms (only link s.shape.upper above) ∙ sym equal)
+  alike-by AManager s link next share fits above goes = absurd (none-some next goes)
+  alike-by AMemory s link next share fits above goes = absurd (none-some next goes)
+  alike-by AnError s link next share fits above goes = absurd (none-some next goes)
 
   module _ (write : Bool) where
     alike-next : (hop next : Hop) → hop.link < length net.links → IsStep node_kind node_holds net sound.wired write hop next → IsAlike (forms hop.link) (forms next.link)
@@ -67,8 +67,8 @@ module _ (net : Network NodeState) (forms : ℕ → LinkForm) (sound : IsSound n
         go : (o : Option (Acted NodeState)) → IfSome o (λ (a : Acted NodeState). node_kind.is_sound forms schedules a.state) →
             Contains (option_map_or (λ (a : Acted NodeState). node_kind.uppers a.state) o []) hop.link →
             (option_map_or (λ (a : Acted NodeState). node_kind.way a.state) o (start_here [])).goes_on hop.share ≡ Some next.link → IsAlike (forms hop.link) (forms next.link)
-        go None fits among goes = absurd (none-some next.link goes)
-        go (Some a) fits among goes = alike-by a.state.kind a.state.state hop.link next.link hop.share fits among goes
+        go None fits above goes = absurd (none-some next.link goes)
+        go (Some a) fits above goes = alike-by a.state.kind a.state.state hop.link next.link hop.share fits above goes
 
     alike-along : (hop : Hop) (hops : List Hop) → hop.link < length net.links → IsJoined node_kind node_holds net sound.wired write (hop ∷ hops) → IsAlike (forms hop.link) (forms (last_hop hop hops).link)
     alike-along hop [] known joined = alike-of (forms hop.link) (forms hop.link) refl
@@ -83,7 +83,7 @@ module _ (net : Network NodeState) (forms : ℕ → LinkForm) (sound : IsSound n
     abbrev its_origin : Origin
     its_origin = origin net forms sound node s place item own
 
-    abbrev is_among : _
+    abbrev is_among : Contains (origins_in node_kind net.nodes) its_origin
     is_among = among net forms sound node s place item own
 
     abbrev end : Hop
