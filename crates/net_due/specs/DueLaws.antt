@@ -38,13 +38,7 @@ pub record IsRightByPlan (nodes : List DocumentNode) (items : List TrafficItem) 
       is_finished node_kind (after_rounds node_kind rounds (opening nodes items)) ≡ true →
       All (λ (t : Transaction). HasAnswer t (answers_after rounds (opening nodes items))) (transactions_due nodes items)
 
--- every run of a document that can run has delivered so far what is due
-abbrev pub PlanRunsDeliver : Type 0
-PlanRunsDeliver =
-    (nodes : List DocumentNode) (items : List TrafficItem) → CanRun nodes → IsTraffic nodes items → (rounds : ℕ) →
-    Delivered (transactions_due nodes items) (events_after rounds (opening nodes items)) (answers_after rounds (opening nodes items))
-
--- and is right so far
+-- every run of a document that can run is right so far
 abbrev pub PlanRunsAreRight : Type 0
 PlanRunsAreRight =
     (nodes : List DocumentNode) (items : List TrafficItem) → CanRun nodes → IsTraffic nodes items → (rounds : ℕ) → IsRightByPlan nodes items rounds

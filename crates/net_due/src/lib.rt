@@ -9,5 +9,5 @@
 mod due_laws;
 mod known;
 
-pub use due_laws::{plan_runs_deliver, transactions_are_due};
+pub use due_laws::{plan_runs_are_right, transactions_are_due};
 pub use known::known_runs;
