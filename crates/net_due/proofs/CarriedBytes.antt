@@ -131,15 +131,15 @@ module _ (bus : ℕ) (width : IsBusWidth bus) (a : Addr) (legal : IsLegal a bus)
 
 -- ---- the data of a write
 
-module _ (bus : ℕ) (item : ScriptItem) (sends : SendsItsBytes bus item) where
-  -- its one part
-  abbrev pub part : Addr
-  part = without_id (item_request item)
+-- the one part of a transaction
+abbrev pub part_of : ScriptItem → Addr
+part_of item = without_id (item_request item)
 
-  pub data-long : length (data_beats item bus) ≡ beats_of part
+module _ (bus : ℕ) (item : ScriptItem) (sends : SendsItsBytes bus item) where
+  pub data-long : length (data_beats item bus) ≡ beats_of (part_of item)
   data-long = length-map-range_with_len (data_beat item bus) 0 (beats_of item.txn.request)
 
-  beat-valid : (k : ℕ) (w : WBeat) → slice_get (data_beats item bus) k ≡ Some w → StrobesValidLanes bus part k w
+  beat-valid : (k : ℕ) (w : WBeat) → slice_get (data_beats item bus) k ≡ Some w → StrobesValidLanes bus (part_of item) k w
   beat-valid k w at lane within strobed =
       let made = made-at (data_beat item bus) (beats_of item.txn.request) k w at in
       let bit : bit_at (data_beat item bus k).strobe lane ≡ 1 = ap (λ (b : WBeat). bit_at b.strobe lane) made.1 ∙ eqb-true (bit_at w.strobe lane) 1 strobed in
@@ -149,12 +149,12 @@ module _ (bus : ℕ) (item : ScriptItem) (sends : SendsItsBytes bus item) where
       on : (low high : ℕ) → low ≤ lane → lane ≤ high → (nat_le low lane && nat_lt lane (low + (high - low + 1))) ≡ true
       on low high from to = and_from _ _ (le-leb low lane from) (lt-ltb lane (low + (high - low + 1)) (omega (arith, from, to)))
 
-  pub data-valid : AllStrobeValidLanes bus part 0 (data_beats item bus)
-  data-valid k w at = let same : k ≡ 0 + k = omega arith in subst (λ n. StrobesValidLanes bus part n w) same (beat-valid k w at)
+  pub data-valid : AllStrobeValidLanes bus (part_of item) 0 (data_beats item bus)
+  data-valid k w at = let same : k ≡ 0 + k = omega arith in subst (λ n. StrobesValidLanes bus (part_of item) n w) same (beat-valid k w at)
 
   -- what they write is what the script strobes
-  pub data-written : written_bytes bus part (data_beats item bus) ≡ bytes_with (burst_bytes item.txn.request) (map strobed_value item.bytes)
-  data-written = written-alone bus item.txn.request part.id part.tag (data_beats item bus) ∙ data-writes_its_bytes item bus sends
+  pub data-written : written_bytes bus (part_of item) (data_beats item bus) ≡ bytes_with (burst_bytes item.txn.request) (map strobed_value item.bytes)
+  data-written = written-alone bus item.txn.request (part_of item).id (part_of item).tag (data_beats item bus) ∙ data-writes_its_bytes item bus sends
 
-pub part-bytes : (item : ScriptItem) → burst_bytes (without_id (item_request item)) ≡ burst_bytes item.txn.request
-part-bytes item = burst-alone item.txn.request (without_id (item_request item)).id (without_id (item_request item)).tag
+pub part-bytes : (item : ScriptItem) → burst_bytes (part_of item) ≡ burst_bytes item.txn.request
+part-bytes item = burst-alone item.txn.request (part_of item).id (part_of item).tag

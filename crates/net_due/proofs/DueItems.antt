@@ -25,7 +25,7 @@ use Rattle.manager_node.specs.Script.{ScriptItem}
 use Rattle.memory_node.specs.MemoryTable.{memory_service}
 use Rattle.memory_node.specs.Status.{may_read, may_write, read_status, write_status}
 use Rattle.net_due.proofs.ByteStatuses.{given-same, map-same, may-read, may-write, written-same}
-use Rattle.net_due.proofs.CarriedBytes.{data-long, data-valid, data-written, named, part as its_part, part-bytes, strobed-are, wanted-are}
+use Rattle.net_due.proofs.CarriedBytes.{data-long, data-valid, data-written, named, part-bytes, part_of, strobed-are, wanted-are}
 use Rattle.net_due.proofs.CarriedStatuses.{beat-responses, error-reads, error-write, memory-reads, memory-write}
 use Rattle.net_due.proofs.ErrorFills.{error-fill}
 use Rattle.net_due.proofs.Targets.{IsPlanned, at-target, end, sound, starts, suits, target, target-is, target-kind, target-less}
@@ -90,8 +90,8 @@ module _ (nodes : List DocumentNode) (items : List TrafficItem) (run : CanRun no
   abbrev its_target : ℕ
   its_target = target nodes items run traffic number inner item planned
 
-  abbrev part : Addr
-  part = its_part s.bus script
+  abbrev burst : Addr
+  burst = part_of script
 
   -- the document node of its target
   abbrev there : DocumentNode
@@ -106,7 +106,7 @@ module _ (nodes : List DocumentNode) (items : List TrafficItem) (run : CanRun no
   ends-bus : (forms its_end.link).bus ≡ s.bus
   ends-bus = end-bus net forms its_sound number s inner script planned.own
 
-  ends-parts : its_end.share.parts ≡ part ∷ []
+  ends-parts : its_end.share.parts ≡ burst ∷ []
   ends-parts = end-parts net forms its_sound number s inner script planned.own
 
   sends : item.txn.write ≡ true → SendsItsBytes s.bus script
@@ -130,14 +130,14 @@ module _ (nodes : List DocumentNode) (items : List TrafficItem) (run : CanRun no
 
     written-bytes : item.txn.write ≡ true → ((address : ℕ) → may address ≡ is_accessed (written_status there kind address)) → due.bytes ≡ bytes_at there kind item
     written-bytes writes each =
-        let data = end-data net forms its_sound number s inner script planned.own writes in
+        let sent = end-data net forms its_sound number s inner script planned.own writes in
         ap (λ (m : ℕ → Bool). bytes_carried (forms its_end.link) m item.txn.write its_end.share) may-is
         ∙ ap (λ (b : Bool). bytes_carried (forms its_end.link) may b its_end.share) writes
         ∙ ap (λ (bus : ℕ). flat_map (strobed_of_beat bus may) (beats_with_data its_end.share)) ends-bus
-        ∙ ap₂ (λ (parts : List Addr) (beats : List (List WBeat)). flat_map (strobed_of_beat s.bus may) (zip (beats_of_parts parts) (flat_map (λ ws. ws) beats))) ends-parts data
-        ∙ strobed-are s.bus width part legal may (data_beats script s.bus) (data-long s.bus script (sends writes)) (data-valid s.bus script (sends writes))
-        ∙ ap (map (named s.bus width part legal may)) (data-written s.bus script (sends writes))
-        ∙ map-same (named s.bus width part legal may) written (λ (byte : Byte). ap (as_named (Some byte.value) byte.address) (each byte.address)) (bytes_strobed item)
+        ∙ ap₂ (λ (parts : List Addr) (beats : List (List WBeat)). flat_map (strobed_of_beat s.bus may) (zip (beats_of_parts parts) (flat_map (λ ws. ws) beats))) ends-parts sent
+        ∙ strobed-are s.bus width burst legal may (data_beats script s.bus) (data-long s.bus script (sends writes)) (data-valid s.bus script (sends writes))
+        ∙ ap (map (named s.bus width burst legal may)) (data-written s.bus script (sends writes))
+        ∙ map-same (named s.bus width burst legal may) written (λ (byte : Byte). ap (as_named (Some byte.value) byte.address) (each byte.address)) (bytes_strobed item)
         ∙ sym (ap (λ (b : Bool). cond b (map written (bytes_strobed item)) (map wanted (burst_bytes item.txn.request))) writes)
 
     read-bytes : item.txn.write ≡ false → ((address : ℕ) → may address ≡ is_accessed (given_status there kind address)) → due.bytes ≡ bytes_at there kind item
@@ -145,7 +145,7 @@ module _ (nodes : List DocumentNode) (items : List TrafficItem) (run : CanRun no
         ap (λ (m : ℕ → Bool). bytes_carried (forms its_end.link) m item.txn.write its_end.share) may-is
         ∙ ap (λ (b : Bool). bytes_carried (forms its_end.link) may b its_end.share) reads
         ∙ ap (λ (parts : List Addr). flat_map (wanted_of_beat (forms its_end.link) may) (beats_of_parts parts)) ends-parts
-        ∙ wanted-are s.bus width part legal may (forms its_end.link) (end-full net forms its_sound number s inner script planned.own) ends-bus
+        ∙ wanted-are s.bus width burst legal may (forms its_end.link) (end-full net forms its_sound number s inner script planned.own) ends-bus
         ∙ ap (map (byte_named may None)) (part-bytes script)
         ∙ map-same (byte_named may None) wanted (λ (address : ℕ). ap (as_named None address) (each address)) (burst_bytes item.txn.request)
         ∙ sym (ap (λ (b : Bool). cond b (map written (bytes_strobed item)) (map wanted (burst_bytes item.txn.request))) reads)
@@ -153,17 +153,17 @@ module _ (nodes : List DocumentNode) (items : List TrafficItem) (run : CanRun no
   -- ---- responses
 
   module _ {D : Type 0} (service : Service D) where
-    ends-write : item.txn.write ≡ true → ends_with service item.txn.write its_end.share ≡ worst_of_beats service part 0 (data_beats script s.bus) ∷ []
+    ends-write : item.txn.write ≡ true → ends_with service item.txn.write its_end.share ≡ worst_of_beats service burst 0 (data_beats script s.bus) ∷ []
     ends-write writes =
         ap (λ (b : Bool). ends_with service b its_end.share) writes
         ∙ ap₂ (λ (parts : List Addr) (beats : List (List WBeat)). map (λ (p : Addr × List WBeat). worst_of_beats service p.0 0 p.1) (zip parts beats)) ends-parts
         (end-data net forms its_sound number s inner script planned.own writes)
 
-    ends-read : item.txn.write ≡ false → ends_with service item.txn.write its_end.share ≡ map (λ (n : ℕ). service.beat_status part n) (range_with_len 0 (beats_of item.txn.request))
+    ends-read : item.txn.write ≡ false → ends_with service item.txn.write its_end.share ≡ map (λ (n : ℕ). service.beat_status burst n) (range_with_len 0 (beats_of item.txn.request))
     ends-read reads =
         ap (λ (b : Bool). ends_with service b its_end.share) reads
         ∙ ap (λ (parts : List Addr). map (λ b. service.beat_status b.request b.beat) (beats_of_parts parts)) ends-parts
-        ∙ beat-responses service part
+        ∙ beat-responses service burst
 
   -- the responses are those of the node there
   module _ (kind : Part) (is : (plan_node_at nodes its_target).part ≡ kind) where
@@ -215,7 +215,7 @@ module _ (nodes : List DocumentNode) (items : List TrafficItem) (run : CanRun no
     abbrev of_read : List Resp
     of_read = map (λ (n : ℕ). worst_among (map (given_status there part.Memory) (beat_bytes item.txn.request n))) (range_with_len 0 (beats_of item.txn.request))
 
-    reads-given : (ns : List ℕ) → map (λ (n : ℕ). worst_among (map (read_status (area_of_node there)) (beat_bytes part n))) ns ≡ map (λ (n : ℕ). worst_among (map (given_status there part.Memory) (beat_bytes item.txn.request n))) ns
+    reads-given : (ns : List ℕ) → map (λ (n : ℕ). worst_among (map (read_status (area_of_node there)) (beat_bytes burst n))) ns ≡ map (λ (n : ℕ). worst_among (map (given_status there part.Memory) (beat_bytes item.txn.request n))) ns
     reads-given ns =
         map-same _ _ (λ (n : ℕ). ap worst_among (map-same (read_status (area_of_node there)) (given_status there part.Memory) (given-same there) (beat_bytes item.txn.request n))) ns
 
@@ -228,13 +228,13 @@ module _ (nodes : List DocumentNode) (items : List TrafficItem) (run : CanRun no
               let wanted : Byte → Resp = λ (byte : Byte). written_status there part.Memory byte.address in
               way-is part.Memory is ∙ ends-write (memory_service area) writes
               ∙ ap (λ (r : Resp). r ∷ [])
-              (memory-write area s.bus area-bus width part legal (data_beats script s.bus) (data-long s.bus script (sends writes)) (data-valid s.bus script (sends writes))
+              (memory-write area s.bus area-bus width burst legal (data_beats script s.bus) (data-long s.bus script (sends writes)) (data-valid s.bus script (sends writes))
               ∙ ap (λ (bytes : List Byte). worst_among (map status bytes)) (data-written s.bus script (sends writes))
               ∙ ap worst_among (map-same status wanted (λ (byte : Byte). written-same there byte.address) (bytes_strobed item)))
               ∙ sym (ap (λ (b : Bool). cond b of_write of_read) writes)
           | inr reads ↦
               way-is part.Memory is ∙ ends-read (memory_service area) reads
-              ∙ memory-reads area s.bus area-bus width part legal (range_with_len 0 (beats_of item.txn.request))
+              ∙ memory-reads area s.bus area-bus width burst legal (range_with_len 0 (beats_of item.txn.request))
               ∙ reads-given (range_with_len 0 (beats_of item.txn.request))
               ∙ sym (ap (λ (b : Bool). cond b of_write of_read) reads)
         ]
@@ -262,11 +262,11 @@ module _ (nodes : List DocumentNode) (items : List TrafficItem) (run : CanRun no
     error-response = elim (cases_Bool item.txn.write) [
       | inl writes ↦
           way-is part.Error is ∙ ends-write error_service writes
-          ∙ ap (λ (r : Resp). r ∷ []) (error-write part (data_beats script s.bus) (data-long s.bus script (sends writes)))
+          ∙ ap (λ (r : Resp). r ∷ []) (error-write burst (data_beats script s.bus) (data-long s.bus script (sends writes)))
           ∙ sym (ap (λ (b : Bool). cond b (DecErr ∷ []) refused) writes)
       | inr reads ↦
           way-is part.Error is ∙ ends-read error_service reads
-          ∙ error-reads s.bus width part legal (range_with_len 0 (beats_of item.txn.request))
+          ∙ error-reads s.bus width burst legal (range_with_len 0 (beats_of item.txn.request))
           ∙ sym (ap (λ (b : Bool). cond b (DecErr ∷ []) refused) reads)
     ]
 
