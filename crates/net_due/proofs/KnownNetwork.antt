@@ -3,6 +3,7 @@ use Rattle.std.proofs.Common.{◌≡◌, ◌<◌, ◌≤◌, ◌∷◌, [], ℕ,
 use Rattle.std.specs.Prelude.{All}
 use Rattle.std.specs.List.{AllByRecursion}
 use Rattle.std.proofs.lemmas.List.Elements.{All-from_recursion, All-nil}
+use Rattle.elaborate.specs.Path.{path_from}
 use Rattle.manager_node.specs.declared.script.WriteByte.{WriteByte}
 use Rattle.net_due.specs.KnownRuns.{other_burst, read_back, three_bursts, three_transactions, two_ways, two_writes}
 use Rattle.net_kinds.specs.NodeKind.{node_kind}
@@ -11,6 +12,7 @@ use Rattle.net_opening.specs.PlanLinks.{form_of_link}
 use Rattle.net_plan.proofs.OpeningSound.{openings-are_sound}
 use Rattle.net_plan.specs.PlanLaws.{CanRun}
 use Rattle.net_ways.specs.Sound.{IsSound}
+use Rattle.node_graph.specs.Graph.{handed_in, has_way, numbers}
 use Rattle.plan_traffic.specs.Accepted.{AreInOrder, Follows, IsTraffic, Suits}
 use Rattle.plan_traffic.specs.Due.{transactions_due}
 use Rattle.plan_traffic.specs.Traffic.{TrafficItem}
@@ -26,7 +28,7 @@ formed-a : IsFormed (node_at two_ways 0)
 unfolding table_form
 formed-a = record {
   name = refl;
-  to = tt;
+  to = omega arith;
   region = refl;
   bus = (omega arith, omega arith);
   bus_is_width = refl;
@@ -45,7 +47,7 @@ formed-b : IsFormed (node_at two_ways 1)
 unfolding table_form
 formed-b = record {
   name = refl;
-  to = tt;
+  to = omega arith;
   region = refl;
   bus = (omega arith, omega arith);
   bus_is_width = refl;
@@ -64,7 +66,7 @@ formed-s : IsFormed (node_at two_ways 2)
 unfolding table_form
 formed-s = record {
   name = refl;
-  to = tt;
+  to = omega arith;
   region = refl;
   bus = refl;
   bus_is_width = refl;
@@ -121,6 +123,7 @@ ways-formed : AreFormed two_ways
 ways-formed = All-from_recursion IsFormed two_ways (formed-a, (formed-b, (formed-s, (formed-p, (formed-q, tt)))))
 
 ways-can_run : CanRun two_ways
+unfolding handed_in has_way numbers
 ways-can_run = record { formed = ways-formed; accepted = refl; built = refl }
 
 -- ---- the traffic
@@ -188,4 +191,5 @@ pub ways-sound : IsSound node_kind (opening two_ways three_bursts) (form_of_link
 ways-sound = openings-are_sound two_ways three_bursts ways-can_run bursts-are_traffic
 
 pub ways-due : transactions_due two_ways three_bursts ≡ three_transactions
+unfolding numbers path_from
 ways-due = refl
