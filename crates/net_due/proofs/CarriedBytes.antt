@@ -1,12 +1,12 @@
 -- What a link carries of a transaction, byte by byte, is what its request and its script say.
-use Rattle.std.proofs.Common.{◌≡◌, ◌<◌, ◌≤◌, ◌+◌, ◌-◌, ◌==◌, ◌&&◌, ◌∷◌, [], ◌++◌, ℕ, zero, suc, Bool, true, false, cond, List, Some, None, append-nil, append_assoc, length, length-append, refl, sym, ap, ap₂, ◌∙◌, subst, arith, add-one}
+use Rattle.std.proofs.Common.{◌≡◌, ◌<◌, ◌≤◌, ◌+◌, ◌-◌, ◌&&◌, ◌∷◌, [], ◌++◌, ℕ, zero, suc, Bool, true, false, cond, List, Some, None, append-nil, append_assoc, length, length-append, refl, sym, ap, ap₂, ◌∙◌, subst, arith, add-one}
 use Rattle.std.specs.Prelude.{flat_map, map, nat_le, nat_lt, slice_get, slice_index, zip}
 use Rattle.std.specs.Int.{bit_at}
 use Rattle.std.specs.List.{range_with_len}
 use Rattle.std.proofs.lemmas.Bool.{and_from, eqb-true, le-leb, lt-ltb}
-use Rattle.std.proofs.lemmas.List.{length-map, map-append}
+use Rattle.std.proofs.lemmas.List.{map-append}
 use Rattle.std.proofs.lemmas.List.Concat.{flat_map-append}
-use Rattle.std.proofs.lemmas.List.FromFn.{get_or-map-range_with_len, length-map-range_with_len, length-range_with_len}
+use Rattle.std.proofs.lemmas.List.FromFn.{get_or-map-range_with_len, length-map-range_with_len}
 use Rattle.std.proofs.lemmas.Option.{get_or_from_slice_get, slice_get_within}
 use Rattle.std.proofs.lemmas.Simd.{map-map}
 use Rattle.axi_beats.specs.Bus.{IsBusWidth}
@@ -24,7 +24,7 @@ use Rattle.burst_address.specs.LaneLaws.{AllStrobeValidLanes, StrobesValidLanes}
 use Rattle.burst_address.specs.Lanes.{first_lane, last_lane, strobed_lanes, valid_span, word_address}
 use Rattle.burst_address.specs.Legal.{IsLegal}
 use Rattle.manager_node.proofs.DataLaws.{data-strobes_valid_lanes, data-writes_its_bytes}
-use Rattle.manager_node.specs.Beats.{data_beat, data_beats, item_request, item_tag, strobed_value}
+use Rattle.manager_node.specs.Beats.{data_beat, data_beats, item_request, strobed_value}
 use Rattle.manager_node.specs.BurstLaws.{SendsItsBytes}
 use Rattle.manager_node.specs.Script.{ScriptItem}
 use Rattle.net_history.specs.Due.{byte_named, strobed_of_beat, wanted_of_beat}

@@ -1,6 +1,6 @@
 -- A transaction of a plan's network is the one that is due by the plan.
-use Rattle.std.proofs.Common.{◌≡◌, ◌<◌, ◌∷◌, [], ℕ, Bool, true, false, cond, List, Option, Some, None, length, refl, sym, ap, ap₂, ◌∙◌, subst, inl, inr}
-use Rattle.std.specs.Prelude.{flat_map, map, slice_get, zip}
+use Rattle.std.proofs.Common.{◌≡◌, ◌∷◌, [], ℕ, Bool, true, false, cond, List, Option, Some, None, length, refl, sym, ap, ap₂, ◌∙◌, subst, inl, inr}
+use Rattle.std.specs.Prelude.{flat_map, map, zip}
 use Rattle.std.specs.List.{range_with_len}
 use Rattle.std.proofs.lemmas.Bool.{cases_Bool}
 use Rattle.axi_beats.specs.Bus.{IsBusWidth}
@@ -9,7 +9,6 @@ use Rattle.axi_beats.specs.declared.beat.WBeat.{WBeat}
 use Rattle.axi_beats.specs.declared.response.Resp.{Resp}
 use Rattle.axi_beats.specs.declared.response.Resp.TheVariants.{DecErr}
 use Rattle.axi_history.specs.Records.{NamedByte, Transaction}
-use Rattle.axi_link.specs.declared.out.Out.{Out}
 use Rattle.burst_address.specs.Bytes.{Byte, beat_bytes, burst_bytes}
 use Rattle.burst_address.specs.Formulas.{beats_of}
 use Rattle.burst_address.specs.Legal.{IsLegal}
@@ -45,8 +44,8 @@ use Rattle.net_plan.proofs.OnceLemmas.{manager-first}
 use Rattle.net_plan.proofs.OpeningWired.{node-is}
 use Rattle.net_plan.specs.PlanLaws.{CanRun}
 use Rattle.net_ways.specs.Sound.{IsSound}
-use Rattle.net_ways.specs.Ways.{Hop, way_below}
-use Rattle.node_core.specs.Acted.{Acted, opened}
+use Rattle.net_ways.specs.Ways.{Hop}
+use Rattle.node_core.specs.Acted.{opened}
 use Rattle.node_shape.specs.LinkForm.{LinkForm}
 use Rattle.node_shape.specs.Way.{Origin, Way, start_here}
 use Rattle.plain_lists.proofs.PlaceLemmas.{at-all}

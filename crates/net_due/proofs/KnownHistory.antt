@@ -1,6 +1,6 @@
 -- The history of the known run is delivered and answered, and each changed one is refused.
-use Rattle.std.proofs.Common.{◌≡◌, ◌<◌, ◌∷◌, [], ◌++◌, ℕ, suc, List, true, false, length, take, refl, sym, ◌∙◌, ap, arith, append-nil}
-use Rattle.std.specs.Prelude.{◌≢◌, All, Any, map, set, slice_index_or, sum}
+use Rattle.std.proofs.Common.{◌≡◌, ◌<◌, ◌∷◌, [], ◌++◌, ℕ, suc, List, false, length, take, refl, sym, ◌∙◌, ap, arith, append-nil}
+use Rattle.std.specs.Prelude.{◌≢◌, All, Any, map, slice_index_or, sum}
 use Rattle.std.specs.List.{AllByRecursion}
 use Rattle.std.proofs.lemmas.List.Elements.{All-from_recursion, All-nil}
 use Rattle.axi_beats.specs.declared.response.Resp.TheVariants.{Okay}

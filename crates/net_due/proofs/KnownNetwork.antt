@@ -1,7 +1,5 @@
 -- The network of the known run can be run, and what is due of its transactions.
-use Rattle.std.proofs.Common.{◌≡◌, ◌<◌, ◌≤◌, ◌∷◌, [], ℕ, List, length, refl, arith, inl, inr}
-use Rattle.std.specs.Prelude.{All}
-use Rattle.std.specs.List.{AllByRecursion}
+use Rattle.std.proofs.Common.{◌≡◌, ◌<◌, ◌≤◌, ◌∷◌, [], refl, arith, inl}
 use Rattle.std.proofs.lemmas.List.Elements.{All-from_recursion, All-nil}
 use Rattle.elaborate.specs.Path.{path_from}
 use Rattle.manager_node.specs.declared.script.WriteByte.{WriteByte}
@@ -13,10 +11,9 @@ use Rattle.net_plan.proofs.OpeningSound.{openings-are_sound}
 use Rattle.net_plan.specs.PlanLaws.{CanRun}
 use Rattle.net_ways.specs.Sound.{IsSound}
 use Rattle.node_graph.specs.Graph.{handed_in, has_way, numbers}
-use Rattle.plan_traffic.specs.Accepted.{AreInOrder, Follows, IsTraffic, Suits}
+use Rattle.plan_traffic.specs.Accepted.{AreInOrder, IsTraffic, Suits}
 use Rattle.plan_traffic.specs.Due.{transactions_due}
-use Rattle.plan_traffic.specs.Traffic.{TrafficItem}
-use Rattle.topology.specs.Document.{DocumentNode, node_at}
+use Rattle.topology.specs.Document.{node_at}
 use Rattle.topology_text.specs.Form.{table_form}
 use Rattle.topology_text.specs.Formed.{AreDelays, AreFormed, IsFormed}
 

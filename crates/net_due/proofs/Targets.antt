@@ -1,14 +1,12 @@
 -- The way of a transaction ends at the target that its address has in the plan, which is a memory or an error subordinate.
-use Rattle.std.proofs.Common.{◌≡◌, ◌<◌, ◌≤◌, ◌-◌, ℕ, suc, true, false, List, [], ◌∷◌, length, Option, Some, None, refl, sym, ◌∙◌, ap, subst, inl, inr, arith}
+use Rattle.std.proofs.Common.{◌≡◌, ◌<◌, ◌-◌, ℕ, suc, true, List, [], ◌∷◌, length, Option, Some, None, refl, sym, ◌∙◌, ap, subst, inl, inr, arith}
 use Rattle.std.specs.Prelude.{◌⊎◌, slice_get, slice_index_or, unwrap_or}
-use Rattle.std.specs.List.{range_with_len}
 use Rattle.std.specs.Option.{option_map_or}
 use Rattle.std.proofs.lemmas.Bool.{cases_lt, false≢true}
 use Rattle.std.proofs.lemmas.List.FromFn.{length-range_with_len}
 use Rattle.std.proofs.lemmas.Option.{slice_get_past, slice_get_within}
 use Rattle.address_map.specs.Regions.{serving_port}
 use Rattle.axi_beats.specs.declared.beat.Addr.{Addr}
-use Rattle.axi_link.specs.declared.out.Out.{Out}
 use Rattle.axi_trail.specs.LinkContracts.{without_id}
 use Rattle.axi_trail.specs.Schedule.{Share}
 use Rattle.demux_node.specs.DemuxTrail.{port_of_parts}
@@ -29,7 +27,7 @@ use Rattle.net_history.proofs.ItemLemmas.{among}
 use Rattle.net_history.proofs.RoundLemmas.{IsItem}
 use Rattle.net_history.specs.Due.{of_target, way_end, way_target}
 use Rattle.net_kinds.specs.NodeKind.{KindName, NodeState, StateOf, node_kind}
-use Rattle.net_model.specs.Network.{Network, lower_node}
+use Rattle.net_model.specs.Network.{Network}
 use Rattle.net_model.specs.declared.net_link.NetLink.{NetLink}
 use Rattle.net_opening.specs.Opening.{opening, state_at, state_by_part}
 use Rattle.net_opening.specs.PlanLinks.{form_of_link, links_into, links_out_of}

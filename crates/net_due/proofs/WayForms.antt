@@ -4,7 +4,6 @@ use Rattle.std.specs.Prelude.{Contains, IfSome, slice_get}
 use Rattle.std.specs.Option.{option_map_or}
 use Rattle.std.proofs.lemmas.List.Elements.{All-contains}
 use Rattle.std.proofs.lemmas.Option.{none-some, same_Some}
-use Rattle.axi_beats.specs.declared.response.Resp.{Resp}
 use Rattle.axi_trail.specs.LinkContracts.{without_id}
 use Rattle.axi_trail.specs.Schedule.{Schedule, Share}
 use Rattle.demux_node.specs.DemuxTrail.{port_of_parts}
@@ -20,7 +19,7 @@ use Rattle.net_kinds.specs.NodeHolds.{node_holds}
 use Rattle.net_kinds.specs.NodeKind.{KindName, NodeState, StateOf, kind_by_name, node_kind}
 use Rattle.net_kinds.specs.NodeKind.KindName.{ADemux, AManager, AMemory, AMux, ASlice, AnError}
 use Rattle.net_model.specs.Network.{Network, lower_node}
-use Rattle.net_ways.proofs.HopLemmas.{IsEnd, IsJoined, IsStep}
+use Rattle.net_ways.proofs.HopLemmas.{IsJoined, IsStep}
 use Rattle.net_ways.proofs.OriginLemmas.{HasItsWay, is-found, its-way}
 use Rattle.net_ways.specs.Sound.{IsSound}
 use Rattle.net_ways.specs.Ways.{Hop, origins_in, responses_from, schedules_of, share_on, way_below, way_of}

@@ -2,7 +2,7 @@
 use Rattle.std.specs.Prelude.{◌≡◌, ℕ, List, true, All}
 use Rattle.axi_history.specs.Answered.{Answered, transactions_by}
 use Rattle.axi_history.specs.Delivered.{Delivered, HasAnswer}
-use Rattle.axi_history.specs.Records.{Answer, Issue, Transaction}
+use Rattle.axi_history.specs.Records.{Transaction}
 use Rattle.net_history.specs.Due.{transactions_of}
 use Rattle.net_history.specs.History.{answers_after, events_after, issues_after}
 use Rattle.net_history.specs.Right.{IsNotedAnswer, IsNotedIssue}

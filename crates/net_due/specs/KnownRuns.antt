@@ -1,6 +1,6 @@
 -- A small network whose run is known: two managers, two memories and a slice, what is due of its three transactions, a
 -- history that delivers and answers them, and this history with one change in it, in seven ways, each of which is refused.
-use Rattle.std.specs.Prelude.{◌≡◌, ◌∷◌, [], ℕ, List, Some, None, true, false, codes, insert, remove, set}
+use Rattle.std.specs.Prelude.{◌≡◌, ◌∷◌, [], ℕ, List, true, false, codes, insert, remove, set}
 use Rattle.axi_beats.specs.declared.beat.Addr.{Addr}
 use Rattle.axi_beats.specs.declared.beat.Burst.{Burst}
 use Rattle.axi_beats.specs.declared.beat.Burst.TheVariants.{Fixed, Incr}
