@@ -10,5 +10,6 @@ pub mod NodeSound
 pub mod NodeBegins
 pub mod OnceLemmas
 pub mod WayEnds
+pub mod PathStarts
 pub mod LineLemmas
 pub mod OpeningSound
