@@ -1,5 +1,5 @@
 -- By when the run of a plan is finished.
-use Rattle.std.specs.Prelude.{◌≡◌, ◌≤◌, ℕ, List, true}
+use Rattle.std.specs.Prelude.{◌≡◌, ◌<◌, ◌≤◌, ℕ, List, false, true}
 use Rattle.net_kinds.specs.NodeKind.{node_kind}
 use Rattle.net_model.specs.Network.{after_rounds, is_finished}
 use Rattle.net_opening.specs.Opening.{opening}
@@ -14,3 +14,10 @@ abbrev pub RunsEndInTime : Type 0
 RunsEndInTime =
     (nodes : List DocumentNode) (items : List TrafficItem) → CanRun nodes → IsTraffic nodes items →
     (n : ℕ) × (n ≤ round_bound nodes items) × (is_finished node_kind (after_rounds node_kind n (opening nodes items)) ≡ true)
+
+-- so where it was finished neither before nor after so many rounds, they are fewer than the bound
+abbrev pub UnfinishedBeforeBound : Type 0
+UnfinishedBeforeBound =
+    (nodes : List DocumentNode) (items : List TrafficItem) → CanRun nodes → IsTraffic nodes items →
+    (rounds : ℕ) → ((n : ℕ) → n ≤ rounds → is_finished node_kind (after_rounds node_kind n (opening nodes items)) ≡ false) →
+    rounds < round_bound nodes items

@@ -2,9 +2,9 @@
 //!
 //! Each link of a transaction's way carries it once, and its way has no more links than its path has plan
 //! nodes. So a run is finished after as many rounds as its bound at the latest (`plan_traffic`'s
-//! `round_bound`). There is no code here: the function has an empty body, and its contract says a law.
+//! `round_bound`). There is no code here: each function has an empty body, and its contract says a law.
 #![tactic(auto)]
 
 mod bound_laws;
 
-pub use bound_laws::runs_end_in_time;
+pub use bound_laws::{runs_end_in_time, unfinished_before_bound};
