@@ -1,6 +1,6 @@
 -- The way of a transaction has no more hops than its path has plan nodes, and each link of it carries no more than its request,
 -- its data and its responses.
-use Rattle.std.proofs.Common.{◌≡◌, ◌<◌, ◌≤◌, ◌+◌, ◌*◌, ◌++◌, ℕ, zero, suc, Bool, true, false, List, [], ◌∷◌, length, map, Option, Some, None, refl, sym, ◌∙◌, ap, subst, arith}
+use Rattle.std.proofs.Common.{◌≡◌, ◌<◌, ◌≤◌, ◌+◌, ℕ, zero, suc, Bool, true, false, List, [], ◌∷◌, length, map, Option, Some, None, refl, sym, ◌∙◌, ap, subst, arith}
 use Rattle.std.proofs.lemmas.List.{length-append, length-map}
 use Rattle.std.proofs.lemmas.List.FromFn.{length-map-range_with_len}
 use Rattle.std.proofs.lemmas.List.Sums.{sum_by-cons}
@@ -151,8 +151,6 @@ module _ (nodes : List DocumentNode) (items : List TrafficItem) (run : CanRun no
         absurd (omega (arith, enough, shallow nodes items run (plan_link_at nodes link).lower (lower-known nodes items run link less)))
     few-more left again link (suc most) share less parts same enough = go ((below nodes items run link).goes_on share) refl
       where
-        lower : ℕ
-        lower = (plan_link_at nodes link).lower
         go : (o : Option ℕ) → (below nodes items run link).goes_on share ≡ o →
             (sum_by hop_beats (from (suc left) link share) ≤ path_beats (suc most) (plan_link_at nodes link).lower) × (length (responses_from (from (suc left) link share)) ≤ beats_of request)
         go None stops =
@@ -171,7 +169,6 @@ module _ (nodes : List DocumentNode) (items : List TrafficItem) (run : CanRun no
             )
         go (Some next) goes =
             let on = step nodes items run link next share request less parts goes in
-            let cut : Share = onto next ((below nodes items run link).cut share) in
             let rest : List Hop = from left next (onto next ((below nodes items run link).cut share)) in
             let down = deeper nodes items run (plan_link_at nodes link).lower (plan_link_at nodes next).lower (lower-known nodes items run next on.1)
             (onward-below nodes request.addr (plan_link_at nodes link).lower (plan_link_at nodes next).lower on.0) in

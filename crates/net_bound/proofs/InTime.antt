@@ -1,5 +1,5 @@
 -- The run of a plan is finished in time.
-use Rattle.std.proofs.Common.{◌≡◌, ◌<◌, ◌≤◌, ◌+◌, ◌*◌, ℕ, List, length, map, sym, ◌∙◌, inl, inr, arith}
+use Rattle.std.proofs.Common.{◌+◌, sym, ◌∙◌, inl, inr, arith}
 use Rattle.std.proofs.Math.Nat.{mul-le-mul_left}
 use Rattle.std.proofs.lemmas.Bool.{cases_lt, true≢false}
 use Rattle.net_bound.proofs.ItemMoves.{transfers-most}

@@ -1,19 +1,17 @@
 -- What all links carry of all transactions is no more than the bound of each of them.
-use Rattle.std.proofs.Common.{◌≡◌, ◌<◌, ◌≤◌, ◌+◌, ◌-◌, ◌*◌, ◌==◌, ℕ, zero, suc, Bool, true, false, List, [], ◌∷◌, length, map, Some, None, refl, sym, ◌∙◌, ap, subst, arith}
+use Rattle.std.proofs.Common.{◌≡◌, ◌<◌, ◌≤◌, ◌-◌, ◌*◌, ◌==◌, ℕ, suc, Bool, true, false, List, [], ◌∷◌, length, map, Some, refl, sym, ◌∙◌, ap, subst, arith}
 use Rattle.std.proofs.Math.Nat.{mul-le-mul, mul-le-mul_left}
-use Rattle.std.proofs.lemmas.Bool.{eq-eqb, eqb-true, false≢true}
+use Rattle.std.proofs.lemmas.Bool.{eqb-true, false≢true}
 use Rattle.std.proofs.lemmas.List.{length-append}
 use Rattle.std.proofs.lemmas.List.FromFn.{length-map-range_with_len}
-use Rattle.std.proofs.lemmas.List.Sums.{sum_by-cons}
 use Rattle.std.specs.List.{range_with_len}
-use Rattle.std.specs.Prelude.{Contains, filter, slice_get, sum_by, if◌then◌else◌}
+use Rattle.std.specs.Prelude.{Contains, slice_get, sum_by, if◌then◌else◌}
 use Rattle.axi_beats.specs.declared.beat.Addr.{Addr}
-use Rattle.axi_beats.specs.declared.beat.WBeat.{WBeat}
 use Rattle.axi_trail.specs.LinkContracts.{without_id}
 use Rattle.burst_address.specs.Formulas.{beats_of}
 use Rattle.elaborate.specs.Laws.{is_first}
 use Rattle.elaborate.specs.Path.{path_from, path_of}
-use Rattle.elaborate.specs.Plan.{first_part, plan_link_at, plan_node_at, plan_nodes}
+use Rattle.elaborate.specs.Plan.{first_part, plan_node_at, plan_nodes}
 use Rattle.elaborate.specs.declared.part.Part.{Part}
 use Rattle.elaborate.specs.declared.part.Part.TheVariants as part
 use Rattle.manager_node.specs.Beats.{data_beat, data_beats, item_request}
@@ -36,7 +34,6 @@ use Rattle.net_plan.specs.PlanLaws.{CanRun}
 use Rattle.net_progress.proofs.SumLemmas.{first-le}
 use Rattle.net_progress.specs.Transfers.{link_beats, most_transfers}
 use Rattle.net_ways.proofs.OriginLemmas.{flat-has}
-use Rattle.net_ways.specs.Sound.{IsSound}
 use Rattle.net_ways.specs.Ways.{origins_in, schedules_of, way_of}
 use Rattle.node_core.specs.Acted.{Acted, opened}
 use Rattle.node_graph.specs.Graph.{numbers}
@@ -47,7 +44,7 @@ use Rattle.plan_traffic.specs.Accepted.{IsTraffic, items_of_manager}
 use Rattle.plan_traffic.specs.Bound.{most_moves, pieces_of, words_of_beat}
 use Rattle.plan_traffic.specs.Scripts.{script_item, script_of}
 use Rattle.plan_traffic.specs.Traffic.{TrafficItem}
-use Rattle.topology.specs.Document.{DocumentNode, node_at}
+use Rattle.topology.specs.Document.{DocumentNode}
 
 -- ---- one transaction
 
@@ -65,7 +62,7 @@ few-data item bus lower = go item.txn.write
         omega (arith, length-append (data_beats (script_item item) bus) [], length-map-range_with_len (data_beat (script_item item) bus) 0 (beats_of item.txn.request))
     go false = omega arith
 
--- a third of the moves that a transaction has at most, for each direction of a beat over a link
+-- the beats that all links carry of a transaction at most: each is put once and taken once
 abbrev pub item_beats : List DocumentNode → TrafficItem → ℕ
 item_beats nodes item = 3 * pieces_of item.txn.request * length (path_of nodes item.manager item.txn.request.addr)
 
@@ -139,7 +136,6 @@ module _ (nodes : List DocumentNode) (items : List TrafficItem) (run : CanRun no
   node-most : (number : ℕ) → number < length (plan_nodes nodes) → (p : Part) → (plan_node_at nodes number).part ≡ p →
       sum_by all_beats (node_kind.way (state_by_part nodes items number p)).origins ≤ sum_by (if_passing (starts_at number p) (item_beats nodes)) items
   node-most number less part.Manager is =
-      let document : ℕ = (plan_node_at nodes number).document in
       let made : ScriptItem → Origin = item_origin (manager_at nodes number items).bus (link_out_of nodes number) in
       let own : List TrafficItem = items_of_manager (plan_node_at nodes number).document items in
       omega (
@@ -187,8 +183,6 @@ module _ (nodes : List DocumentNode) (items : List TrafficItem) (run : CanRun no
   origins-most : sum_by all_beats origins ≤ sum_by (item_beats nodes) items
   unfolding numbers
   origins-most =
-      let state : ℕ → Acted NodeState = λ number. opened (state_at nodes items number) in
-      let count : ℕ = length (plan_nodes nodes) in
       let at_node : Acted NodeState → ℕ = λ (a : Acted NodeState). sum_by all_beats (node_kind.way a.state).origins in
       omega (
         arith,

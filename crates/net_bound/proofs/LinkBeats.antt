@@ -1,6 +1,6 @@
 -- What all links carry of a transaction is what the hops of its way carry.
-use Rattle.std.proofs.Common.{◌≡◌, ◌<◌, ◌≤◌, ◌+◌, ◌==◌, ◌&&◌, ℕ, zero, suc, Bool, true, false, cond, not, List, [], ◌∷◌, length, Option, Some, None, inl, inr, refl, sym, ◌∙◌, ap, subst, arith}
-use Rattle.std.proofs.lemmas.Bool.{and_parts, cases_eq, eqb-true, false≢true, true≢false}
+use Rattle.std.proofs.Common.{◌≡◌, ◌≤◌, ◌+◌, ◌==◌, ℕ, Bool, true, false, cond, not, List, [], ◌∷◌, length, Option, Some, None, refl, sym, ◌∙◌, ap, arith}
+use Rattle.std.proofs.lemmas.Bool.{and_parts, eqb-true, false≢true, true≢false}
 use Rattle.std.proofs.lemmas.List.Sums.{sum_by-cons}
 use Rattle.std.specs.Bool.{beq}
 use Rattle.std.specs.List.{range_with_len}
@@ -10,8 +10,7 @@ use Rattle.axi_trail.specs.Schedule.{Share, no_share}
 use Rattle.net_bound.proofs.HopBeats.{hop_beats}
 use Rattle.net_bound.proofs.Sums.{sum-most, sum-none, sum-one, sum-plus, sum-same}
 use Rattle.net_model.specs.Network.{Network}
-use Rattle.net_progress.specs.Transfers.{link_beats, on_all_links, share_beats}
-use Rattle.net_ways.proofs.HopLemmas.{share-further, share-here}
+use Rattle.net_progress.specs.Transfers.{link_beats, share_beats}
 use Rattle.net_ways.proofs.OriginLemmas.{is-found, not-carried}
 use Rattle.net_ways.specs.Sound.{IsSound}
 use Rattle.net_ways.specs.Ways.{Hop, carried, is_origin, origins_in, schedules_of, share_on, way_of}
@@ -53,7 +52,6 @@ beats-most hop link = go (hop.link == link)
 pub hops-most : (hops : List Hop) (count : ℕ) → sum_by (λ link. beats_if (share_on link hops)) (range_with_len 0 count) ≤ sum_by hop_beats hops
 hops-most [] count = omega (arith, sum-none (range_with_len 0 count))
 hops-most (hop ∷ hops) count =
-    let links : List ℕ = range_with_len 0 count in
     omega (
       arith,
       sum-most (λ link. beats_if (share_on link (hop ∷ hops))) (λ link. beats_here hop link + beats_if (share_on link hops)) (range_with_len 0 count) (one-hop hop hops),

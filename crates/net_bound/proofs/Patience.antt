@@ -1,8 +1,8 @@
 -- No node of a plan's network has more patience than one round more than the longest delay of all nodes.
-use Rattle.std.proofs.Common.{◌≡◌, ◌<◌, ◌≤◌, ◌+◌, ℕ, zero, suc, List, [], ◌∷◌, length, map, Option, Some, None, inl, inr, refl, sym, ap, subst, arith}
+use Rattle.std.proofs.Common.{◌≤◌, ◌+◌, ℕ, zero, suc, List, [], ◌∷◌, length, Option, inl, inr, sym, subst, arith}
 use Rattle.std.proofs.lemmas.Bool.{cases_lt}
 use Rattle.std.specs.Option.{option_map_or}
-use Rattle.std.specs.Prelude.{slice_get, slice_index_or}
+use Rattle.std.specs.Prelude.{slice_index_or}
 use Rattle.elaborate.specs.Plan.{plan_node_at, plan_nodes}
 use Rattle.elaborate.specs.declared.part.Part.{Part}
 use Rattle.elaborate.specs.declared.part.Part.TheVariants as part
@@ -11,7 +11,6 @@ use Rattle.net_opening.specs.Opening.{opening, state_at, state_by_part}
 use Rattle.net_plan.proofs.OpeningWired.{node-is, node-past}
 use Rattle.net_progress.specs.Moving.{IsPatient}
 use Rattle.node_core.specs.Acted.{Acted}
-use Rattle.node_core.specs.Paces.{longest}
 use Rattle.plan_traffic.specs.Bound.{delay_of_node, delay_of_nodes}
 use Rattle.plan_traffic.specs.Traffic.{TrafficItem}
 use Rattle.topology.specs.Document.{DocumentNode, node_at, node_of_kind}

@@ -55,6 +55,9 @@ module _ (nodes : List DocumentNode) (items : List TrafficItem) (run : CanRun no
         small,
       )
 
+  pub start-rest : 0 < length (plan_nodes nodes) - 1
+  start-rest = omega (arith, start-deep, small)
+
   pub path-starts : (document address : ℕ) → first_part nodes document ≡ number → path_of nodes document address ≡ number ∷ path_from nodes (plan_nodes nodes) address (length (plan_nodes nodes) - 1) below_start
   path-starts document address first =
       let count : length (plan_nodes nodes) ≡ suc (length (plan_nodes nodes) - 1) = omega (arith, small) in
