@@ -12,7 +12,7 @@ use Rattle.axi_trail.specs.Schedule.{Share, no_share}
 use Rattle.burst_address.specs.Formulas.{beat_at, beats_of}
 use Rattle.elaborate.proofs.Forms.{Part_at, part-at}
 use Rattle.elaborate.proofs.Lists.{None-Some, Some-same, mapped-in}
-use Rattle.elaborate.proofs.PathFacts.{onward, path-goes_on, last-later}
+use Rattle.elaborate.proofs.PathFacts.{onward, last-later}
 use Rattle.elaborate.proofs.PlanFacts.{form-document}
 use Rattle.elaborate.specs.Laws.{is_first, is_mux}
 use Rattle.elaborate.specs.Path.{next_by_part, path_from, target_of}
@@ -24,17 +24,18 @@ use Rattle.memory_node.specs.MemoryState.{AreLinesAmong}
 use Rattle.memory_node.specs.Store.{line_number}
 use Rattle.net_kinds.specs.NodeKind.{node_kind}
 use Rattle.net_opening.specs.Opening.{opening, state_by_part}
-use Rattle.net_opening.specs.PlanLinks.{form_of_link, link_into, link_out_of, links_into, links_out_of}
+use Rattle.net_opening.specs.PlanLinks.{form_of_link, link_into, link_out_of, links_into}
 use Rattle.plan_traffic.specs.Scripts.{script_item}
 use Rattle.net_opening.specs.States.{memory_at}
 use Rattle.net_opening.specs.Touched.{among, is_write_to, lines_of_burst, lines_touched}
 use Rattle.net_plan.proofs.LinkLists.{contains-in}
 use Rattle.net_plan.proofs.NodeBegins.{begins-by}
-use Rattle.net_plan.proofs.NodeLinks.{into-is, leads-down, one-into, one-out, out-is}
+use Rattle.net_plan.proofs.NodeLinks.{into-is, one-into}
 use Rattle.net_plan.proofs.OnceLemmas.{Started, manager-first, started}
 use Rattle.net_plan.proofs.OpeningWired.{node-at}
 use Rattle.net_plan.proofs.PartLemmas.{LowersSuit, lowers-suit}
-use Rattle.net_plan.proofs.WayEnds.{deeper, depth_at, ends-from, first-leads, last_of, lower-known, onward-is, shallow, some-path}
+use Rattle.net_plan.proofs.PathStarts.{path-starts, start-deep, start-known, start-rest}
+use Rattle.net_plan.proofs.WayEnds.{depth_at, ends-from, last_of, onward-is, some-path}
 use Rattle.net_plan.specs.PlanLaws.{CanRun}
 use Rattle.net_ways.specs.Ways.{is_origin, origins_in, schedules_of, share_on, way_of}
 use Rattle.node_graph.proofs.Levels.{in-back, in-front}
@@ -128,38 +129,19 @@ module _ (nodes : List DocumentNode) (items : List TrafficItem) (run : CanRun no
   pub comes-to : (to : ℕ) (found : Share) → share_on to (way_of node_kind (opening nodes items) origin) ≡ Some found → onward nodes from.item.txn.request.addr (plan_link_at nodes to).lower ≡ None →
       (target_of nodes from.item.manager from.item.txn.request.addr ≡ (plan_link_at nodes to).lower) × (found.parts ≡ without_id (item_request (script_item from.item)) ∷ [])
   comes-to to found there stops =
-      let request : Addr = without_id (item_request (script_item from.item)) in
-      let address : ℕ = from.item.txn.request.addr in
-      let manager : ℕ = from.number in
-      let at_manager = node-at nodes items from.number from.less in
-      let is_manager = is-manager (plan_node_at nodes from.number).part from.first in
-      let suits : LowersSuit part.Manager (plan_node_at nodes from.number).lower =
-      subst (λ (p : Part). LowersSuit p (plan_node_at nodes from.number).lower) is_manager (lowers-suit nodes run from.number (plan_node_at nodes from.number) at_manager) in
-      let out : is_in (links_out_of nodes from.number) (link_out_of nodes from.number) ≡ true =
-      ap (λ xs. is_in xs (link_out_of nodes from.number)) (sym (one-out nodes run.accepted from.number (plan_node_at nodes from.number) at_manager suits))
-      ∙ in-first (link_out_of nodes from.number) [] (link_out_of nodes from.number) refl in
-      let known = out-is nodes from.number (link_out_of nodes from.number) out in
-      let leads = first-leads nodes items run from.number (link_out_of nodes from.number) (plan_node_at nodes from.number) at_manager suits refl in
-      let lower : ℕ = (plan_link_at nodes (link_out_of nodes from.number)).lower in
-      let on : onward nodes from.item.txn.request.addr from.number ≡ Some (plan_link_at nodes (link_out_of nodes from.number)).lower =
-      onward-is nodes items run from.item.txn.request.addr from.number (plan_node_at nodes from.number) at_manager
-      ∙ ap (next_by_part nodes from.item.txn.request.addr (plan_node_at nodes from.number)) is_manager
-      ∙ leads.0 in
-      let down = deeper nodes items run (plan_link_at nodes (link_out_of nodes from.number)).upper (plan_link_at nodes (link_out_of nodes from.number)).lower
-      (lower-known nodes items run (link_out_of nodes from.number) known.0) (leads-down nodes (link_out_of nodes from.number) known.0) in
-      let small = shallow nodes items run (plan_link_at nodes (link_out_of nodes from.number)).lower (lower-known nodes items run (link_out_of nodes from.number) known.0) in
+      let manager = is-manager (plan_node_at nodes from.number).part from.first in
       let link_is : origin.link ≡ link_out_of nodes from.number = ap (λ (o : Origin). o.link) from.is in
       let end = ends-from nodes items run origin.write (suc (length (opening nodes items).nodes)) to (without_id (item_request (script_item from.item)))
       origin.link (length (plan_nodes nodes) - 1) origin.share found
-      (subst (λ (k : ℕ). k < length (plan_links nodes)) (sym link_is) known.0) (ap (λ (o : Origin). o.share.parts) from.is) there stops
-      (subst (λ (k : ℕ). length (plan_nodes nodes) ≤ depth_at nodes items run (plan_link_at nodes k).lower + (length (plan_nodes nodes) - 1)) (sym link_is) (omega (arith, down, small))) in
-      let count : length (plan_nodes nodes) ≡ suc (length (plan_nodes nodes) - 1) = omega (arith, small) in
+      (subst (λ (k : ℕ). k < length (plan_links nodes)) (sym link_is) (start-known nodes items run from.number from.less manager))
+      (ap (λ (o : Origin). o.share.parts) from.is) there stops
+      (subst (λ (k : ℕ). length (plan_nodes nodes) ≤ depth_at nodes items run (plan_link_at nodes k).lower + (length (plan_nodes nodes) - 1)) (sym link_is)
+      (start-deep nodes items run from.number from.less manager)) in
       let first : first_part nodes from.item.manager ≡ from.number = sym (manager-first nodes items run from.number from.less from.first ∙ ap (first_part nodes) (sym from.manager)) in (
-        ap (λ (k : ℕ). last_of (path_from nodes (plan_nodes nodes) from.item.txn.request.addr (length (plan_nodes nodes)) k)) first
-            ∙ ap (λ (n : ℕ). last_of (path_from nodes (plan_nodes nodes) from.item.txn.request.addr n from.number)) count
-            ∙ ap last_of (path-goes_on nodes from.item.txn.request.addr (length (plan_nodes nodes) - 1) from.number (plan_link_at nodes (link_out_of nodes from.number)).lower on)
+        ap last_of (path-starts nodes items run from.number from.less manager from.item.manager from.item.txn.request.addr first)
             ∙ last-later from.number (path_from nodes (plan_nodes nodes) from.item.txn.request.addr (length (plan_nodes nodes) - 1) (plan_link_at nodes (link_out_of nodes from.number)).lower)
-            (some-path nodes from.item.txn.request.addr (length (plan_nodes nodes) - 1) (plan_link_at nodes (link_out_of nodes from.number)).lower (omega (arith, down, small)))
+            (some-path nodes from.item.txn.request.addr (length (plan_nodes nodes) - 1) (plan_link_at nodes (link_out_of nodes from.number)).lower
+            (start-rest nodes items run from.number from.less manager))
             ∙ ap (λ (k : ℕ). last_of (path_from nodes (plan_nodes nodes) from.item.txn.request.addr (length (plan_nodes nodes) - 1) (plan_link_at nodes k).lower)) (sym link_is)
             ∙ end.0,
         end.1,
