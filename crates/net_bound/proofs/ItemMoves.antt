@@ -171,6 +171,7 @@ module _ (nodes : List DocumentNode) (items : List TrafficItem) (run : CanRun no
       few : (b : Bool) → (if b then item_beats nodes item else 0) ≤ item_beats nodes item
       few true = omega arith
       few false = omega arith
+
       none : (number : ℕ) → number < length (plan_nodes nodes) → ¬ (number ≡ first_part nodes item.manager) → (b : Bool) → starts_at number (plan_node_at nodes number).part item ≡ b → (if b then item_beats nodes item else 0) ≡ 0
       none number less other true is = absurd (other (starts-first number less item (plan_node_at nodes number).part refl is))
       none number less other false is = refl
