@@ -1,0 +1,210 @@
+-- The numbers of a plan's network fit trace lines: its links are few and plain, its traffic is small.
+use Rattle.std.proofs.Common.{◌≡◌, ◌<◌, ◌≤◌, ◌+◌, ◌^◌, ◌==◌, ◌||◌, ◌&&◌, [], ◌∷◌, ◌++◌, ℕ, zero, suc, Bool, true, false, not, List, Option, Some, None, length, map, refl, sym, ap, ◌∙◌, subst, inl, inr, arith}
+use Rattle.std.specs.Prelude.{All, IfSome, slice_get, slice_index_or}
+use Rattle.std.proofs.lemmas.Bool.{cases_lt, eqb-true, or_cases}
+use Rattle.std.proofs.lemmas.List.{length-map}
+use Rattle.std.proofs.lemmas.List.Elements.{All-map}
+use Rattle.std.proofs.lemmas.Option.{none-some, same_Some}
+use Rattle.axi_beats.specs.Bus.{IsBusWidth, is_bus_width}
+use Rattle.elaborate.proofs.Forms.{Form, Part_at, part-at}
+use Rattle.elaborate.proofs.Forms.Form.{Behind, Demux, DemuxError, Input, InputError, Own, Split, Target}
+use Rattle.elaborate.proofs.Lists.{nth-in}
+use Rattle.elaborate.proofs.PlanFacts.{form-document}
+use Rattle.elaborate.proofs.Sizes.{links-few, upper-inside}
+use Rattle.elaborate.specs.Plan.{PlanNode, plan_link_at, plan_links, plan_node_at, plan_nodes}
+use Rattle.elaborate.specs.Unbuilt.{is_unbuilt}
+use Rattle.elaborate.specs.declared.link.PlanLink.{PlanLink}
+use Rattle.elaborate.specs.declared.part.Part.{Part}
+use Rattle.elaborate.specs.declared.part.Part.TheVariants as part
+use Rattle.manager_node.specs.Script.{ScriptItem}
+use Rattle.net_kinds.specs.NodeKind.{NodeState}
+use Rattle.net_opening.specs.Opening.{opening, state_at, state_by_part}
+use Rattle.net_opening.specs.PlanLinks.{form_of_link, net_link_of}
+use Rattle.net_plan.proofs.LinkKinds.{form-plain, nth-input, plain_form}
+use Rattle.net_plan.proofs.LinkPlaces.{LinkFacts, link-facts}
+use Rattle.net_plan.proofs.NodeBegins.{number-at}
+use Rattle.net_plan.proofs.NodeSound.{of-manager}
+use Rattle.net_plan.proofs.OpeningSound.{openings-are_sound}
+use Rattle.net_plan.proofs.OpeningWired.{node-at, node-is, node-past}
+use Rattle.net_plan.proofs.PartLemmas.{formed-at, is-built, no-split}
+use Rattle.net_plan.proofs.SoundParts.{handed}
+use Rattle.net_plan.specs.PlanLaws.{CanRun}
+use Rattle.net_ranges.proofs.PortLemmas.{runs-show_lines}
+use Rattle.net_ranges.specs.TraceLines.{FitsItsBeats, FitsLanes, FitsTraces, IsTraceLink, PlansShowTraceLines}
+use Rattle.node_core.specs.Acted.{Acted}
+use Rattle.node_graph.proofs.Members.{in-first}
+use Rattle.node_graph.proofs.Ways.{above-below, links-lead_deeper}
+use Rattle.node_graph.specs.Graph.{depth_of, is_in, nodes_below}
+use Rattle.node_shape.specs.LinkForm.{LinkForm}
+use Rattle.plan_traffic.specs.Accepted.{IsTraffic, Suits, items_of_manager}
+use Rattle.plan_traffic.specs.Orders.{most_transactions}
+use Rattle.plan_traffic.specs.Scripts.{script_item, script_of}
+use Rattle.plan_traffic.specs.Traffic.{TrafficItem}
+use Rattle.topology.proofs.AcceptedFacts.{accepted-is_acyclic, accepted-is_clean, graph-long}
+use Rattle.topology.proofs.LinkWidths.{accepted-are_narrow}
+use Rattle.topology.specs.Document.{DocumentNode, first_link, graph_of, inputs_of, is_manager, link_below, link_kind_of, no_link, node_at, uppers_of}
+use Rattle.topology.specs.declared.link.LinkKind.{LinkKind}
+use Rattle.topology_text.specs.Form.{table_form}
+use Rattle.topology_text.specs.Formed.{IsFormed, IsNumberAt}
+use Rattle.topology_text.specs.Shape.{bus_limits, fill_limits}
+use Rattle.topology_text.specs.declared.kind.Kind.{Kind}
+use Rattle.topology_text.specs.declared.kind.Kind.TheVariants as kind
+
+-- ---- links
+
+-- what a link is where it is one of AXI4, with a bus that there is
+record IsPlainLink (link : LinkKind) : Type 0 where
+  axi : link.lite ≡ false
+  width : IsBusWidth link.bus
+
+width-of : (bus : ℕ) → 4 ≤ bus → (bus == 0 || is_bus_width bus) ≡ true → IsBusWidth bus
+width-of bus some is = elim (or_cases (bus == 0) (is_bus_width bus) is) [ inl none ↦ absurd (omega (arith, some, eqb-true bus 0 none)) | inr width ↦ width ]
+
+manager-bus : (bus : ℕ) → IsNumberAt (table_form kind.Manager).bus bus_limits bus → 4 ≤ bus
+unfolding table_form
+manager-bus bus within = within.0
+
+-- the first of some links
+first-plain : (f : ℕ → LinkKind) (xs : List ℕ) → 0 < length xs → ((x : ℕ) → is_in xs x ≡ true → IsPlainLink (f x)) → IsPlainLink (first_link (map f xs))
+first-plain f [] some each = absurd (omega (arith, some))
+first-plain f (x ∷ xs) some each = each x (in-first x xs x refl)
+
+-- a node that isn't loose has an upper, where it is no manager
+has-upper : (k : Kind) (uppers : List ℕ) → is_manager k ≡ false → (not (is_manager k) && length uppers == 0) ≡ false → 0 < length uppers
+has-upper k (x ∷ xs) other loose = omega arith
+has-upper k [] other loose = let never : true ≡ false = sym (ap (λ (b : Bool). not b && true) other) ∙ loose in absurd (cc)
+
+-- what is below a node
+plain-below : (k : Kind) (node : DocumentNode) (links : List LinkKind) → is_unbuilt k ≡ false → (k ≡ kind.Manager → IsBusWidth node.bus) → (is_manager k ≡ false → IsPlainLink (first_link links)) → IsPlainLink (link_below k node links)
+plain-below kind.Manager node links built own above = record { axi = refl; width = own refl }
+plain-below kind.Memory node links built own above = above refl
+plain-below kind.Slice node links built own above = above refl
+plain-below kind.Demux node links built own above = above refl
+plain-below kind.Mux node links built own above = let first = above refl in record { axi = first.axi; width = first.width }
+plain-below kind.Crossbar node links built own above = let first = above refl in record { axi = first.axi; width = first.width }
+plain-below kind.LiteMemory node links built own above = absurd (cc)
+plain-below kind.Remap node links built own above = absurd (cc)
+plain-below kind.Up node links built own above = absurd (cc)
+plain-below kind.Down node links built own above = absurd (cc)
+plain-below kind.Lite node links built own above = absurd (cc)
+
+module _ (nodes : List DocumentNode) (run : CanRun nodes) where
+  plain-next : (place : ℕ) → place < length nodes → ((upper : ℕ) → is_in (uppers_of nodes place) upper ≡ true → IsPlainLink (link_kind_of nodes upper)) → IsPlainLink (link_kind_of nodes place)
+  plain-next place less above =
+      let node = node_at nodes place in
+      let formed : IsFormed node = formed-at nodes run place less in
+      subst IsPlainLink (sym (handed nodes run place node.kind less refl))
+      (plain-below node.kind node (inputs_of nodes place) (is-built nodes run place less)
+      (λ own. width-of node.bus (manager-bus node.bus (subst (λ (k : Kind). IsNumberAt (table_form k).bus bus_limits node.bus) own formed.bus)) formed.bus_is_width)
+      (λ other. first-plain (link_kind_of nodes) (uppers_of nodes place) (has-upper node.kind (uppers_of nodes place) other (accepted-is_clean nodes run.accepted place less).upper_is_there) above))
+
+  plain-above : (depth place : ℕ) → depth_of (graph_of nodes) place < depth → place < length nodes → IsPlainLink (link_kind_of nodes place)
+  plain-above zero place shallow less = absurd (omega (arith, shallow))
+  plain-above (suc depth) place shallow less =
+      plain-next place less (λ upper there.
+      let deeper : depth_of (graph_of nodes) upper < depth_of (graph_of nodes) place =
+      links-lead_deeper (graph_of nodes) (accepted-is_acyclic nodes run.accepted) upper place (omega (arith, less, graph-long nodes)) (above-below (graph_of nodes) place upper there) in
+      plain-above depth upper (omega (arith, deeper, shallow)) (upper-inside nodes place upper there))
+
+  -- a link of the plan is what is below some node of the document
+  record IsBelow (link : LinkKind) : Type 0 where
+    place : ℕ
+    within : place < length nodes
+    is : link ≡ link_kind_of nodes place
+
+  below-by : (place inner port : ℕ) (node : PlanNode) (lower : ℕ) (k : Kind) → place < length nodes → is_unbuilt k ≡ false → Form nodes place inner node k → slice_get node.lower port ≡ Some lower → IsBelow node.link
+  below-by place inner port node lower k less built (Own p own first is) at = record { place = place; within = less; is = ap (λ (n : PlanNode). n.link) is }
+  below-by place inner port node lower k less built (Split p split first is) at = absurd (no-split k p split built)
+  below-by place inner port node lower k less built (Behind p split first is) at = absurd (no-split k p split built)
+  below-by place inner port node lower k less built (Demux own first is) at = record { place = place; within = less; is = ap (λ (n : PlanNode). n.link) is }
+  below-by place inner port node lower k less built (DemuxError own first is) at = absurd (none-some lower (sym (ap (λ (n : PlanNode). slice_get n.lower port) is) ∙ at))
+  below-by place inner port node lower k less built (Input i own within first is) at = record {
+    place = slice_index_or (uppers_of nodes place) i 0;
+    within = upper-inside nodes place (slice_index_or (uppers_of nodes place) i 0) (nth-in (uppers_of nodes place) i within);
+    is = ap (λ (n : PlanNode). n.link) is ∙ nth-input nodes place i within;
+  }
+  below-by place inner port node lower k less built (InputError i own within first is) at = absurd (none-some lower (sym (ap (λ (n : PlanNode). slice_get n.lower port) is) ∙ at))
+  below-by place inner port node lower k less built (Target j own within first is) at = record { place = place; within = less; is = ap (λ (n : PlanNode). n.link) is }
+
+  -- so it has a trace
+  trace-link : (link : ℕ) → link < length (plan_links nodes) → IsTraceLink (form_of_link nodes link)
+  trace-link link less =
+      let facts : LinkFacts nodes link = link-facts nodes link less in
+      let spot : Part_at nodes (plan_link_at nodes link).upper facts.node = part-at nodes (plan_link_at nodes link).upper facts.node facts.at in
+      let below : IsBelow facts.node.link =
+      below-by spot.place spot.inner facts.port facts.node (plan_link_at nodes link).lower (node_at nodes spot.place).kind spot.within (is-built nodes run spot.place spot.within) spot.form facts.at_port in
+      let is : (plan_link_at nodes link).link ≡ link_kind_of nodes below.place = ap (λ (l : PlanLink). l.link) facts.is ∙ below.is in
+      let plain = plain-above (suc (depth_of (graph_of nodes) below.place)) below.place (omega arith) below.within in
+      let narrow = accepted-are_narrow nodes run.accepted run.formed below.place below.within in
+      subst IsTraceLink (sym (form-plain nodes run link less ∙ ap plain_form is)) (record { axi = plain.axi; width = plain.width; narrow = omega (arith, narrow) })
+
+-- ---- nodes
+
+fill-small : (k : Kind) (fill : ℕ) → IsNumberAt (table_form k).fill fill_limits fill → fill < 256
+unfolding table_form
+fill-small kind.Manager fill is = omega (arith, is)
+fill-small kind.Memory fill is = omega (arith, is.1)
+fill-small kind.LiteMemory fill is = omega (arith, is.1)
+fill-small kind.Slice fill is = omega (arith, is)
+fill-small kind.Mux fill is = omega (arith, is)
+fill-small kind.Demux fill is = omega (arith, is)
+fill-small kind.Crossbar fill is = omega (arith, is)
+fill-small kind.Remap fill is = omega (arith, is)
+fill-small kind.Up fill is = omega (arith, is)
+fill-small kind.Down fill is = omega (arith, is)
+fill-small kind.Lite fill is = omega (arith, is)
+
+module _ (nodes : List DocumentNode) (items : List TrafficItem) (run : CanRun nodes) (traffic : IsTraffic nodes items) where
+  abbrev FitsItem : TrafficItem → Type 0
+  FitsItem item = FitsItsBeats (script_item item)
+
+  items-fit : All FitsItem items
+  items-fit i d within =
+      let suits = traffic.suit i d within in
+      record { number = omega (arith, number-at [] items traffic.in_order i d within, within, traffic.transactions); bytes = suits.values }
+
+  script-fits : (place : ℕ) → All FitsItsBeats (script_of items place)
+  script-fits place = All-map FitsItsBeats script_item (items_of_manager place items) (of-manager FitsItem FitsItem place items items-fit (λ item fits same. fits))
+
+  part-fits : (number : ℕ) (p : Part) → (plan_node_at nodes number).document < length nodes → FitsLanes (state_by_part nodes items number p).kind (state_by_part nodes items number p).state
+  part-fits number part.Manager within = script-fits (plan_node_at nodes number).document
+  part-fits number part.Memory within =
+      let formed : IsFormed (node_at nodes (plan_node_at nodes number).document) = formed-at nodes run (plan_node_at nodes number).document within in
+      fill-small (node_at nodes (plan_node_at nodes number).document).kind (node_at nodes (plan_node_at nodes number).document).fill formed.fill
+  part-fits number part.Mux within = tt
+  part-fits number part.Error within = tt
+  part-fits number part.Demux within = tt
+  part-fits number part.Slice within = tt
+  part-fits number part.LiteMemory within = tt
+  part-fits number part.Remap within = tt
+  part-fits number part.Split within = tt
+  part-fits number part.Up within = tt
+  part-fits number part.Down within = tt
+  part-fits number part.Lite within = tt
+
+  nodes-fit : (number : ℕ) → IfSome (slice_get (opening nodes items).nodes number) (λ (a : Acted NodeState). FitsLanes a.state.kind a.state.state)
+  nodes-fit number =
+      let Fit : Acted NodeState → Type 0 = λ a. FitsLanes a.state.kind a.state.state in
+      elim (cases_lt number (length (plan_nodes nodes))) [
+        | inl less ↦
+            let at = node-at nodes items number less in
+            let spot : Part_at nodes number (plan_node_at nodes number) = part-at nodes number (plan_node_at nodes number) at in
+            let document = form-document nodes spot.place spot.inner (plan_node_at nodes number) (node_at nodes spot.place).kind spot.form in
+            subst (λ (o : Option (Acted NodeState)). IfSome o Fit) (sym (node-is nodes items number less))
+            (part-fits number (plan_node_at nodes number).part (omega (arith, document, spot.within)))
+        | inr past ↦ subst (λ (o : Option (Acted NodeState)). IfSome o Fit) (sym (node-past nodes items number past)) tt
+      ]
+
+  links-long : length (opening nodes items).links ≡ length (plan_links nodes)
+  links-long = length-map (plan_links nodes) net_link_of
+
+  pub plan-fits : FitsTraces (opening nodes items) (form_of_link nodes)
+  plan-fits = record {
+    few_links = omega (arith, links-long, links-few nodes run.accepted);
+    links = λ link less. trace-link nodes run link (omega (arith, less, links-long));
+    nodes = nodes-fit;
+  }
+
+pub plans-show_lines : PlansShowTraceLines
+plans-show_lines nodes items run traffic rounds counted =
+    runs-show_lines (opening nodes items) (form_of_link nodes) (openings-are_sound nodes items run traffic) (plan-fits nodes items run traffic) rounds counted

@@ -1,0 +1,194 @@
+-- The requests and the write data on each link are within the ranges of a trace line: they are those of a script.
+use Rattle.std.proofs.Common.{◌≡◌, ◌<◌, ◌≤◌, ◌+◌, ◌^◌, ◌==◌, ◌∷◌, [], ℕ, zero, suc, Bool, true, false, cond, List, Option, Some, None, get_or, length, refl, sym, ap, ◌∙◌, subst, inl, inr, arith}
+use Rattle.std.specs.Prelude.{All, Contains, find, flat_map, map, slice_get, unwrap_or}
+use Rattle.std.specs.Option.{option_and_then}
+use Rattle.std.proofs.Math.Nat.{pow-le-pow_right}
+use Rattle.std.proofs.lemmas.List.{append-nil}
+use Rattle.std.proofs.lemmas.List.Elements.{All-cons, All-nil, All-weaker}
+use Rattle.std.proofs.lemmas.List.FromFn.{get_or-map-range_with_len, length-map-range_with_len}
+use Rattle.std.proofs.lemmas.Option.{none-some}
+use Rattle.axi_beats.specs.declared.beat.Addr.{Addr}
+use Rattle.axi_beats.specs.declared.beat.WBeat.{WBeat}
+use Rattle.axi_link.specs.declared.out.Out.{Out}
+use Rattle.axi_trail.specs.LinkContracts.{Asks, without_id}
+use Rattle.axi_trail.specs.Schedule.{Share, no_share}
+use Rattle.axi_trail.specs.Words.{number_of_address, number_of_data}
+use Rattle.burst_address.specs.Formulas.{beats_of}
+use Rattle.burst_address.specs.Legal.{IsLegal}
+use Rattle.manager_node.specs.Beats.{data_beat, data_beats, item_request}
+use Rattle.manager_node.specs.ManagerState.{ManagerState}
+use Rattle.manager_node.specs.ManagerTrail.{item_origin}
+use Rattle.manager_node.specs.Script.{ScriptItem}
+use Rattle.net_history.proofs.EndLemmas.{carried-same}
+use Rattle.net_history.proofs.ItemLemmas.{now, schedules}
+use Rattle.net_history.proofs.ManagerRuns.{IsManagerAt, begins, has-link, run-keeps}
+use Rattle.net_history.proofs.RunStates.{acted_as}
+use Rattle.net_kinds.specs.NodeHolds.{node_holds}
+use Rattle.net_kinds.specs.NodeKind.{KindName, NodeState, StateOf, node_kind}
+use Rattle.net_kinds.specs.NodeKind.KindName.{ADemux, AManager, AMemory, AMux, ASlice, AnError}
+use Rattle.net_model.specs.Network.{Network}
+use Rattle.net_ranges.proofs.BeatRanges.{IsAddressInRange, IsPartInRange, data-in_range, request-in_range}
+use Rattle.net_ranges.proofs.FormLemmas.{bus-carried}
+use Rattle.net_ranges.specs.TraceLines.{FitsItsBeats, FitsLanes, FitsTraces}
+use Rattle.net_runs.proofs.ContractFacts.{at-some}
+use Rattle.net_runs.specs.Run.{upper_end}
+use Rattle.net_ways.proofs.OriginLemmas.{flat-from, its-way}
+use Rattle.net_ways.proofs.WayLemmas.{is-carried}
+use Rattle.net_ways.specs.Sound.{IsSound}
+use Rattle.net_ways.specs.Ways.{carried, is_origin, origins_in, share_on, way_of}
+use Rattle.node_core.specs.Acted.{Acted}
+use Rattle.node_shape.specs.LinkForm.{LinkForm}
+use Rattle.node_shape.specs.Way.{Origin}
+use Rattle.plain_lists.proofs.CutLemmas.{all-unmap}
+use Rattle.plain_lists.proofs.PlaceLemmas.{at-all, at-contains, contains-at, find-has, map-from}
+use Rattle.plain_lists.proofs.PrefixLemmas.{All_front}
+use Rattle.plain_lists.proofs.SelectedLemmas.{all-by_way}
+use Rattle.plain_lists.specs.Keys.{of_key}
+use Rattle.trace_text.specs.Ranges.{IsTraceWriteData}
+
+module _ (net : Network NodeState) (forms : ℕ → LinkForm) (sound : IsSound node_kind net forms) (fits : FitsTraces net forms) where
+  -- ---- each transaction is of a script
+
+  pub record IsOfScript (origin : Origin) : Type 0 where
+    pub node : ℕ
+    pub s : ManagerState
+    pub is : IsManagerAt net node s
+    pub place : ℕ
+    pub item : ScriptItem
+    pub at : slice_get s.script place ≡ Some item
+    pub same : item_origin s.bus s.lower item ≡ origin
+
+  of-kind : (node : ℕ) (name : KindName) (s : StateOf name) (out : Out) (origin : Origin) → slice_get net.nodes node ≡ Some (acted_as name s out) →
+      Contains (node_kind.way (acted_as name s out).state).origins origin → IsOfScript origin
+  of-kind node AManager s out origin at among =
+      let there = at-contains (map (item_origin s.bus s.lower) s.script) origin among in
+      let from = map-from (item_origin s.bus s.lower) s.script there.0 origin there.1 in
+      record { node = node; s = s; is = record { out = out; at = at }; place = there.0; item = from.0; at = from.1; same = from.2 }
+  of-kind node ASlice s out origin at among = absurd (omega (arith, among.1))
+  of-kind node AMemory s out origin at among = absurd (omega (arith, among.1))
+  of-kind node AMux s out origin at among = absurd (omega (arith, among.1))
+  of-kind node AnError s out origin at among = absurd (omega (arith, among.1))
+  of-kind node ADemux s out origin at among = absurd (omega (arith, among.1))
+
+  of-script : (origin : Origin) → Contains (origins_in node_kind net.nodes) origin → IsOfScript origin
+  of-script origin among =
+      let from = flat-from (λ (a : Acted NodeState). (node_kind.way a.state).origins) net.nodes origin among in
+      of-kind from.0 from.1.state.kind from.1.state.state from.1.out origin from.2 from.3
+
+  fits-item : (node : ℕ) (s : ManagerState) → IsManagerAt net node s → (place : ℕ) (item : ScriptItem) → slice_get s.script place ≡ Some item → FitsItsBeats item
+  fits-item node s is place item at =
+      at-all FitsItsBeats s.script place item
+      (at-some (λ (a : Acted NodeState). FitsLanes a.state.kind a.state.state) (slice_get net.nodes node) (acted_as AManager s is.out) is.at (fits.nodes node)) at
+
+  -- ---- what a link has to carry
+
+  abbrev bus_of : ℕ → ℕ
+  bus_of link = (forms link).bus
+
+  -- a link carries a transaction of a script as it is
+  pub record IsItsOwn (write : Bool) (link : ℕ) (share : Share) : Type 0 where
+    pub origin : Origin
+    pub among : Contains (origins_in node_kind net.nodes) origin
+    pub script : IsOfScript origin
+    pub direction : origin.write ≡ write
+    pub parts : share.parts ≡ origin.share.parts
+    pub write_data : share.write_data ≡ origin.share.write_data
+    pub bus : (forms origin.link).bus ≡ bus_of link
+
+  own-share : (write : Bool) (link number : ℕ) (share : Share) → carried node_kind net write link number ≡ Some share → IsItsOwn write link share
+  own-share write link number share there = go (find (is_origin write number) (origins_in node_kind net.nodes)) refl
+    where
+      go : (o : Option Origin) → find (is_origin write number) (origins_in node_kind net.nodes) ≡ o → IsItsOwn write link share
+      go None none = absurd (none-some share (sym (ap (option_and_then (λ (o : Origin). share_on link (way_of node_kind net o))) none) ∙ there))
+      go (Some origin) found =
+          let has = find-has (is_origin write number) (origins_in node_kind net.nodes) origin found in
+          let among = contains-at (origins_in node_kind net.nodes) has.1 origin has.2 in
+          let its = its-way node_kind node_holds net forms sound write number origin found in
+          let own : carried node_kind net origin.write link origin.number ≡ Some share =
+          ap (λ (b : Bool). carried node_kind net b link origin.number) its.same_direction ∙ ap (carried node_kind net write link) its.same_number ∙ there in
+          let same = carried-same net forms sound origin among link share own in
+          record {
+            origin = origin;
+            among = among;
+            script = of-script origin among;
+            direction = its.same_direction;
+            parts = same.parts;
+            write_data = same.write_data;
+            bus = bus-carried net forms sound origin among link share own;
+          }
+
+  parts-in_range : (write : Bool) (link number : ℕ) → All (IsPartInRange (bus_of link)) (unwrap_or (carried node_kind net write link number) no_share).parts
+  parts-in_range write link number = go (carried node_kind net write link number) refl
+    where
+      go : (o : Option Share) → carried node_kind net write link number ≡ o → All (IsPartInRange (bus_of link)) (unwrap_or o no_share).parts
+      go None none = All-nil (IsPartInRange (bus_of link))
+      go (Some share) there =
+          let own = own-share write link number share there in
+          let fit = (is-carried node_kind node_holds net forms sound write number link share there).fits in
+          let one : share.parts ≡ without_id (item_request own.script.item) ∷ [] = own.parts ∙ ap (λ (o : Origin). o.share.parts) (sym own.script.same) in
+          let item = fits-item own.script.node own.script.s own.script.is own.script.place own.script.item own.script.at in
+          let part = without_id (item_request own.script.item) in
+          let legal : All (λ (a : Addr). IsLegal a (bus_of link)) (part ∷ []) = subst (All (λ (a : Addr). IsLegal a (bus_of link))) one fit.legal in
+          let small : All (λ (a : Addr). a.addr < 2 ^ 63) (part ∷ []) = subst (All (λ (a : Addr). a.addr < 2 ^ 63)) one fit.small in
+          subst (All (IsPartInRange (bus_of link))) (sym one)
+          (All-cons (IsPartInRange (bus_of link)) part []
+          (record { legal = legal 0 part (omega arith); start = small 0 part (omega arith); tag = record { txn = item.number; low = omega arith; high = omega arith } }) (All-nil (IsPartInRange (bus_of link))))
+
+  pub data-carried : (link number : ℕ) → All (IsTraceWriteData (bus_of link)) (flat_map (λ (beats : List WBeat). beats) (unwrap_or (carried node_kind net true link number) no_share).write_data)
+  data-carried link number = go (carried node_kind net true link number) refl
+    where
+      go : (o : Option Share) → carried node_kind net true link number ≡ o → All (IsTraceWriteData (bus_of link)) (flat_map (λ (beats : List WBeat). beats) (unwrap_or o no_share).write_data)
+      go None none = All-nil (IsTraceWriteData (bus_of link))
+      go (Some share) there =
+          let own = own-share true link number share there in
+          let script = own.script in
+          let fit = (is-carried node_kind node_holds net forms sound true number link share there).fits in
+          let new = begins net forms sound script.node script.s script.is in
+          let item = fits-item script.node script.s script.is script.place script.item script.at in
+          let writes : script.item.txn.write ≡ true = ap (λ (o : Origin). o.write) script.same ∙ own.direction in
+          let sent : flat_map (λ (beats : List WBeat). beats) share.write_data ≡ data_beats script.item script.s.bus =
+          ap (flat_map (λ (beats : List WBeat). beats)) (own.write_data ∙ ap (λ (o : Origin). o.share.write_data) (sym script.same) ∙ ap (λ (b : Bool). cond b (data_beats script.item script.s.bus ∷ []) []) writes)
+          ∙ append-nil (data_beats script.item script.s.bus) in
+          let strobes : All (λ (w : WBeat). w.strobe < 2 ^ bus_of link) (data_beats script.item script.s.bus) = subst (All (λ (w : WBeat). w.strobe < 2 ^ bus_of link)) sent (fit.strobes refl) in
+          let same : script.s.bus ≡ bus_of link = sym (has-link net forms sound script.node script.s script.is).bus ∙ ap (λ (o : Origin). (forms o.link).bus) script.same ∙ own.bus in
+          let beats = beats_of script.item.txn.request in
+          subst (All (IsTraceWriteData (bus_of link))) (sym sent) (λ n past within.
+          let here : n < beats = subst (λ (k : ℕ). n < k) (length-map-range_with_len (data_beat script.item script.s.bus) 0 beats) within in
+          let place : 0 + n ≡ n = omega arith in
+          let is : get_or (data_beats script.item script.s.bus) n past ≡ data_beat script.item script.s.bus n = get_or-map-range_with_len (data_beat script.item script.s.bus) 0 beats n n past here place in
+          let legal = at-all (λ (i : ScriptItem). IsLegal i.txn.request script.s.bus) script.s.script script.place script.item new.legal script.at in
+          let strobe : (data_beat script.item script.s.bus n).strobe < 2 ^ script.s.bus =
+          subst (λ (b : ℕ). (data_beat script.item script.s.bus n).strobe < 2 ^ b) (sym same) (subst (λ (w : WBeat). w.strobe < 2 ^ bus_of link) is (strobes n past within)) in
+          subst (λ (w : WBeat). IsTraceWriteData (bus_of link) w) (sym is)
+          (subst (λ (b : ℕ). IsTraceWriteData b (data_beat script.item script.s.bus n)) same (data-in_range script.item script.s.bus n new.bus_width legal item strobe)))
+
+  -- ---- what is asked on a link
+
+  module _ (link : ℕ) (known : link < length net.links) (n : ℕ) where
+    asks : Asks (schedules net forms sound link) (now net forms sound n) (upper_end node_kind net link n)
+    asks = (run-keeps net forms sound n).asked link known
+
+    -- addresses of which each is a part, but for its ID, which fits
+    whole-addresses : (addresses : List Addr) → ((number : ℕ) → All (IsPartInRange (bus_of link)) (map without_id (of_key number_of_address number addresses))) →
+        All (λ (a : Addr). a.id < 2 ^ (forms link).id_width) addresses → All IsAddressInRange addresses
+    whole-addresses addresses parts ids =
+        let Part : Addr → Type 0 = λ a. IsPartInRange (bus_of link) (without_id a) in
+        let all = all-by_way Part number_of_address (λ t. t) addresses (λ number. all-unmap (IsPartInRange (bus_of link)) without_id (of_key number_of_address number addresses) (parts number)) in
+        let most : 2 ^ (forms link).id_width ≤ 2 ^ 32 = pow-le-pow_right {n = 2} (omega arith) {i = (forms link).id_width} {j = 32} (fits.links link known).narrow in
+        λ k d within.
+        let a = get_or addresses k d in
+        let part = all k d within in
+        request-in_range a (bus_of link) (fits.links link known).width part.legal part.start part.tag (omega (arith, ids k d within, most))
+
+    pub writes-asked : All IsAddressInRange (upper_end node_kind net link n).aw
+    writes-asked =
+        whole-addresses (upper_end node_kind net link n).aw (λ number. All_front (IsPartInRange (bus_of link)) (asks.writes.asks_only_its_parts number) (parts-in_range true link number)) asks.writes.ids_fit
+
+    pub reads-asked : All IsAddressInRange (upper_end node_kind net link n).ar
+    reads-asked =
+        whole-addresses (upper_end node_kind net link n).ar (λ number. All_front (IsPartInRange (bus_of link)) (asks.reads.asks_only_its_parts number) (parts-in_range false link number)) asks.reads.ids_fit
+
+    pub data-sent : All (IsTraceWriteData (bus_of link)) (upper_end node_kind net link n).w
+    data-sent =
+        all-by_way (IsTraceWriteData (bus_of link)) number_of_data (λ t. t) (upper_end node_kind net link n).w
+        (λ number. All_front (IsTraceWriteData (bus_of link)) (asks.data_is_the_schedules number) (data-carried link number))
