@@ -1,5 +1,5 @@
 -- What nodes put on their links is within the ranges of a trace line.
-use Rattle.std.proofs.Common.{◌≡◌, ◌<◌, ◌≤◌, ◌+◌, ◌-◌, ◌^◌, ◌∷◌, [], ◌++◌, ◌&&◌, ℕ, zero, suc, List, Bool, true, false, cond, length, drop, map, replicate, refl, ap, ◌∙◌, subst, arith}
+use Rattle.std.proofs.Common.{◌≡◌, ◌<◌, ◌≤◌, ◌+◌, ◌-◌, ◌^◌, ◌++◌, ◌&&◌, ℕ, List, Bool, true, false, cond, length, drop, map, replicate, refl, ap, ◌∙◌, subst, arith}
 use Rattle.std.specs.Prelude.{All, IsTrue, nat_le, nat_lt}
 use Rattle.std.proofs.Math.Nat.{mod-le, pow-le-pow_right}
 use Rattle.std.proofs.lemmas.Bool.{cond_both, le-ltb, ltb-true}
@@ -33,7 +33,6 @@ use Rattle.memory_node.specs.Store.{Store, byte_at}
 use Rattle.mux_node.specs.MuxTable.{narrowed_b, narrowed_r}
 use Rattle.net_ranges.proofs.LaneRanges.{mapped-on_bus, placed-on_bus}
 use Rattle.net_ranges.specs.TraceLines.{FitsItsBeats}
-use Rattle.plain_text.specs.ExactLaws.{AreBytes}
 use Rattle.subordinate.specs.Service.{Service}
 use Rattle.subordinate.specs.SubordinateTable.{answer_to, next_beat}
 use Rattle.subordinate.specs.declared.entry.ReadEntry.{ReadEntry}

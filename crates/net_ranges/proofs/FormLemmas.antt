@@ -1,6 +1,6 @@
 -- The links of a way have buses of one width: no kind of node changes it.
 use Rattle.std.proofs.Common.{◌≡◌, ◌<◌, [], ◌∷◌, ℕ, zero, suc, Bool, List, Option, Some, None, length, refl, sym, ap, ◌∙◌, subst, inl, inr, arith}
-use Rattle.std.specs.Prelude.{All, Contains, slice_get}
+use Rattle.std.specs.Prelude.{Contains, slice_get}
 use Rattle.std.specs.Option.{option_map_or}
 use Rattle.std.proofs.lemmas.Bool.{cases_eq}
 use Rattle.std.proofs.lemmas.List.Elements.{All-contains}
@@ -13,7 +13,7 @@ use Rattle.net_kinds.specs.NodeKind.{KindName, NodeState, StateOf, node_kind}
 use Rattle.net_kinds.specs.NodeKind.KindName.{ADemux, AManager, AMemory, AMux, ASlice, AnError}
 use Rattle.net_model.specs.Network.{Network, lower_node}
 use Rattle.net_runs.proofs.ContractFacts.{at-some}
-use Rattle.net_ways.proofs.HopLemmas.{IsJoined, share-further, share-here}
+use Rattle.net_ways.proofs.HopLemmas.{IsJoined, share-further}
 use Rattle.net_ways.proofs.OriginLemmas.{HasItsWay, is-found, its-way}
 use Rattle.net_ways.specs.Sound.{IsSound}
 use Rattle.net_ways.specs.Ways.{Hop, carried, origins_in, schedules_of, share_on, way_below}

@@ -1,10 +1,10 @@
 -- The numbers of a plan's network fit trace lines: its links are few and plain, its traffic is small.
-use Rattle.std.proofs.Common.{◌≡◌, ◌<◌, ◌≤◌, ◌+◌, ◌^◌, ◌==◌, ◌||◌, ◌&&◌, [], ◌∷◌, ◌++◌, ℕ, zero, suc, Bool, true, false, not, List, Option, Some, None, length, map, refl, sym, ap, ◌∙◌, subst, inl, inr, arith}
+use Rattle.std.proofs.Common.{◌≡◌, ◌<◌, ◌≤◌, ◌==◌, ◌||◌, ◌&&◌, [], ◌∷◌, ℕ, zero, suc, Bool, true, false, not, List, Option, Some, length, map, refl, sym, ap, ◌∙◌, subst, inl, inr, arith}
 use Rattle.std.specs.Prelude.{All, IfSome, slice_get, slice_index_or}
 use Rattle.std.proofs.lemmas.Bool.{cases_lt, eqb-true, or_cases}
 use Rattle.std.proofs.lemmas.List.{length-map}
 use Rattle.std.proofs.lemmas.List.Elements.{All-map}
-use Rattle.std.proofs.lemmas.Option.{none-some, same_Some}
+use Rattle.std.proofs.lemmas.Option.{none-some}
 use Rattle.axi_beats.specs.Bus.{IsBusWidth, is_bus_width}
 use Rattle.elaborate.proofs.Forms.{Form, Part_at, part-at}
 use Rattle.elaborate.proofs.Forms.Form.{Behind, Demux, DemuxError, Input, InputError, Own, Split, Target}
@@ -16,9 +16,8 @@ use Rattle.elaborate.specs.Unbuilt.{is_unbuilt}
 use Rattle.elaborate.specs.declared.link.PlanLink.{PlanLink}
 use Rattle.elaborate.specs.declared.part.Part.{Part}
 use Rattle.elaborate.specs.declared.part.Part.TheVariants as part
-use Rattle.manager_node.specs.Script.{ScriptItem}
 use Rattle.net_kinds.specs.NodeKind.{NodeState}
-use Rattle.net_opening.specs.Opening.{opening, state_at, state_by_part}
+use Rattle.net_opening.specs.Opening.{opening, state_by_part}
 use Rattle.net_opening.specs.PlanLinks.{form_of_link, net_link_of}
 use Rattle.net_plan.proofs.LinkKinds.{form-plain, nth-input, plain_form}
 use Rattle.net_plan.proofs.LinkPlaces.{LinkFacts, link-facts}
@@ -34,15 +33,13 @@ use Rattle.net_ranges.specs.TraceLines.{FitsItsBeats, FitsLanes, FitsTraces, IsT
 use Rattle.node_core.specs.Acted.{Acted}
 use Rattle.node_graph.proofs.Members.{in-first}
 use Rattle.node_graph.proofs.Ways.{above-below, links-lead_deeper}
-use Rattle.node_graph.specs.Graph.{depth_of, is_in, nodes_below}
-use Rattle.node_shape.specs.LinkForm.{LinkForm}
-use Rattle.plan_traffic.specs.Accepted.{IsTraffic, Suits, items_of_manager}
-use Rattle.plan_traffic.specs.Orders.{most_transactions}
+use Rattle.node_graph.specs.Graph.{depth_of, is_in}
+use Rattle.plan_traffic.specs.Accepted.{IsTraffic, items_of_manager}
 use Rattle.plan_traffic.specs.Scripts.{script_item, script_of}
 use Rattle.plan_traffic.specs.Traffic.{TrafficItem}
 use Rattle.topology.proofs.AcceptedFacts.{accepted-is_acyclic, accepted-is_clean, graph-long}
 use Rattle.topology.proofs.LinkWidths.{accepted-are_narrow}
-use Rattle.topology.specs.Document.{DocumentNode, first_link, graph_of, inputs_of, is_manager, link_below, link_kind_of, no_link, node_at, uppers_of}
+use Rattle.topology.specs.Document.{DocumentNode, first_link, graph_of, inputs_of, is_manager, link_below, link_kind_of, node_at, uppers_of}
 use Rattle.topology.specs.declared.link.LinkKind.{LinkKind}
 use Rattle.topology_text.specs.Form.{table_form}
 use Rattle.topology_text.specs.Formed.{IsFormed, IsNumberAt}

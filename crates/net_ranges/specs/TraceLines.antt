@@ -49,7 +49,8 @@ pub record FitsTraces (net : Network NodeState) (forms : ℕ → LinkForm) : Typ
 -- so it is in every network that can be run, after as many rounds as have numbers
 abbrev pub RunsShowTraceLines : Type 0
 RunsShowTraceLines =
-    (net : Network NodeState) (forms : ℕ → LinkForm) → IsSound node_kind net forms → FitsTraces net forms → (rounds : ℕ) → rounds < 2 ^ 63 → ShowsTraceLines net rounds
+    (net : Network NodeState) (forms : ℕ → LinkForm) → IsSound node_kind net forms → FitsTraces net forms → (rounds : ℕ) → rounds < 2 ^ 63 →
+    ShowsTraceLines net rounds
 
 -- and in that of every plan whose traffic suits it
 abbrev pub PlansShowTraceLines : Type 0
