@@ -1,14 +1,15 @@
 #!/usr/bin/env python3
-"""Compares what the program and another simulator answer to random traffic, good and bad.
+"""Compares what the program and another simulator answer to random documents, good and bad.
 
     tools/compare_runs.py OTHER [COUNT] [SEED] [PROGRAM]
 
-OTHER is a program with the same words and texts. It reads a topology before the line `%%`; PROGRAM
-(without it the one that is built in this tree) has a built-in network, whose topology is put before
-OTHER's input. For each of COUNT inputs the status and the text of `run` are compared, and for a
-third of them those of `run --trace=all`. It prints how many inputs OTHER accepts, how many it
-refuses for which cause, and how many runs agreed, and ends with 1 where any differs. Without OTHER
-nothing is done; before the program is built, nothing is compared and OTHER's answers are counted.
+OTHER is a program with the same words and texts; PROGRAM is the one that is built in this tree,
+where none is named. A third of the COUNT documents are good and bad traffic on the smallest network,
+the others random networks of managers, slices, muxes, demuxes, crossbars and memories with legal
+traffic, some of them with something wrong in the topology. The status and the text of `run` are
+compared, and for a third those of `run --trace=all`. It prints how many inputs OTHER accepts, how
+many it refuses for which cause, and how many runs agreed, and ends with 1 where any differs. Without
+OTHER nothing is done; before the program is built, OTHER's answers are counted.
 """
 import collections
 import os
@@ -16,9 +17,10 @@ import random
 import subprocess
 import sys
 
+import random_networks
+
 TOP = os.path.dirname(os.path.dirname(os.path.abspath(__file__)))
 PROGRAM = os.path.join(TOP, 'crates', 'axinet', 'out', 'axinet')
-NETWORK = open(os.path.join(TOP, 'tools', 'built_in.toml'), 'rb').read()
 # The other simulator reads the newer form of TOML where it is told to.
 ENVIRONMENT = dict(os.environ, AXINET_TOML='1.1')
 BUS = 4
@@ -302,8 +304,26 @@ def no_text(r):
     return data[:place] + wrong + data[place:]
 
 
+def network_document(r):
+    """A random network with legal traffic; at times with a bad topology, or with a line that may be wrong."""
+    found = random_networks.network(r)
+    lines = random_networks.traffic(r, found)
+    if r.random() < 0.05:
+        lines.insert(r.randint(0, len(lines)), line_of(r, bad_words(r)))
+    topology = random_networks.spoilt(r, found) if r.random() < 0.25 else random_networks.text(found)
+    return (topology + text_of(r, ['%%'] + lines)).encode()
+
+
 def document(r):
     """An input of `run`."""
+    if r.random() < 2 / 3:
+        return network_document(r)
+    # Not every input of this kind has a line `%%`, or is text.
+    return random_networks.ONE_MEMORY + traffic_document(r)
+
+
+def traffic_document(r):
+    """Good and bad traffic with what stands before it."""
     choice = r.random()
     if choice < 0.05:
         return no_text(r)
@@ -342,7 +362,7 @@ def compare(program, other, count, seed):
         mine = document(r)
         runs = [['run']] + ([['run', '--trace=all']] if r.random() < 1 / 3 else [])
         for words in runs:
-            theirs = call(other, words, NETWORK + mine)
+            theirs = call(other, words, mine)
             if words == ['run']:
                 causes[cause(theirs)] += 1
             if program is None:

@@ -3,25 +3,29 @@
 
     tools/compare_traces.py OTHER [COUNT] [SEED]
 
-OTHER is a program with the same words and texts. It reads a topology before the line `%%`; the
-program has a built-in network, whose topology is put before OTHER's input. For each of COUNT seeds
-the traced run of random bursts is compared, and then the verdicts on traces of random bursts and on
-traces in which lines were changed, dropped, doubled or swapped. The last line says how many
-agreed. Without OTHER, or before the program is built, nothing is compared.
+OTHER is a program with the same words and texts. For each of COUNT seeds the traced run of random
+bursts is compared, on the smallest network and on a random one, and then the verdicts on traces of
+random bursts and on traces in which lines were changed, dropped, doubled or swapped. The last line
+says how many agreed. Without OTHER, or before the program is built, nothing is compared.
 """
 import os
 import random
 import subprocess
 import sys
 
+import random_networks
+
 TOP = os.path.dirname(os.path.dirname(os.path.abspath(__file__)))
 PROGRAM = os.path.join(TOP, 'crates', 'axinet', 'out', 'axinet')
-NETWORK = open(os.path.join(TOP, 'tools', 'built_in.toml'), 'rb').read()
+
+
+# The other simulator reads the newer form of TOML where it is told to.
+ENVIRONMENT = dict(os.environ, AXINET_TOML='1.1')
 
 
 def call(program, words, data):
     """The exit code and the standard output of a program."""
-    done = subprocess.run([program] + words, input=data, capture_output=True, timeout=60)
+    done = subprocess.run([program] + words, input=data, capture_output=True, timeout=60, env=ENVIRONMENT)
     return done.returncode, done.stdout
 
 
@@ -45,8 +49,15 @@ def burst_line(r):
     return 'write m %s %s' % (head, ' '.join(words))
 
 
-def traffic(r, most):
-    return ''.join(burst_line(r) + '\n' for _ in range(r.randint(0, most))).encode()
+def document(r, most):
+    """Bursts on the smallest network."""
+    return random_networks.ONE_MEMORY + ('%%\n' + ''.join(burst_line(r) + '\n' for _ in range(r.randint(0, most)))).encode()
+
+
+def network_document(r):
+    """Bursts on a random network."""
+    found = random_networks.network(r)
+    return (random_networks.text(found) + '%%\n' + ''.join(line + '\n' for line in random_networks.traffic(r, found))).encode()
 
 
 def changed(r, trace):
@@ -83,9 +94,9 @@ def main():
     seed = int(sys.argv[3]) if len(sys.argv) > 3 else 1
     agreed = differing = 0
 
-    def compare(what, words, mine, theirs):
+    def compare(what, words, mine):
         nonlocal agreed, differing
-        a, b = call(PROGRAM, words, mine), call(other, words, theirs)
+        a, b = call(PROGRAM, words, mine), call(other, words, mine)
         if a == b:
             agreed += 1
             return
@@ -95,13 +106,13 @@ def main():
 
     for number in range(count):
         r = random.Random(seed * 1000003 + number)
-        document = b'%%\n' + traffic(r, 40)
-        compare('run', ['run', '--trace=all'], document, NETWORK + document)
-        trace = call(other, ['run', '--trace=all'], NETWORK + b'%%\n' + traffic(r, 12))[1]
-        compare('check', ['check'], trace, trace)
-        for _ in range(4):
-            broken = changed(r, trace)
-            compare('check', ['check'], broken, broken)
+        for tried in (document(r, 40), network_document(r)):
+            compare('run', ['run', '--trace=all'], tried)
+        for tried in (document(r, 12), network_document(r)):
+            trace = call(other, ['run', '--trace=all'], tried)[1]
+            compare('check', ['check'], trace)
+            for _ in range(4):
+                compare('check', ['check'], changed(r, trace))
     print('%d agreed, %d differ' % (agreed, differing))
     return 1 if differing else 0
 

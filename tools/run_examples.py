@@ -21,9 +21,9 @@ import sys
 
 EXAMPLES = pathlib.Path(__file__).resolve().parent.parent / 'examples'
 STATUSES = {b'refused': 3, b'broken': 4}
-USAGE = b'usage: axinet run [--trace=none|--trace=all] | axinet check\n'
+USAGE = b'usage: axinet run|check [options]\n'
 # Words that name no command, of which nothing is read.
-NO_COMMANDS = [[], ['ran'], ['run', 'run'], ['run', '--trace'], ['run', '--trace=some'], ['--help'], [b'run\xff']]
+NO_COMMANDS = [[], ['ran'], ['run', 'run'], ['run', '--trace'], ['run', '--trace=some'], ['run', '--workers=0'], ['--help'], [b'run\xff']]
 # Too little memory for the longest input, and enough to start a program.
 FEW_BYTES = 12 << 20
 LONG_INPUT = b' ' * (16 << 20)

@@ -1,13 +1,12 @@
 -- Known values of what is written, worked by hand.
-use Rattle.std.proofs.Common.{◌≡◌, ℕ, [], ◌∷◌, true, false, refl}
+use Rattle.std.proofs.Common.{◌≡◌, ℕ, [], ◌∷◌, false, refl}
 use Rattle.std.specs.Prelude.{codes, map}
 use Rattle.std.specs.Fmt.{digits}
 use Rattle.axi_beats.specs.declared.beat.Addr.{Addr}
 use Rattle.axi_beats.specs.declared.beat.Burst.TheVariants.{Incr}
-use Rattle.axi_beats.specs.declared.response.Resp.TheVariants.{Okay, SlvErr, DecErr}
+use Rattle.axi_beats.specs.declared.response.Resp.TheVariants.{Okay, DecErr}
 use Rattle.refusals.specs.Refusal.{refused_at, refused_burst, refused_for}
 use Rattle.refusals.specs.declared.cause.Cause.TheVariants.{BadId, BadLine, BadTraceLine, InputTooLong, NoSeparator, NotBuilt, NotText, TooMuchTraffic, UnknownManager}
-use Rattle.manager_end.specs.declared.script.WriteByte.{WriteByte}
 use Rattle.plain_text.specs.Printing.{pairs}
 use Rattle.axi_program.specs.Text.{refusal_line, rounds_line, run_text}
 use Rattle.trace_text.specs.AnswerLine.{answer_line}
@@ -43,9 +42,6 @@ refusal_lines = refl
 abbrev words_at : ℕ → ℕ → ℕ → Addr
 words_at id addr last = record { id = id; addr = addr; len = last; size = 2; burst = Incr; tag = record { txn = 0; low = 0; high = 0 } }
 
-abbrev strobed : ℕ → WriteByte
-strobed byte = record { value = byte; strobed = true }
-
 two_beats :
     answer_line
     (codes "cpu")
@@ -55,22 +51,6 @@ two_beats :
 unfolding answer_line digits pairs
 two_beats = refl
 
-a_run :
-    run_text
-    (record {
-      txn = record { number = 1; write = true; request = words_at 1 16 0; after = 0 };
-      bytes = map strobed (17 ∷ 34 ∷ 51 ∷ 68 ∷ []);
-    }
-    ∷ record { txn = record { number = 2; write = false; request = words_at 2 16 0; after = 1 }; bytes = [] }
-    ∷ [])
-    (record { issued = 1; answered = 5; resps = SlvErr ∷ []; bytes = []; due_resps = 1; due_bytes = 0 }
-    ∷ record { issued = 6; answered = 9; resps = Okay ∷ []; bytes = 17 ∷ 34 ∷ 51 ∷ 68 ∷ []; due_resps = 1; due_bytes = 4 }
-    ∷ [])
-    9
-    ≡ codes "1 write m 1 5 slverr\n2 read m 6 9 okay:11223344\nrounds 9\n"
-unfolding answer_line rounds_line digits pairs
-a_run = refl
-
-empty_run : run_text [] [] 0 ≡ codes "rounds 0\n"
-unfolding rounds_line digits
+empty_run : run_text (record { nodes = []; items = []; rounds = 0; decided = false }) ≡ codes "rounds 0\n"
+unfolding run_text rounds_line digits
 empty_run = refl

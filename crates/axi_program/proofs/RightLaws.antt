@@ -1,59 +1,48 @@
--- The run of every document that isn't refused is right.
-use Rattle.std.proofs.Common.{◌≡◌, ℕ, Bool, true, false, cond, not, List, Option, Some, None, nat_lt, length, refl, sym, ◌∙◌, arith}
-use Rattle.std.specs.Str.{is_utf8}
-use Rattle.manager_end.specs.Script.{ScriptItem}
-use Rattle.net_rounds.proofs.BoundLemmas.{bound-little}
-use Rattle.net_rounds.proofs.NodeLawsHold.{node-laws}
-use Rattle.net_rounds.proofs.PortsInRange.{ports-are-in-range}
-use Rattle.net_rounds.proofs.PortsLegal.{ports-are-legal}
-use Rattle.net_rounds.proofs.RunLemmas.{run_length-is}
-use Rattle.net_rounds.proofs.RunsRight.{runs-are-right}
-use Rattle.net_rounds.specs.BuiltIn.{bound, built_in}
-use Rattle.net_rounds.specs.Due.{IsNumberedTraffic}
-use Rattle.net_rounds.specs.PortRanges.{FitsBeats}
-use Rattle.net_rounds.specs.Run.{run_length}
-use Rattle.plain_text.specs.Lines.{lines}
-use Rattle.plain_text.specs.Separator.{begins_with_separator, has_separator}
-use Rattle.traffic.proofs.KnownLemmas.{accepted_suits_all}
-use Rattle.traffic.specs.Traffic.{traffic_of}
-use Rattle.axi_program.proofs.ScriptLaws.{fits-beats, numbered-traffic}
-use Rattle.axi_program.specs.Call.{DocumentsRunRight, RunIsRight}
-use Rattle.axi_program.specs.Document.{input_limit, refusal_of, script_of_input, traffic_lines}
-use Rattle.axi_program.specs.Outcome.{run_rounds}
-use Rattle.axi_program.specs.Traffic.{IsBuiltIn, built_in_manager, built_in_managers, refusal_of_traffic}
-use Rattle.refusals.specs.Refusal.{refused_at, refused_for}
-use Rattle.refusals.specs.declared.cause.Cause.TheVariants.{InputTooLong, NoSeparator, NotBuilt, NotText}
-use Rattle.refusals.specs.declared.refusal.Refusal.{Refusal}
+-- The run of every document that is accepted is right.
+use Rattle.std.proofs.Common.{ℕ, sym, ◌∙◌}
+use Rattle.document.proofs.RunnableLemmas.{accepted-are_runnable}
+use Rattle.document.specs.Document.{Asked}
+use Rattle.document.specs.Runnable.{IsRunnable}
+use Rattle.net_bound.proofs.InTime.{runs-end_in_time}
+use Rattle.net_due.proofs.PlanRuns.{plan-runs_are_right}
+use Rattle.net_kinds.specs.NodeHolds.{node_holds}
+use Rattle.net_kinds.specs.NodeKind.{node_kind}
+use Rattle.net_opening.specs.Opening.{opening}
+use Rattle.net_opening.specs.PlanLinks.{form_of_link}
+use Rattle.net_plan.proofs.OpeningSound.{openings-are_sound}
+use Rattle.net_plan.specs.PlanLaws.{CanRun}
+use Rattle.net_ranges.proofs.PlanLemmas.{plan-fits, plans-show_lines}
+use Rattle.net_ways.proofs.SoundLemmas.{sound-ports_are_legal}
+use Rattle.net_ways.specs.Sound.{IsSound}
+use Rattle.axi_program.proofs.LeastLemmas.{run_length-is}
+use Rattle.axi_program.specs.Right.{DocumentsRunRight, PortsLegal, RunIsRight}
+use Rattle.axi_program.specs.Run.{bound, opened_network, run_rounds}
 
-run-is-right : (script : List ScriptItem) → IsNumberedTraffic script → FitsBeats script → RunIsRight script
+-- the network of a document that is accepted can be run
+pub can-run : (asked : Asked) → IsRunnable asked → CanRun asked.nodes
+can-run asked runnable = record { formed = runnable.formed; accepted = runnable.accepted; built = runnable.built }
+
+pub sound-opening : (asked : Asked) → IsRunnable asked → IsSound node_kind (opening asked.nodes asked.items) (form_of_link asked.nodes)
+sound-opening asked runnable = openings-are_sound asked.nodes asked.items (can-run asked runnable) runnable.traffic
+
+ports-legal : (asked : Asked) → IsRunnable asked → (rounds : ℕ) → PortsLegal asked rounds
+ports-legal asked runnable rounds link less =
+    let sound = sound-opening asked runnable in
+    let fits = plan-fits asked.nodes asked.items (can-run asked runnable) runnable.traffic in
+    let full = sym (sound.formed link less).lite ∙ (fits.links link less).axi in
+    (full, sound-ports_are_legal node_kind node_holds (opened_network asked) (form_of_link asked.nodes) sound link less full rounds)
+
+run-is-right : (asked : Asked) → IsRunnable asked → RunIsRight asked
 unfolding run_rounds
-run-is-right script traffic fits =
-    let length_is = run_length-is (built_in script) (bound script) in
-    let little = bound-little script traffic.traffic in
+run-is-right asked runnable =
+    let run = can-run asked runnable in
+    let ends = runs-end_in_time asked.nodes asked.items run runnable.traffic in
     record {
-      right = runs-are-right node-laws script traffic;
-      legal = ports-are-legal node-laws script traffic;
-      ends = length_is;
-      traced = ports-are-in-range script traffic fits (run_length (built_in script) (bound script)) (omega (arith, little, length_is.within));
+      right = plan-runs_are_right asked.nodes asked.items run runnable.traffic;
+      legal = ports-legal asked runnable;
+      ends = run_length-is (opened_network asked) (bound asked) ends.0 ends.1 ends.2;
+      traced = plans-show_lines asked.nodes asked.items run runnable.traffic;
     }
 
--- an input that isn't refused passes each test before its traffic
-passed : (over text some first : Bool) (o : Option Refusal) →
-    cond over (Some (refused_for InputTooLong)) (cond (not text) (Some (refused_for NotText)) (cond (not some) (Some (refused_for NoSeparator)) (cond (not first) (Some (refused_at NotBuilt 0)) o))) ≡ None → o ≡ None
-passed true text some first o e = absurd (cc)
-passed false false some first o e = absurd (cc)
-passed false true false first o e = absurd (cc)
-passed false true true false o e = absurd (cc)
-passed false true true true o e = e
-
-accepted-traffic : (input : List ℕ) → refusal_of input ≡ None → refusal_of_traffic (traffic_lines input) ≡ None
-accepted-traffic input accepted =
-    passed (nat_lt input_limit (length input)) (is_utf8 input) (has_separator (lines input)) (begins_with_separator (lines input)) (refusal_of_traffic (traffic_lines input)) accepted
-
 pub documents-run-right : DocumentsRunRight
-documents-run-right input accepted =
-    let traffic = traffic_lines input in
-    let items = traffic_of built_in_managers traffic in
-    let is : IsBuiltIn built_in_manager = record { name = refl; bus = refl; id_width = refl } in
-    let suits = accepted_suits_all built_in_managers traffic (accepted-traffic input accepted) in
-    run-is-right (script_of_input input) (numbered-traffic built_in_manager is items suits) (fits-beats built_in_manager is items suits)
+documents-run-right input asked accepted = run-is-right asked (accepted-are_runnable input asked accepted)

@@ -1,16 +1,27 @@
 -- The lines of a traced run, one piece after the other.
-use Rattle.std.proofs.Common.{◌≡◌, ◌<◌, ◌≤◌, ◌+◌, ◌-◌, [], ◌++◌, ℕ, zero, suc, List, Option, Some, None, false, refl, sym, ap, subst, ◌∙◌, arith, append_assoc, append-nil, Bool, true}
+use Rattle.std.proofs.Common.{◌≡◌, ◌<◌, ◌≤◌, ◌+◌, ◌-◌, [], ◌++◌, ℕ, zero, suc, List, length, Option, Some, None, Bool, true, false, cond, refl, sym, ap, subst, ◌∙◌, arith, append_assoc, append-nil}
+use Rattle.std.proofs.lemmas.List.{length-map}
 use Rattle.std.specs.Io.KnownBytes.{Appends}
-use Rattle.net_rounds.proofs.RunLemmas.{least-from, least-more}
-use Rattle.net_rounds.specs.Network.{Network, after_rounds, is_finished}
-use Rattle.net_rounds.specs.Run.{least_finished, run_length}
+use Rattle.elaborate.specs.Plan.{plan_links}
+use Rattle.net_build.specs.NetRun.{NetRun, network_between, network_of_run}
+use Rattle.net_kinds.specs.NodeKind.{NodeState, node_kind}
+use Rattle.net_model.specs.Network.{Network, after_decide, after_rounds, is_finished}
+use Rattle.net_opening.specs.Opening.{opening}
+use Rattle.net_opening.specs.PlanLinks.{net_link_of}
+use Rattle.net_runs.proofs.RoundLemmas.{links-stay}
 use Rattle.plain_lists.specs.Rounds.{over}
+use Rattle.axi_program.proofs.LeastLemmas.{least-from, least-more}
+use Rattle.axi_program.specs.Run.{least_finished, run_length}
 use Rattle.axi_program.specs.Text.{where_asked}
 
 -- nothing is appended where nothing is written
 pub appends-nothing : (known : Option (List ℕ)) → Appends known known []
 appends-nothing None = tt
 appends-nothing (Some bytes) = sym (append-nil bytes)
+
+pub asked-nothing : (trace : Bool) (known : Option (List ℕ)) → Appends known known (where_asked trace [])
+asked-nothing false known = appends-nothing known
+asked-nothing true known = appends-nothing known
 
 -- parts of a text that is asked for, or isn't
 pub asked-more : (trace : Bool) (front next : List ℕ) → where_asked trace (front ++ next) ≡ where_asked trace front ++ where_asked trace next
@@ -48,8 +59,25 @@ module _ (pieces : ℕ → List ℕ) where
 
 -- a run that isn't finished after so many rounds has one more
 pub run-goes-on :
-    (net : Network) (n most : ℕ) → n < most → is_finished (after_rounds n net) ≡ false → least_finished net 0 most ≡ least_finished net n (most - n) → n + 1 ≤ run_length net most
+    (net : Network NodeState) (n most : ℕ) → n < most → is_finished node_kind (after_rounds node_kind n net) ≡ false → least_finished net 0 most ≡ least_finished net n (most - n) → n + 1 ≤ run_length net most
 unfolding run_length
 run-goes-on net n most below running so_far =
     let next : least_finished net 0 most ≡ least_finished net (n + 1) (most - (n + 1)) = so_far ∙ least-more net n most below running in
     subst (λ (k : ℕ). n + 1 ≤ k) (sym next) (least-from net (n + 1) (most - (n + 1)))
+
+-- what the nodes decide changes no link
+decide-links : (round : ℕ) (net : Network NodeState) → (after_decide node_kind round net).links ≡ net.links
+unfolding after_decide
+decide-links round net = refl
+
+-- a network that is run has a link for each link of its plan
+pub links-of : (run : NetRun) → length (network_of_run run).links ≡ length (plan_links run.nodes)
+links-of run =
+    let between : length (network_between run).links ≡ length (plan_links run.nodes) =
+    ap length (links-stay node_kind (opening run.nodes run.items) run.rounds) ∙ length-map (plan_links run.nodes) net_link_of in
+    let go : (b : Bool) → length (cond b (after_decide node_kind (run.rounds + 1) (network_between run)) (network_between run)).links ≡ length (plan_links run.nodes) =
+    λ b. elim b as (λ b. length (cond b (after_decide node_kind (run.rounds + 1) (network_between run)) (network_between run)).links ≡ length (plan_links run.nodes)) [
+      | true ↦ ap length (decide-links (run.rounds + 1) (network_between run)) ∙ between
+      | false ↦ between
+    ]
+    in go run.decided

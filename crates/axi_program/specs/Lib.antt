@@ -3,15 +3,13 @@ pub mod DeviceBytes
 pub mod Devices
 pub mod Standard
 pub mod Status
-pub mod Traffic
-pub mod Document
 pub mod Text
-pub mod Words
+pub mod Run
 pub mod Trace
 pub mod Opening
 pub mod Outcome
-pub mod Pieces
 pub mod Work
 pub mod Report
 pub mod Preparation
 pub mod Call
+pub mod Right

@@ -1,17 +1,13 @@
 -- A network before its first round.
-use Rattle.std.specs.Prelude.{◌≡◌, List, false}
-use Rattle.manager_end.specs.Script.{ScriptItem}
-use Rattle.net_rounds.specs.BuiltIn.{bound, built_in, first_manager, script_of_manager}
-use Rattle.net_rounds.specs.NetView.{NetView}
+use Rattle.std.specs.Prelude.{◌≡◌, false}
+use Rattle.document.specs.Document.{Asked}
+use Rattle.net_build.specs.NetRun.{NetRun}
 
--- the built-in network with a script, before its first round
-abbrev pub opening_net : List ScriptItem → NetView
-opening_net script = record { network = built_in script; rounds = 0; decided = false; most = bound script }
+-- what the document of a network asks for
+abbrev pub asked_by : NetRun → Asked
+asked_by net = record { nodes = net.nodes; items = net.items }
 
--- the script of its manager
-abbrev pub script_of_net : NetView → List ScriptItem
-script_of_net net = script_of_manager (first_manager net.network.nodes)
-
--- the network stands before its first round
-abbrev pub IsOpening : NetView → Type 0
-IsOpening net = net ≡ opening_net (script_of_net net)
+-- no round was made, and none has begun
+pub record IsOpening (net : NetRun) : Type 0 where
+  pub rounds : net.rounds ≡ 0
+  pub undecided : net.decided ≡ false

@@ -1,11 +1,12 @@
 -- What the program writes: the line of a refusal, the line of a verdict on a trace, and the lines of a run.
-use Rattle.std.specs.Prelude.{ℕ, ◌==◌, Bool, true, false, List, [], ◌++◌, if◌then◌else◌, codes}
-use Rattle.std.specs.List.{flat_map, zip}
+use Rattle.std.specs.Prelude.{ℕ, ◌==◌, ◌-◌, slice_get, Bool, true, false, List, [], ◌++◌, if◌then◌else◌, codes}
+use Rattle.std.specs.List.{flat_map}
 use Rattle.std.specs.Option.{option_map_or}
 use Rattle.std.specs.Fmt.{decimal}
-use Rattle.manager_end.specs.Answer.{AnswerView}
-use Rattle.manager_end.specs.Script.{ScriptItem}
-use Rattle.axi_program.specs.Traffic.{manager_name}
+use Rattle.net_build.specs.NetRun.{NetRun}
+use Rattle.net_build.specs.Noted.{answer_noted}
+use Rattle.plan_traffic.specs.Traffic.{TrafficItem}
+use Rattle.topology_text.specs.Document.{node_at}
 use Rattle.refusals.specs.Cause.{cause_code, cause_name, cause_of_code, names_place}
 use Rattle.refusals.specs.declared.cause.Cause.TheVariants.{IllegalBurst}
 use Rattle.refusals.specs.declared.refusal.Refusal.{Refusal}
@@ -71,10 +72,19 @@ separator_line = codes "%%\n"
 unfoldable pub rounds_line : ℕ → List ℕ
 rounds_line rounds = codes "rounds " ++ decimal rounds ++ codes "\n"
 
--- the lines of all transactions, in order of number
-abbrev pub answer_lines : List ScriptItem → List AnswerView → List ℕ
-answer_lines script answers = flat_map (λ (p : ScriptItem × AnswerView). answer_line manager_name p.0.txn p.1) (zip script answers)
+module _ (run : NetRun) where
+  -- the line of a transaction of a network that is run, where it is answered after these rounds
+  abbrev pub item_line : TrafficItem → List ℕ
+  item_line item = option_map_or (answer_line (node_at run.nodes item.manager).name item.txn) (answer_noted run item.txn.number) []
 
--- the text of a run: its answers, and how many rounds it took
-abbrev pub run_text : List ScriptItem → List AnswerView → ℕ → List ℕ
-run_text script answers rounds = answer_lines script answers ++ rounds_line rounds
+  -- the lines of transactions, in order
+  abbrev pub answer_lines : List TrafficItem → List ℕ
+  answer_lines items = flat_map item_line items
+
+  -- the line of the transaction of this number, counted from 1
+  abbrev pub line_of_number : ℕ → List ℕ
+  line_of_number number = option_map_or item_line (slice_get run.items (number - 1)) []
+
+  -- the text of a run: the answers to all transactions, in order of number, and how many rounds it took
+  unfoldable pub run_text : List ℕ
+  run_text = answer_lines run.items ++ rounds_line run.rounds

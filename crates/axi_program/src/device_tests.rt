@@ -1,13 +1,19 @@
 //! A run over sources and sinks that fail, or that move one byte a call.
 
 use super::*;
-use crate::test_rows::words_of;
+use crate::test_rows::{MEMORY, joined, words_of};
 use std::alloc::Global;
 use std::process::Abort;
 use std::test::Fail;
 
 /// The input: a write, and a read of what it wrote.
-const INPUT: &[u8] = b"%%\nwrite m 1 0x10 4 incr 11223344\nwait m\nread m 2 0x10 4 incr 1\n";
+fn input(alloc: Global) -> Result<Vec<u8>, Fail> {
+    joined(
+        alloc,
+        MEMORY,
+        b"%%\nwrite m 1 0x10 4 incr 11223344\nwait m\nread m 2 0x10 4 incr 1\n",
+    )
+}
 
 /// The first lines of its run: none to all three.
 fn first_lines(count: u64) -> &'static [u8] {
@@ -34,7 +40,7 @@ fn compare(
     Ok(())
 }
 
-/// The call of this number fails of a source that moves 16 bytes a call.
+/// The call of this number fails of a source that moves 64 bytes a call.
 fn source_that_fails(
     rt: &(impl Alloc<A = Global> + Abort),
     call: u64,
@@ -42,7 +48,7 @@ fn source_that_fails(
     lines: u64,
 ) -> Result<(), Fail> {
     let alloc = rt.alloc();
-    let mut source = MemorySource::new(INPUT.to_vec(alloc)?, [call].to_vec(alloc)?, 16);
+    let mut source = MemorySource::new(input(alloc)?, [call].to_vec(alloc)?, 64);
     let mut sink = MemorySink::new(alloc, 100, Vec::new(alloc), 100)?;
     compare(rt, &mut source, &mut sink, status, lines)
 }
@@ -55,14 +61,14 @@ fn sink_that_fails(
     lines: u64,
 ) -> Result<(), Fail> {
     let alloc = rt.alloc();
-    let mut source = MemorySource::new(INPUT.to_vec(alloc)?, Vec::new(alloc), 100);
+    let mut source = MemorySource::new(input(alloc)?, Vec::new(alloc), 100);
     let mut sink = MemorySink::new(alloc, 100, [call].to_vec(alloc)?, 100)?;
     compare(rt, &mut source, &mut sink, status, lines)
 }
 
 #[test]
 fn a_failing_source_is_a_read_fault(rt: HostRuntime) -> Result<(), Fail> {
-    // 64 bytes come in four calls, and the fifth one tells the end.
+    // 201 bytes come in four calls, and one more tells the end.
     for call in 1..6 {
         source_that_fails(&rt, call, Status::ReadFault, 0)?;
     }
@@ -80,7 +86,7 @@ fn a_failing_sink_is_a_write_fault(rt: HostRuntime) -> Result<(), Fail> {
 #[test]
 fn devices_of_one_byte_make_the_same_text(rt: HostRuntime) -> Result<(), Fail> {
     let alloc = rt.alloc();
-    let mut source = MemorySource::new(INPUT.to_vec(alloc)?, Vec::new(alloc), 1);
+    let mut source = MemorySource::new(input(alloc)?, Vec::new(alloc), 1);
     let mut sink = MemorySink::new(alloc, 100, Vec::new(alloc), 1)?;
     compare(&rt, &mut source, &mut sink, Status::Done, 3)
 }
@@ -89,7 +95,7 @@ fn devices_of_one_byte_make_the_same_text(rt: HostRuntime) -> Result<(), Fail> {
 fn a_long_line_is_offered_in_one_call(rt: HostRuntime) -> Result<(), Fail> {
     let alloc = rt.alloc();
     let words = words_of(alloc, &["axinet", "run"])?;
-    let input = b"%%\nread m 0 0x0 4 incr 256\n".to_vec(alloc)?;
+    let input = joined(alloc, MEMORY, b"%%\nread m 0 0x0 4 incr 256\n")?;
     let mut source = MemorySource::new(input, Vec::new(alloc), 100);
     let mut sink = MemorySink::new(alloc, 5000, [2].to_vec(alloc)?, 5000)?;
     let status = axinet(alloc, &words, &mut source, &mut sink, &OpenGate);

@@ -4,20 +4,19 @@
 //! of a phase pass, each with what it promises. Sources and sinks stand in memory and over the runtime's streams, and
 //! one of each never fails. `status` has the answers of the top call.
 //!
-//! `words` has the commands. `document` reads the input of `run`, and `script` its traffic lines to the manager's
-//! script. `preparation` makes an input the `work` that is left then, and takes all memory for it: one line, which `report`
-//! makes of a refusal or a verdict, or a `run`, with the lines of its `trace` where they are asked for. `texts` makes
-//! the lines that the program says. `top` puts them together.
+//! `preparation` reads the words and the input, and takes all memory for the `work` that is left then: one line, which
+//! `report` makes of a refusal or of the verdict on a trace, or a `run` of a network, with the lines of its `trace` where
+//! they are asked for. `texts` makes the lines that the program says. `top` puts them together.
 #![tactic(auto)]
 
 #[cfg(test)]
 mod device_tests;
-mod document;
+#[cfg(test)]
+mod network_tests;
 mod outside;
 mod preparation;
 mod report;
 mod run;
-mod script;
 mod status;
 #[cfg(test)]
 mod test_rows;
@@ -28,10 +27,8 @@ mod top;
 mod trace;
 #[cfg(test)]
 mod trace_tests;
-mod words;
 mod work;
 
-pub use document::{INPUT_LIMIT, read_document};
 pub use outside::gate::{Gate, OpenGate};
 pub use outside::memory_sink::MemorySink;
 pub use outside::memory_source::MemorySource;
@@ -45,5 +42,4 @@ pub use preparation::prepare;
 pub use status::{Ending, Status, Stop};
 pub use texts::{render_broken, render_legal, render_refusal, render_rounds};
 pub use top::axinet;
-pub use words::{Command, command_of};
 pub use work::Work;

@@ -3,41 +3,40 @@
 ghost use Rattle.std.specs.Prelude.{◌≡◌, ◌≤◌, map, string_bytes, length, IfErr, IfOk};
 ghost use Rattle.axi_program.specs.Outcome.{check_outcome, document_outcome, input_outcome, run_outcome};
 ghost use Rattle.axi_program.specs.Preparation.{IsPrepared, Stops};
-ghost use Rattle.axi_program.specs.Words.{command_of as command_by};
 ghost use Rattle.axi_program.specs.Work.{IsWorkOf};
-ghost use Rattle.net_rounds.specs.BuiltIn.{IsTraffic};
+ghost use Rattle.document.specs.Runnable.{IsRunnable};
 
-use crate::document::{INPUT_LIMIT, input_text, read_document};
 use crate::outside::read_all::{InputFault, read_all};
 use crate::outside::source::Source;
 use crate::report::{Report, say};
 use crate::status::Stop;
-use crate::words::{Command, command_of};
 use crate::work::Work;
 use axi_beats::NoMemory;
-use manager_end::Script;
-use net_rounds::Net;
+use command_words::{Choice, Task, WordsFault, read_words};
+use document::{Document, INPUT_LIMIT, input_text, read_document};
+use net_build::Net;
 use plain_text::line_buffer::LineBuffer;
 use refusals::{Cause, DocFault, Refusal};
 use std::alloc::Global;
 use trace_judge::judge;
 
-/// Reads the input where the words name a command, and takes all memory that its outcome needs.
+/// Reads the input where the words are taken, and takes all memory that its outcome needs.
 ///
 /// # Errors
 ///
-/// The words name no command, reading failed, or memory is wanting.
+/// The words are none that the program takes, reading failed, or memory is wanting.
 pub fn prepare<S: Source>(alloc: Global, words: &[String], source: &mut S) -> Result<Work, Stop>
-    ensures work { IfOk result (IsPrepared (command_by (map string_bytes words.now)) S.left source.old source.new) }
-    ensures stop { IfErr result (Stops (command_by (map string_bytes words.now)) S.faults source.old source.new) }
+    ensures work { IfOk result (IsPrepared (map string_bytes words.now) S.left source.old source.new) }
+    ensures stop { IfErr result (Stops (map string_bytes words.now) S.faults source.old source.new) }
     ensures count { S.faults source.old ≤ S.faults source.new }
 {
-    let command = match command_of(words) {
-        Some(command) => command,
-        None => return Err(Stop::Usage),
+    let choice = match read_words(alloc, words) {
+        Ok(choice) => choice,
+        Err(WordsFault::Usage) => return Err(Stop::Usage),
+        Err(WordsFault::NoMemory) => return Err(Stop::NoMemory),
     };
     match read_all(alloc, source, INPUT_LIMIT) {
-        Ok(input) => Ok(work_of_input(alloc, command, &input)?),
+        Ok(input) => Ok(work_of_input(alloc, &choice, &input)?),
         Err(InputFault::TooLong) => Ok(say(
             alloc,
             Report::Refused(Refusal::new(Cause::InputTooLong)),
@@ -47,14 +46,14 @@ pub fn prepare<S: Source>(alloc: Global, words: &[String], source: &mut S) -> Re
     }
 }
 
-// What a command makes of an input.
-fn work_of_input(alloc: Global, command: Command, input: &[u8]) -> Result<Work, NoMemory>
+// What a choice makes of an input.
+fn work_of_input(alloc: Global, choice: &Choice, input: &[u8]) -> Result<Work, NoMemory>
     requires { length input.now ≤ INPUT_LIMIT }
-    ensures { IfOk result (IsWorkOf (input_outcome command input.now)) }
+    ensures { IfOk result (IsWorkOf (input_outcome choice.now input.now)) }
 {
-    match command {
-        Command::Run { trace } => work_of_document(alloc, trace, input),
-        Command::Check => work_of_trace(alloc, input),
+    match choice.task {
+        Task::Run => work_of_document(alloc, choice.trace, input),
+        Task::Check => work_of_trace(alloc, input),
     }
 }
 
@@ -64,19 +63,19 @@ fn work_of_document(alloc: Global, trace: bool, input: &[u8]) -> Result<Work, No
     ensures { IfOk result (IsWorkOf (document_outcome trace input.now)) }
 {
     match read_document(alloc, input) {
-        Ok(script) => work_of_script(alloc, script, trace),
+        Ok(document) => work_of_run(alloc, document, trace),
         Err(DocFault::Refused(refusal)) => say(alloc, Report::Refused(refusal)),
         Err(DocFault::NoMemory) => Err(NoMemory),
     }
 }
 
-// The run of a script on the built-in network.
-fn work_of_script(alloc: Global, script: Script, trace: bool) -> Result<Work, NoMemory>
-    requires { IsTraffic script }
-    ensures { IfOk result (IsWorkOf (run_outcome trace script)) }
+// The run of the network of a document.
+fn work_of_run(alloc: Global, document: Document, trace: bool) -> Result<Work, NoMemory>
+    requires { IsRunnable (record { nodes = document.plan; items = document.traffic }) }
+    ensures { IfOk result (IsWorkOf (run_outcome trace (record { nodes = document.plan; items = document.traffic }))) }
 {
     let line = LineBuffer::new(alloc)?;
-    let net = Net::build(alloc, script)?;
+    let net = Net::build(alloc, document.plan, document.traffic)?;
     Ok(Work::Run { net, line, trace })
 }
 

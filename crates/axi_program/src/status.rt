@@ -24,9 +24,6 @@ pub enum Status {
     WriteFault,
     /// Memory was wanting. Nothing was written.
     NoMemory,
-    /// The rounds of the bound have passed and a transaction is unanswered. The trace was written, where
-    /// one is asked for, and nothing else.
-    Unfinished,
 }
 
 impl Status {
@@ -42,7 +39,6 @@ impl Status {
             Status::ReadFault => 5,
             Status::WriteFault => 6,
             Status::NoMemory => 7,
-            Status::Unfinished => 8,
         }
     }
 }
@@ -56,8 +52,6 @@ pub enum Ending {
     Refused(Refusal),
     /// The trace breaks a rule of a port.
     Broken(TraceFault),
-    /// The rounds of the bound have passed and a transaction is unanswered.
-    Unfinished,
 }
 
 impl Ending {
@@ -69,7 +63,6 @@ impl Ending {
             Ending::Done => Status::Done,
             Ending::Refused(refusal) => Status::Refused(refusal),
             Ending::Broken(fault) => Status::Broken(fault),
-            Ending::Unfinished => Status::Unfinished,
         }
     }
 }

@@ -5,19 +5,29 @@ use std::alloc::Global;
 use std::process::Abort;
 use std::test::Fail;
 
-/// The words of the command line, an input, what the top call answers, and what it writes.
+/// A manager above a memory of 8192 bytes.
+pub const MEMORY: &[u8] = b"version = 1
+node = [
+ {name=\"m\", kind=\"manager\", bus=4, id_width=4, to=\"ram\"},
+ {name=\"ram\", kind=\"memory\", bus=4, base=0, size=8192},
+]
+";
+
+/// The words of the command line, an input in two parts, what the top call answers, and what it writes.
 #[derive(Clone, Copy)]
 pub struct Row {
     pub words: &'static [&'static str],
+    pub topology: &'static [u8],
     pub input: &'static [u8],
     pub status: Status,
     pub written: &'static [u8],
 }
 
-/// The row of an input that is run.
+/// The row of traffic that is run on a manager above a memory.
 pub fn ran(input: &'static [u8], status: Status, written: &'static [u8]) -> Row {
     Row {
         words: &["axinet", "run"],
+        topology: MEMORY,
         input,
         status,
         written,
@@ -28,6 +38,7 @@ pub fn ran(input: &'static [u8], status: Status, written: &'static [u8]) -> Row 
 pub fn judged(input: &'static [u8], status: Status, written: &'static [u8]) -> Row {
     Row {
         words: &["axinet", "check"],
+        topology: b"",
         input,
         status,
         written,
@@ -43,6 +54,13 @@ pub fn words_of(alloc: Global, words: &[&str]) -> Result<Vec<String>, Fail> {
     Ok(owned)
 }
 
+/// A text in two parts.
+pub fn joined(alloc: Global, front: &[u8], rest: &[u8]) -> Result<Vec<u8>, Fail> {
+    let mut bytes = front.to_vec(alloc)?;
+    bytes.extend_from_slice(rest)?;
+    Ok(bytes)
+}
+
 /// Fails where the top call answers anything else than a row has.
 fn call(
     rt: &(impl Alloc<A = Global> + Abort),
@@ -51,7 +69,8 @@ fn call(
 ) -> Result<(), Fail> {
     let alloc = rt.alloc();
     let words = words_of(alloc, row.words)?;
-    let mut source = MemorySource::new(row.input.to_vec(alloc)?, Vec::new(alloc), 50);
+    let input = joined(alloc, row.topology, row.input)?;
+    let mut source = MemorySource::new(input, Vec::new(alloc), 50);
     assert_eq!(rt;
         axinet(alloc, &words, &mut source, sink, &OpenGate),
         row.status

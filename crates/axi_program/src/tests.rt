@@ -1,7 +1,7 @@
 //! Known documents: what the top call answers of each, and what it writes.
 
 use super::*;
-use crate::test_rows::{Row, compare, compare_end, ran, words_of};
+use crate::test_rows::{Row, compare, compare_end, joined, ran, words_of};
 use refusals::{Cause, Refusal};
 use std::alloc::Global;
 use std::process::Abort;
@@ -131,17 +131,9 @@ fn a_bad_line_after_a_large_id() -> Row {
     )
 }
 
-fn a_late_separator() -> Row {
+fn no_separator() -> Row {
     refused(
-        b"\n%%\nwait\n",
-        Refusal::at(Cause::NotBuilt, 0),
-        b"refused 23 NotBuilt 0\n",
-    )
-}
-
-fn no_bytes() -> Row {
-    refused(
-        b"",
+        b"%% \n",
         Refusal::new(Cause::NoSeparator),
         b"refused 3 NoSeparator\n",
     )
@@ -164,8 +156,7 @@ fn documents_are_refused(rt: HostRuntime) -> Result<(), Fail> {
     compare(&rt, &an_unknown_manager())?;
     compare(&rt, &a_pair_too_many())?;
     compare(&rt, &a_bad_line_after_a_large_id())?;
-    compare(&rt, &a_late_separator())?;
-    compare(&rt, &no_bytes())?;
+    compare(&rt, &no_separator())?;
     compare(&rt, &no_text())
 }
 
@@ -220,7 +211,7 @@ fn long_inputs_are_refused(rt: HostRuntime) -> Result<(), Fail> {
 fn compare_sure(rt: &(impl Alloc<A = Global> + Abort), row: &Row) -> Result<(), Fail> {
     let alloc = rt.alloc();
     let words = words_of(alloc, row.words)?;
-    let mut source = SureSource::new(row.input.to_vec(alloc)?);
+    let mut source = SureSource::new(joined(alloc, row.topology, row.input)?);
     let status = axinet(alloc, &words, &mut source, &mut SureSink::new(), &OpenGate);
     assert_eq!(rt; status, row.status);
     Ok(())
@@ -229,6 +220,17 @@ fn compare_sure(rt: &(impl Alloc<A = Global> + Abort), row: &Row) -> Result<(), 
 fn no_command() -> Row {
     Row {
         words: &["axinet"],
+        topology: b"",
+        input: b"%%",
+        status: Status::Usage,
+        written: b"",
+    }
+}
+
+fn too_many_workers() -> Row {
+    Row {
+        words: &["axinet", "run", "--workers=65"],
+        topology: b"",
         input: b"%%",
         status: Status::Usage,
         written: b"",
@@ -238,6 +240,7 @@ fn no_command() -> Row {
 #[test]
 fn nothing_fails_between_a_sure_source_and_a_sure_sink(rt: HostRuntime) -> Result<(), Fail> {
     compare_sure(&rt, &no_command())?;
+    compare_sure(&rt, &too_many_workers())?;
     compare_sure(&rt, &a_wrapping_write())
 }
 

@@ -1,17 +1,18 @@
 //! The trace of a run: the lines of its links, written round by round.
 
-ghost use Rattle.std.specs.Prelude.{◌≡◌, ◌+◌, ◌≤◌, true, OnOk, OnErr};
+ghost use Rattle.std.specs.Prelude.{◌≡◌, ◌<◌, ◌+◌, length, true, OnOk, OnErr};
 ghost use Rattle.std.specs.Io.KnownBytes.{Appends};
+ghost use Rattle.elaborate.specs.Plan.{plan_links};
+ghost use Rattle.net_build.specs.NetRun.{network_of_run};
 ghost use Rattle.axi_program.specs.DeviceBytes.{AppendsPrefix};
 ghost use Rattle.axi_program.specs.Faults.{HasCause};
 ghost use Rattle.axi_program.specs.Text.{where_asked};
-ghost use Rattle.axi_program.specs.Trace.{is_shown as shows, port_line, round_lines};
+ghost use Rattle.axi_program.specs.Trace.{link_line, round_lines};
 
 use crate::outside::sink::Sink;
 use crate::outside::source::Failed;
 use crate::outside::write_all::write_piece;
-use axi_history::PortRound;
-use net_rounds::Net;
+use net_build::Net;
 use plain_text::line_buffer::LineBuffer;
 use trace_text::render_round;
 
@@ -24,9 +25,9 @@ pub fn write_round<K: Sink>(
 ) -> Result<(), Failed>
     requires { net.now.decided ≡ true }
     ensures ok { OnOk result (Appends (K.written sink.old) (K.written sink.new)
-        (where_asked trace (round_lines (net.now.rounds + 1) net.now.network))) }
+        (where_asked trace (round_lines (net.now.rounds + 1) (network_of_run net.now)))) }
     ensures err { OnErr result (AppendsPrefix (K.written sink.old) (K.written sink.new)
-        (where_asked trace (round_lines (net.now.rounds + 1) net.now.network))) }
+        (where_asked trace (round_lines (net.now.rounds + 1) (network_of_run net.now)))) }
     ensures cause { HasCause (K.faults sink.old) (K.faults sink.new) result }
 {
     if !trace {
@@ -35,43 +36,40 @@ pub fn write_round<K: Sink>(
     write_links(net, line, sink)
 }
 
-/// Writes the lines of the links in the round in which the nodes have decided.
+/// Writes the lines of all links in the round in which the nodes have decided.
 fn write_links<K: Sink>(net: &Net, line: &mut LineBuffer, sink: &mut K) -> Result<(), Failed>
     requires { net.now.decided ≡ true }
     ensures ok { OnOk result (Appends (K.written sink.old) (K.written sink.new)
-        (round_lines (net.now.rounds + 1) net.now.network)) }
+        (round_lines (net.now.rounds + 1) (network_of_run net.now))) }
     ensures err { OnErr result (AppendsPrefix (K.written sink.old) (K.written sink.new)
-        (round_lines (net.now.rounds + 1) net.now.network)) }
+        (round_lines (net.now.rounds + 1) (network_of_run net.now))) }
     ensures cause { HasCause (K.faults sink.old) (K.faults sink.new) result }
 {
     for number in 0..net.links() {
-        let port = net.port(number);
-        write_port(&port, line, sink)?;
+        write_link(net, number, line, sink)?;
     }
     Ok(())
 }
 
-/// Writes the line of a port in a round, where it has one.
-fn write_port<K: Sink>(port: &PortRound, line: &mut LineBuffer, sink: &mut K) -> Result<(), Failed>
-    requires { port.now.kind.bus ≤ 128 }
-    ensures ok { OnOk result (Appends (K.written sink.old) (K.written sink.new) (port_line port.now)) }
-    ensures err { OnErr result (AppendsPrefix (K.written sink.old) (K.written sink.new) (port_line port.now)) }
+/// Writes the line of a link in the round in which the nodes have decided, where it has one. A link that offers nothing
+/// is passed over before its port is made, for most links are idle in most rounds.
+fn write_link<K: Sink>(
+    net: &Net,
+    number: u32,
+    line: &mut LineBuffer,
+    sink: &mut K,
+) -> Result<(), Failed>
+    requires decided { net.now.decided ≡ true }
+    requires known { number < length (plan_links net.now.nodes) }
+    ensures ok { OnOk result (Appends (K.written sink.old) (K.written sink.new)
+        (link_line (net.now.rounds + 1) (network_of_run net.now) number)) }
+    ensures err { OnErr result (AppendsPrefix (K.written sink.old) (K.written sink.new)
+        (link_line (net.now.rounds + 1) (network_of_run net.now) number)) }
     ensures cause { HasCause (K.faults sink.old) (K.faults sink.new) result }
 {
-    if !is_shown(port) {
+    if !net.offers(number) {
         return Ok(());
     }
-    render_round(line, port);
+    render_round(line, &net.port(number));
     write_piece(sink, line.bytes())
-}
-
-/// Whether some channel offers a beat.
-fn is_shown(port: &PortRound) -> bool
-    ensures { result ≡ shows port.now }
-{
-    port.aw.is_some()
-        || port.w.is_some()
-        || port.b.is_some()
-        || port.ar.is_some()
-        || port.r.is_some()
 }

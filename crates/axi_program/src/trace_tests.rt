@@ -1,7 +1,7 @@
 //! Traced runs and judged traces through the top call.
 
 use super::*;
-use crate::test_rows::{Row, compare, judged};
+use crate::test_rows::{MEMORY, Row, compare, judged};
 use refusals::{Cause, Refusal};
 use std::test::Fail;
 use trace_judge::TraceFault;
@@ -9,6 +9,7 @@ use trace_judge::TraceFault;
 fn a_traced_run() -> Row {
     Row {
         words: &["axinet", "run", "--trace=all"],
+        topology: MEMORY,
         input: b"%%\nwrite m 1 0x10 4 incr 11223344\nwait m\nread m 2 0x10 4 incr 1\n",
         status: Status::Done,
         written: b"2 0 axi 4 +1,10,0,2,1,0,1:0:0 - - - -
@@ -27,6 +28,7 @@ rounds 9
 fn a_run_without_traffic() -> Row {
     Row {
         words: &["axinet", "run", "--trace=all"],
+        topology: MEMORY,
         input: b"%%\n",
         status: Status::Done,
         written: b"%%\nrounds 0\n",
@@ -36,6 +38,7 @@ fn a_run_without_traffic() -> Row {
 fn a_run_without_a_trace() -> Row {
     Row {
         words: &["axinet", "run", "--trace=none"],
+        topology: MEMORY,
         input: b"%%\n",
         status: Status::Done,
         written: b"rounds 0\n",
@@ -45,6 +48,7 @@ fn a_run_without_a_trace() -> Row {
 fn an_unknown_option() -> Row {
     Row {
         words: &["axinet", "run", "--trace=some"],
+        topology: MEMORY,
         input: b"%%\n",
         status: Status::Usage,
         written: b"",

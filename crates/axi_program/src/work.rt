@@ -9,7 +9,7 @@ use crate::outside::source::Failed;
 use crate::outside::write_all::write_piece;
 use crate::run::run;
 use crate::status::Ending;
-use net_rounds::Net;
+use net_build::Net;
 use plain_text::line_buffer::LineBuffer;
 
 /// What an input comes to, ready to be written. It holds all memory that this takes.

@@ -1,10 +1,12 @@
 //! Traces judged by hand.
 
 use super::*;
-use rule_rows::{ADDRESSES, ANSWERS, DATA, HANDSHAKES, RuleRow};
+use answer_rows::{ANSWERS, DATA};
+use rule_rows::{ADDRESSES, HANDSHAKES, RuleRow};
 use std::process::Abort;
 use std::test::Fail;
 
+mod answer_rows;
 mod rule_rows;
 
 /// A trace and the verdict on it.

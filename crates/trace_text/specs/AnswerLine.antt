@@ -5,8 +5,8 @@ use Rattle.axi_beats.specs.declared.beat.Addr.{Addr}
 use Rattle.axi_beats.specs.declared.response.Resp.{Resp}
 use Rattle.axi_beats.specs.declared.response.Resp.TheVariants.{Okay, SlvErr, DecErr}
 use Rattle.burst_address.specs.Bytes.{beat_bytes}
-use Rattle.manager_end.specs.Answer.{AnswerView}
-use Rattle.manager_end.specs.declared.script.Txn.{Txn}
+use Rattle.manager_node.specs.Answer.{AnswerView}
+use Rattle.manager_node.specs.declared.script.Txn.{Txn}
 use Rattle.plain_text.specs.Printing.{pairs}
 
 -- how a response is written

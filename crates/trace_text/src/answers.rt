@@ -7,7 +7,7 @@ ghost use Rattle.trace_text.specs.AnswerLine.{answer_line, beat_text, direction,
 
 use axi_beats::{Addr, Resp};
 use burst_address::beat_count;
-use manager_end::{Answer, Txn};
+use manager_node::{Answer, Txn};
 use plain_text::line_buffer::LineBuffer;
 
 /// Replaces the bytes of the buffer by the line of a transaction and its answer and a line feed. Takes

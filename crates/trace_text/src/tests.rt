@@ -7,8 +7,8 @@ use crate::{LineBuffer, read_trace_line, render_answers, render_round};
 use axi_beats::{Addr, Burst, Lanes, NoMemory, RBeat, Resp};
 use axi_link::{Link, Out};
 use burst_address::legal;
-use manager_end::{Manager, Script, Txn};
-use node_core::set_put;
+use manager_node::{ManagerNode, Script, Txn};
+use node_core::{Step, set_put};
 use std::alloc::Global;
 use std::process::Abort;
 use std::test::Fail;
@@ -106,17 +106,17 @@ fn one_read(rt: &impl Abort, alloc: Global, request: Addr) -> Result<Script, NoM
 }
 
 /// A manager on a bus of 4 bytes that reads once.
-fn reader(rt: &impl Abort, alloc: Global, request: Addr) -> Result<Manager, NoMemory>
+fn reader(rt: &impl Abort, alloc: Global, request: Addr) -> Result<ManagerNode, NoMemory>
     ensures lower { IfOk result (λ manager. manager.state.lower ≡ 0) }
     ensures count { IfOk result (λ manager. length manager.state.script ≡ 1) }
 {
     let script = one_read(rt, alloc, request)?;
-    Manager::new(alloc, script, 0, 4, &[0], &[0])
+    ManagerNode::new(alloc, script, 0, 4, &[0], &[0])
 }
 
 /// Decides a round in which the link below offers this data beat.
 fn decide(
-    manager: &mut Manager,
+    manager: &mut ManagerNode,
     alloc: Global,
     round: u64,
     beat: Option<RBeat>,

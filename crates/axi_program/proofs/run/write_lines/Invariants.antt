@@ -6,5 +6,5 @@ use Rattle.axi_program.proofs.run.write_lines.Given as goal
 -- the lines before this place are written
 abbrev pub invariant-loop-place : goal.invariant-loop-place
 invariant-loop-place g l =
-    Appends (g.K.Sink.written l.initial.sink) (g.K.Sink.written l.sink) (answer_lines (take l.place l.manager.state.script) (take l.place l.manager.state.answers))
+    Appends (g.K.Sink.written l.initial.sink) (g.K.Sink.written l.sink) (answer_lines l.net (take l.place l.net.items))
     × (g.K.Sink.faults l.initial.sink ≤ g.K.Sink.faults l.sink)

@@ -1,0 +1,2 @@
+pub mod RunnableLemmas
+pub mod TextLemmas

@@ -1,0 +1,3 @@
+-- What a document asks for, or why it is refused.
+pub mod Document
+pub mod Runnable

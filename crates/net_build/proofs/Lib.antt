@@ -1,0 +1,14 @@
+pub mod AnswerLemmas
+pub mod BurstLemmas
+pub mod BusLemmas
+pub mod ItemLemmas
+pub mod KeptLemmas
+pub mod LinkLemmas
+pub mod MadeLemmas
+pub mod NetLemmas
+pub mod NoteLemmas
+pub mod ShortLemmas
+pub mod SourceLemmas
+pub mod StandLemmas
+pub mod TellLemmas
+pub mod WidestLemmas

@@ -1,0 +1,7 @@
+pub mod NetInside
+pub mod NetRun
+pub mod Noted
+pub mod Notes
+pub mod Shown
+pub mod Source
+pub mod Stands

@@ -1,0 +1,179 @@
+//! A node of a network for each part of a plan, with the keys of the document and what the traffic asks.
+
+ghost use Rattle.std.specs.Prelude.{◌≡◌, ◌<◌, All, IfOk, length, map};
+ghost use Rattle.elaborate.specs.Plan.{plan_link_at, plan_links, plan_node_at, plan_nodes};
+ghost use Rattle.elaborate.specs.declared.part.Part.TheVariants as part;
+ghost use Rattle.net_build.specs.Source.{IsSource};
+ghost use Rattle.net_kinds.specs.NodeKind.{node_view};
+ghost use Rattle.net_opening.specs.Opening.{state_at, state_by_part};
+ghost use Rattle.node_core.specs.Acted.{opened};
+ghost use Rattle.topology.specs.Document.{node_at, widest};
+
+use crate::ends::{link_into, link_out_of, links_into, links_out_of};
+use crate::lines::lines_touched;
+use crate::ranges::{map_of, memory_ranges};
+use crate::source::Source;
+use axi_beats::NoMemory;
+use demux_node::DemuxNode;
+use elaborate::{Part, Plan};
+use error_node::ErrorNode;
+use manager_node::ManagerNode;
+use memory_node::{MemoryConfig, MemoryNode};
+use mux_node::MuxNode;
+use net_kinds::Node;
+use slice_node::SliceNode;
+use std::alloc::{AllocError, Global};
+use topology::Wiring;
+
+/// The plan node of a number as its kind begins. A part that can't be run yet stands as a slice.
+pub(crate) fn node_of(alloc: Global, source: &Source<'_>, number: u32) -> Result<Node, NoMemory>
+    requires source { IsSource source.now.plan.now source.now.traffic.now source.now.targets.now }
+    requires known { number < length (plan_nodes source.now.plan.now) }
+    ensures { IfOk result (λ node. node_view node ≡ opened (state_at source.now.plan.now source.now.traffic.now number)) }
+{
+    match source.plan.part(number) {
+        Part::Manager => manager_node(alloc, source, number),
+        Part::Memory => memory_node(alloc, source, number),
+        Part::Mux => mux_node(alloc, source, number),
+        Part::Demux => demux_node(alloc, source, number),
+        Part::Error => error_node(alloc, source, number),
+        Part::LiteMemory
+        | Part::Slice
+        | Part::Remap
+        | Part::Split
+        | Part::Up
+        | Part::Down
+        | Part::Lite => slice_node(alloc, source, number),
+    }
+}
+
+// A slice between its two links.
+fn slice_node(alloc: Global, source: &Source<'_>, number: u32) -> Result<Node, NoMemory>
+    ensures { IfOk result (λ node. node_view node ≡ opened (state_by_part source.now.plan.now source.now.traffic.now number part.Slice)) }
+{
+    let upper = link_into(alloc, source.plan, number)?;
+    let lower = link_out_of(alloc, source.plan, number)?;
+    Ok(Node::Slice(SliceNode::new(upper, lower)))
+}
+
+// An error subordinate below its link.
+fn error_node(alloc: Global, source: &Source<'_>, number: u32) -> Result<Node, NoMemory>
+    ensures { IfOk result (λ node. node_view node ≡ opened (state_by_part source.now.plan.now source.now.traffic.now number part.Error)) }
+{
+    let upper = link_into(alloc, source.plan, number)?;
+    let node = ErrorNode::new(upper);
+    Ok(Node::Error(boxed(alloc, node)?))
+}
+
+// A mux, with room for the widest IDs of its inputs.
+fn mux_node(alloc: Global, source: &Source<'_>, number: u32) -> Result<Node, NoMemory>
+    requires source { IsSource source.now.plan.now source.now.traffic.now source.now.targets.now }
+    requires known { number < length (plan_nodes source.now.plan.now) }
+    requires mux { (plan_node_at source.now.plan.now number).part ≡ part.Mux }
+    ensures { IfOk result (λ node. node_view node ≡ opened (state_by_part source.now.plan.now source.now.traffic.now number part.Mux)) }
+{
+    let uppers = links_into(alloc, source.plan, number)?;
+    let lower = link_out_of(alloc, source.plan, number)?;
+    let width = widest(source.plan, &uppers);
+    Ok(Node::Mux(MuxNode::new(&uppers, lower, width)))
+}
+
+// The widest IDs of some links.
+fn widest(plan: &Plan, links: &[u32]) -> u8
+    requires { All (λ link. link < length (plan_links plan.now)) links.now }
+    ensures { result ≡ widest (map (λ link. (plan_link_at plan.now link).link) links.now) }
+{
+    let mut most = 0;
+    for link in links {
+        most = most.max(plan.id_width(*link));
+    }
+    most
+}
+
+// A demux, with the regions of its document node.
+fn demux_node(alloc: Global, source: &Source<'_>, number: u32) -> Result<Node, NoMemory>
+    requires source { IsSource source.now.plan.now source.now.traffic.now source.now.targets.now }
+    requires known { number < length (plan_nodes source.now.plan.now) }
+    requires demux { (plan_node_at source.now.plan.now number).part ≡ part.Demux }
+    ensures { IfOk result (λ node. node_view node ≡ opened (state_by_part source.now.plan.now source.now.traffic.now number part.Demux)) }
+{
+    let upper = link_into(alloc, source.plan, number)?;
+    let lowers = links_out_of(alloc, source.plan, number)?;
+    let document = source.plan.document(number);
+    let map = map_of(alloc, source.plan.wiring(), document)?;
+    let node = DemuxNode::new(upper, &lowers, map);
+    Ok(Node::Demux(boxed(alloc, node)?))
+}
+
+// A manager, with the transactions of its document node.
+fn manager_node(alloc: Global, source: &Source<'_>, number: u32) -> Result<Node, NoMemory>
+    requires source { IsSource source.now.plan.now source.now.traffic.now source.now.targets.now }
+    requires known { number < length (plan_nodes source.now.plan.now) }
+    requires manager { (plan_node_at source.now.plan.now number).part ≡ part.Manager }
+    ensures { IfOk result (λ node. node_view node ≡ opened (state_by_part source.now.plan.now source.now.traffic.now number part.Manager)) }
+{
+    let wiring = source.plan.wiring();
+    let document = source.plan.document(number);
+    let script = source.traffic.script(alloc, document)?;
+    let lower = link_out_of(alloc, source.plan, number)?;
+    let node = ManagerNode::new(
+        alloc,
+        script,
+        lower,
+        wiring.bus(document),
+        wiring.accept(document),
+        wiring.give(document),
+    )?;
+    Ok(Node::Manager(boxed(alloc, node)?))
+}
+
+// A memory, which keeps the lines that the traffic touches.
+fn memory_node(alloc: Global, source: &Source<'_>, number: u32) -> Result<Node, NoMemory>
+    requires source { IsSource source.now.plan.now source.now.traffic.now source.now.targets.now }
+    requires known { number < length (plan_nodes source.now.plan.now) }
+    requires memory { (plan_node_at source.now.plan.now number).part ≡ part.Memory }
+    ensures { IfOk result (λ node. node_view node ≡ opened (state_by_part source.now.plan.now source.now.traffic.now number part.Memory)) }
+{
+    let wiring = source.plan.wiring();
+    let document = source.plan.document(number);
+    let read_only = memory_ranges(alloc, wiring.read_only(document))?;
+    let hole = memory_ranges(alloc, wiring.hole(document))?;
+    let upper = link_into(alloc, source.plan, number)?;
+    let touched = lines_touched(alloc, source, number)?;
+    let node = MemoryNode::new(
+        alloc,
+        memory_config(wiring, document),
+        &read_only,
+        &hole,
+        wiring.accept(document),
+        wiring.give(document),
+        upper,
+        &touched,
+    )?;
+    Ok(Node::Memory(boxed(alloc, node)?))
+}
+
+// What the keys of a document node say of a memory.
+fn memory_config(wiring: &Wiring, document: u32) -> MemoryConfig
+    requires { document < length wiring.now }
+    ensures { result ≡ record {
+      base = (node_at wiring.now document).base;
+      size = (node_at wiring.now document).size;
+      bus = (node_at wiring.now document).bus;
+      fill = (node_at wiring.now document).fill;
+    } }
+{
+    MemoryConfig {
+        base: wiring.base(document),
+        size: wiring.size(document),
+        bus: wiring.bus(document),
+        fill: wiring.fill(document),
+    }
+}
+
+// A value in a block of its own.
+fn boxed<T: Drop>(alloc: Global, value: T) -> Result<Box<T>, AllocError>
+    ensures { IfOk result (λ boxed. boxed.value ≡ value) }
+{
+    Ok(Box::new(alloc, value)?)
+}

@@ -1,9 +1,0 @@
-pub mod WordCounts
-pub mod LesserLemmas
-pub mod BuildLemmas
-pub mod FormLemmas
-pub mod BurstLemmas
-pub mod AcceptLemmas
-pub mod KnownLemmas
-mod KnownValues
-pub mod LeastLemmas
