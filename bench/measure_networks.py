@@ -12,6 +12,7 @@ import os
 import re
 import subprocess
 import sys
+import tempfile
 
 from counts import ENVIRONMENT, PROGRAM, can_count, instructions, rounds_of
 
@@ -106,13 +107,27 @@ def node_round(program, nodes, made):
     return (many[0] - few[0]) / (rounds_of(many[1]) - rounds_of(few[1])) / nodes
 
 
+def held(process, program):
+    """The kilobytes that a process of this program has held at most so far, 0 where it is gone or doesn't run it yet."""
+    try:
+        with open('/proc/%d/status' % process) as status:
+            found = re.search(r'VmHWM:\s+(\d+)', status.read())
+        is_program = os.readlink('/proc/%d/exe' % process) == os.path.realpath(program)
+    except OSError:
+        return 0
+    return int(found.group(1)) if found and is_program else 0
+
+
 def kilobytes(program, data):
-    """The most memory that a run holds."""
-    done = subprocess.run(['/usr/bin/env', 'python3', '-c',
-                           'import resource,subprocess,sys;subprocess.run(sys.argv[1:],stdin=sys.stdin,stdout=subprocess.DEVNULL);'
-                           'print(resource.getrusage(resource.RUSAGE_CHILDREN).ru_maxrss)', program, 'run'],
-                          input=data, capture_output=True, env=ENVIRONMENT)
-    return int(re.findall(rb'\d+', done.stdout)[-1])
+    """The most memory that a run holds, as it is seen while the run goes on."""
+    most = 0
+    with tempfile.TemporaryFile() as given:
+        given.write(data)
+        given.seek(0)
+        run = subprocess.Popen([program, 'run'], stdin=given, stdout=subprocess.DEVNULL, env=ENVIRONMENT)
+        while run.poll() is None:
+            most = max(most, held(run.pid, program))
+    return most
 
 
 def line(name, nodes, own, other):
