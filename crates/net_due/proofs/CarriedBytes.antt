@@ -1,17 +1,19 @@
 -- What a link carries of a transaction, byte by byte, is what its request and its script say.
-use Rattle.std.proofs.Common.{◌≡◌, ◌<◌, ◌≤◌, ◌+◌, ◌-◌, ◌&&◌, ◌∷◌, [], ◌++◌, ℕ, zero, suc, Bool, true, false, cond, List, Some, None, append-nil, append_assoc, length, length-append, refl, sym, ap, ap₂, ◌∙◌, subst, arith, add-one}
-use Rattle.std.specs.Prelude.{flat_map, map, nat_le, nat_lt, slice_get, slice_index, zip}
+use Rattle.std.proofs.Common.{◌≡◌, ◌≤◌, ◌+◌, ◌-◌, ◌*◌, ◌/◌, ◌%◌, ◌^◌, ◌==◌, ◌&&◌, inl, inr, ◌∷◌, [], ◌++◌, ℕ, zero, suc, Bool, false, cond, List, Some, None, append-nil, append_assoc, length, length-append, refl, sym, ap, ap₂, ◌∙◌, subst, arith, add-one}
+use Rattle.std.specs.Prelude.{IsTrue, flat_map, map, nat_le, nat_lt, slice_index, slice_index_or, zip}
 use Rattle.std.specs.Int.{bit_at}
 use Rattle.std.specs.List.{range_with_len}
-use Rattle.std.proofs.lemmas.Bool.{and_from, eqb-true, le-leb, lt-ltb}
+use Rattle.std.proofs.Math.Nat.{div-mul-le_self, mod-eq-sub-div-mul}
+use Rattle.std.proofs.lemmas.Bool.{and_from, and_parts, cases_lt, eqb-true, le-leb, lt-ltb, ltb-true}
+use Rattle.std.proofs.lemmas.Nat.Bits.{bit_at_above}
 use Rattle.std.proofs.lemmas.List.{map-append}
 use Rattle.std.proofs.lemmas.List.Concat.{flat_map-append}
-use Rattle.std.proofs.lemmas.List.FromFn.{get_or-map-range_with_len, length-map-range_with_len}
 use Rattle.std.proofs.lemmas.Option.{get_or_from_slice_get, slice_get_within}
 use Rattle.std.proofs.lemmas.Simd.{map-map}
 use Rattle.axi_beats.specs.Bus.{IsBusWidth}
 use Rattle.axi_beats.specs.declared.beat.Addr.{Addr}
 use Rattle.axi_beats.specs.declared.beat.WBeat.{WBeat}
+use Rattle.axi_history.specs.PortRules.{strobes_within}
 use Rattle.axi_history.specs.Records.{NamedByte}
 use Rattle.axi_trail.specs.LinkContracts.{without_id}
 use Rattle.burst_address.proofs.Alone.{burst-alone, written-alone}
@@ -21,13 +23,15 @@ use Rattle.burst_address.proofs.Written.{written-more, written-past}
 use Rattle.burst_address.specs.Bytes.{Byte, beat_bytes, beat_written, burst_bytes, bytes_before, bytes_with, written_bytes}
 use Rattle.burst_address.specs.Formulas.{beats_of}
 use Rattle.burst_address.specs.LaneLaws.{AllStrobeValidLanes, StrobesValidLanes}
-use Rattle.burst_address.specs.Lanes.{first_lane, last_lane, strobed_lanes, valid_span, word_address}
+use Rattle.burst_address.specs.Lanes.{first_lane, is_valid, last_lane, strobed_lanes, valid_span, word_address}
 use Rattle.burst_address.specs.Legal.{IsLegal}
-use Rattle.manager_node.proofs.DataLaws.{data-strobes_valid_lanes, data-writes_its_bytes}
-use Rattle.manager_node.specs.Beats.{data_beat, data_beats, item_request, strobed_value}
+use Rattle.manager_node.proofs.DataLaws.{data-writes_its_bytes}
+use Rattle.manager_node.proofs.StrobeLemmas.{shifted-below}
+use Rattle.manager_node.specs.Beats.{data_beats, item_request, strobed_value}
 use Rattle.manager_node.specs.BurstLaws.{SendsItsBytes}
 use Rattle.manager_node.specs.Script.{ScriptItem}
 use Rattle.net_history.specs.Due.{byte_named, strobed_of_beat, wanted_of_beat}
+use Rattle.node_shape.specs.LegalSchedule.{IsDataOf}
 use Rattle.node_shape.specs.LinkForm.{LinkForm, bytes_within}
 use Rattle.plain_lists.proofs.RangeLemmas.{range-more}
 use Rattle.subordinate.specs.Parts.{BeatOf, beats_of_parts}
@@ -37,14 +41,6 @@ shifted word a zero = refl
 shifted word a (suc n) =
     let next : word + (a + 1) ≡ word + a + 1 = omega arith in
     ap (λ (rest : List ℕ). (word + a) ∷ rest) (shifted word (a + 1) n ∙ ap (λ b. range_with_len b n) next)
-
--- what stands at a place of a list that is made number by number
-made-at : {X : Type 0} (f : ℕ → X) (n k : ℕ) (x : X) → slice_get (map f (range_with_len 0 n)) k ≡ Some x → (k < n) × (f k ≡ x)
-made-at f n k x at =
-    let long = length-map-range_with_len f 0 n in
-    let within : k < n = omega (arith, long, slice_get_within (map f (range_with_len 0 n)) k x at) in
-    let same : 0 + k ≡ k = omega arith in
-    (within, sym (get_or-map-range_with_len f 0 n k k x within same) ∙ get_or_from_slice_get (map f (range_with_len 0 n)) k x x at)
 
 -- ---- the bytes of a burst on a bus, of which `may` tells which may be accessed
 
@@ -135,23 +131,36 @@ module _ (bus : ℕ) (width : IsBusWidth bus) (a : Addr) (legal : IsLegal a bus)
 abbrev pub part_of : ScriptItem → Addr
 part_of item = without_id (item_request item)
 
+-- strobes from a lane on, and up to another one, stand on these lanes
+within-lanes : (low high strobe lane : ℕ) → low ≤ high → IsTrue (strobes_within low high strobe) → bit_at strobe lane ≡ 1 → IsTrue (nat_le low lane && nat_lt lane (low + (high - low + 1)))
+within-lanes low high strobe lane order within set =
+    let ends = and_parts (strobe % 2 ^ low == 0) (nat_lt strobe (2 ^ (high + 1))) within in
+    let from : low ≤ lane = elim (cases_lt lane low) [
+      | inl below ↦
+          let whole : strobe ≡ strobe / 2 ^ low * 2 ^ low =
+          omega (arith, div-mul-le_self strobe (2 ^ low), mod-eq-sub-div-mul strobe (2 ^ low), eqb-true (strobe % 2 ^ low) 0 ends.0) in
+          let clear : bit_at strobe lane ≡ 0 = ap (λ (n : ℕ). bit_at n lane) whole ∙ shifted-below (strobe / 2 ^ low) low lane below in
+          absurd (omega (arith, set, clear))
+      | inr past ↦ past
+    ] in
+    let to : lane ≤ high = elim (cases_lt high lane) [
+      | inl above ↦
+          let clear = bit_at_above strobe (high + 1) lane (ltb-true strobe (2 ^ (high + 1)) ends.1) (omega (arith, above)) in
+          absurd (omega (arith, set, clear))
+      | inr below ↦ below
+    ] in
+    and_from (nat_le low lane) (nat_lt lane (low + (high - low + 1))) (le-leb low lane from) (lt-ltb lane (low + (high - low + 1)) (omega (arith, to, order)))
+
+-- the data of a burst strobes valid lanes alone
+pub valid-of : (bus : ℕ) (a : Addr) (ws : List WBeat) → IsBusWidth bus → IsLegal a bus → IsDataOf bus a ws → AllStrobeValidLanes bus a 0 ws
+valid-of bus a ws width legal is k w at lane within strobed =
+    let same : k ≡ 0 + k = omega arith in
+    let there : slice_index_or ws k w ≡ w = get_or_from_slice_get ws k w w at in
+    let strobes = subst (λ (b : WBeat). IsTrue (strobes_within (first_lane a k bus) (last_lane a k bus) b.strobe)) there (is.strobes k w (slice_get_within ws k w at)) in
+    subst (λ (n : ℕ). IsTrue (is_valid a n bus lane)) same
+    (within-lanes (first_lane a k bus) (last_lane a k bus) w.strobe lane (lanes-ordered a k bus width legal) strobes (eqb-true (bit_at w.strobe lane) 1 strobed))
+
 module _ (bus : ℕ) (item : ScriptItem) (sends : SendsItsBytes bus item) where
-  pub data-long : length (data_beats item bus) ≡ beats_of (part_of item)
-  data-long = length-map-range_with_len (data_beat item bus) 0 (beats_of item.txn.request)
-
-  beat-valid : (k : ℕ) (w : WBeat) → slice_get (data_beats item bus) k ≡ Some w → StrobesValidLanes bus (part_of item) k w
-  beat-valid k w at lane within strobed =
-      let made = made-at (data_beat item bus) (beats_of item.txn.request) k w at in
-      let bit : bit_at (data_beat item bus k).strobe lane ≡ 1 = ap (λ (b : WBeat). bit_at b.strobe lane) made.1 ∙ eqb-true (bit_at w.strobe lane) 1 strobed in
-      let valid = data-strobes_valid_lanes item bus k lane sends made.0 bit in
-      on (first_lane item.txn.request k bus) (last_lane item.txn.request k bus) valid.0 valid.1
-    where
-      on : (low high : ℕ) → low ≤ lane → lane ≤ high → (nat_le low lane && nat_lt lane (low + (high - low + 1))) ≡ true
-      on low high from to = and_from _ _ (le-leb low lane from) (lt-ltb lane (low + (high - low + 1)) (omega (arith, from, to)))
-
-  pub data-valid : AllStrobeValidLanes bus (part_of item) 0 (data_beats item bus)
-  data-valid k w at = let same : k ≡ 0 + k = omega arith in subst (λ n. StrobesValidLanes bus (part_of item) n w) same (beat-valid k w at)
-
   -- what they write is what the script strobes
   pub data-written : written_bytes bus (part_of item) (data_beats item bus) ≡ bytes_with (burst_bytes item.txn.request) (map strobed_value item.bytes)
   data-written = written-alone bus item.txn.request (part_of item).id (part_of item).tag (data_beats item bus) ∙ data-writes_its_bytes item bus sends

@@ -1,6 +1,6 @@
 -- A transaction of a plan's network is the one that is due by the plan.
-use Rattle.std.proofs.Common.{◌≡◌, ◌∷◌, [], ℕ, Bool, true, false, cond, List, Option, Some, None, length, refl, sym, ap, ap₂, ◌∙◌, subst, inl, inr}
-use Rattle.std.specs.Prelude.{flat_map, map, zip}
+use Rattle.std.proofs.Common.{◌≡◌, ◌∷◌, [], ℕ, Bool, true, false, cond, List, Option, Some, None, length, refl, sym, ap, ap₂, ◌∙◌, subst, inl, inr, arith}
+use Rattle.std.specs.Prelude.{All, flat_map, map, zip}
 use Rattle.std.specs.List.{range_with_len}
 use Rattle.std.proofs.lemmas.Bool.{cases_Bool}
 use Rattle.axi_beats.specs.Bus.{IsBusWidth}
@@ -9,26 +9,26 @@ use Rattle.axi_beats.specs.declared.beat.WBeat.{WBeat}
 use Rattle.axi_beats.specs.declared.response.Resp.{Resp}
 use Rattle.axi_beats.specs.declared.response.Resp.TheVariants.{DecErr}
 use Rattle.axi_history.specs.Records.{NamedByte, Transaction}
-use Rattle.burst_address.specs.Bytes.{Byte, beat_bytes, burst_bytes}
+use Rattle.burst_address.specs.Bytes.{Byte, beat_bytes, burst_bytes, written_bytes}
 use Rattle.burst_address.specs.Formulas.{beats_of}
+use Rattle.burst_address.specs.LaneLaws.{AllStrobeValidLanes}
 use Rattle.burst_address.specs.Legal.{IsLegal}
 use Rattle.burst_address.specs.Status.{worst_among}
 use Rattle.elaborate.specs.Plan.{first_part, plan_node_at}
 use Rattle.elaborate.specs.declared.part.Part.{Part}
 use Rattle.elaborate.specs.declared.part.Part.TheVariants as part
 use Rattle.error_node.specs.ErrorTable.{error_service}
-use Rattle.manager_node.specs.Beats.{data_beats}
 use Rattle.manager_node.specs.BurstLaws.{SendsItsBytes}
 use Rattle.manager_node.specs.ManagerState.{ManagerState}
 use Rattle.manager_node.specs.Script.{ScriptItem}
 use Rattle.memory_node.specs.MemoryTable.{memory_service}
 use Rattle.memory_node.specs.Status.{may_read, may_write, read_status, write_status}
 use Rattle.net_due.proofs.ByteStatuses.{given-same, map-same, may-read, may-write, written-same}
-use Rattle.net_due.proofs.CarriedBytes.{data-long, data-valid, data-written, named, part-bytes, part_of, strobed-are, wanted-are}
+use Rattle.net_due.proofs.CarriedBytes.{data-written, named, part-bytes, part_of, strobed-are, valid-of, wanted-are}
 use Rattle.net_due.proofs.CarriedStatuses.{beat-responses, error-reads, error-write, memory-reads, memory-write}
 use Rattle.net_due.proofs.ErrorFills.{error-fill}
 use Rattle.net_due.proofs.Targets.{IsPlanned, at-target, end, sound, starts, suits, target, target-is, target-kind, target-less}
-use Rattle.net_due.proofs.WayForms.{end-bus, end-data, end-full, end-parts, responses-are}
+use Rattle.net_due.proofs.WayForms.{EndData, end-data, end-fits, end-full, end-parts, end-written, responses-are}
 use Rattle.net_history.proofs.EndLemmas.{end-known}
 use Rattle.net_history.proofs.ItemLemmas.{among}
 use Rattle.net_history.proofs.ManagerRuns.{begins}
@@ -46,14 +46,14 @@ use Rattle.net_plan.specs.PlanLaws.{CanRun}
 use Rattle.net_ways.specs.Sound.{IsSound}
 use Rattle.net_ways.specs.Ways.{Hop}
 use Rattle.node_core.specs.Acted.{opened}
-use Rattle.node_shape.specs.LinkForm.{LinkForm}
+use Rattle.node_shape.specs.LinkForm.{FitsLink, LinkForm}
 use Rattle.node_shape.specs.Way.{Origin, Way, start_here}
 use Rattle.plain_lists.proofs.PlaceLemmas.{at-all}
 use Rattle.plan_traffic.specs.Accepted.{IsTraffic}
 use Rattle.plan_traffic.specs.Due.{bytes_at, bytes_strobed, given_status, is_accessed, response_at, response_of_write, transaction_due, written_status}
 use Rattle.plan_traffic.specs.Scripts.{script_item}
 use Rattle.plan_traffic.specs.Traffic.{TrafficItem}
-use Rattle.subordinate.specs.Parts.{beats_of_parts, beats_with_data}
+use Rattle.subordinate.specs.Parts.{beats_of_parts}
 use Rattle.subordinate.specs.Service.{Service, worst_of_beats}
 use Rattle.subordinate.specs.Tracks.{ends_with}
 use Rattle.topology.specs.Document.{DocumentNode, node_at}
@@ -96,24 +96,40 @@ module _ (nodes : List DocumentNode) (items : List TrafficItem) (run : CanRun no
   abbrev there : DocumentNode
   there = node_at nodes (plan_node_at nodes its_target).document
 
-  width : IsBusWidth s.bus
-  width = (begins net forms its_sound number s planned.own.is).bus_width
+  -- its bus, on which its burst is legal
+  abbrev bus : ℕ
+  bus = (forms its_end.link).bus
 
-  legal : IsLegal item.txn.request s.bus
-  legal = at-all (λ (i : ScriptItem). IsLegal i.txn.request s.bus) s.script inner script (begins net forms its_sound number s planned.own.is).legal planned.own.at
+  fits : FitsLink (forms its_end.link) item.txn.write its_end.share
+  fits = end-fits net forms its_sound number s inner script planned.own
 
-  ends-bus : (forms its_end.link).bus ≡ s.bus
-  ends-bus = end-bus net forms its_sound number s inner script planned.own
+  width : IsBusWidth bus
+  width = fits.width
 
   ends-parts : its_end.share.parts ≡ burst ∷ []
   ends-parts = end-parts net forms its_sound number s inner script planned.own
 
+  legal : IsLegal burst bus
+  legal = let all : All (λ (a : Addr). IsLegal a bus) (burst ∷ []) = subst (All (λ (a : Addr). IsLegal a bus)) ends-parts fits.legal in all 0 burst (omega arith)
+
   sends : item.txn.write ≡ true → SendsItsBytes s.bus script
-  sends writes = record {
-    width = width;
-    legal = legal;
-    sent = (suits nodes items run traffic number inner item planned).bytes ∙ ap (λ (b : Bool). cond b (length (burst_bytes item.txn.request)) 0) writes;
-  }
+  sends writes =
+      let new = begins net forms its_sound number s planned.own.is in
+      record {
+        width = new.bus_width;
+        legal = at-all (λ (i : ScriptItem). IsLegal i.txn.request s.bus) s.script inner script new.legal planned.own.at;
+        sent = (suits nodes items run traffic number inner item planned).bytes ∙ ap (λ (b : Bool). cond b (length (burst_bytes item.txn.request)) 0) writes;
+      }
+
+  -- the data that ends there, which writes what the script strobes
+  abbrev sent : item.txn.write ≡ true → EndData net forms its_sound number s inner script planned.own
+  sent writes = end-data net forms its_sound number s inner script planned.own writes
+
+  valid : (writes : item.txn.write ≡ true) → AllStrobeValidLanes bus burst 0 (sent writes).beats
+  valid writes = valid-of bus burst (sent writes).beats width legal (sent writes).fits
+
+  sent-written : (writes : item.txn.write ≡ true) → written_bytes bus burst (sent writes).beats ≡ bytes_strobed item
+  sent-written writes = end-written net forms its_sound number s inner script planned.own writes ∙ data-written s.bus script (sends writes)
 
   -- ---- bytes
 
@@ -129,14 +145,12 @@ module _ (nodes : List DocumentNode) (items : List TrafficItem) (run : CanRun no
 
     written-bytes : item.txn.write ≡ true → ((address : ℕ) → may address ≡ is_accessed (written_status there kind address)) → due.bytes ≡ bytes_at there kind item
     written-bytes writes each =
-        let sent = end-data net forms its_sound number s inner script planned.own writes in
         ap (λ (m : ℕ → Bool). bytes_carried (forms its_end.link) m item.txn.write its_end.share) may-is
         ∙ ap (λ (b : Bool). bytes_carried (forms its_end.link) may b its_end.share) writes
-        ∙ ap (λ (bus : ℕ). flat_map (strobed_of_beat bus may) (beats_with_data its_end.share)) ends-bus
-        ∙ ap₂ (λ (parts : List Addr) (beats : List (List WBeat)). flat_map (strobed_of_beat s.bus may) (zip (beats_of_parts parts) (flat_map (λ ws. ws) beats))) ends-parts sent
-        ∙ strobed-are s.bus width burst legal may (data_beats script s.bus) (data-long s.bus script (sends writes)) (data-valid s.bus script (sends writes))
-        ∙ ap (map (named s.bus width burst legal may)) (data-written s.bus script (sends writes))
-        ∙ map-same (named s.bus width burst legal may) written (λ (byte : Byte). ap (as_named (Some byte.value) byte.address) (each byte.address)) (bytes_strobed item)
+        ∙ ap₂ (λ (parts : List Addr) (beats : List (List WBeat)). flat_map (strobed_of_beat bus may) (zip (beats_of_parts parts) (flat_map (λ ws. ws) beats))) ends-parts (sent writes).are
+        ∙ strobed-are bus width burst legal may (sent writes).beats (sent writes).fits.whole (valid writes)
+        ∙ ap (map (named bus width burst legal may)) (sent-written writes)
+        ∙ map-same (named bus width burst legal may) written (λ (byte : Byte). ap (as_named (Some byte.value) byte.address) (each byte.address)) (bytes_strobed item)
         ∙ sym (ap (λ (b : Bool). cond b (map written (bytes_strobed item)) (map wanted (burst_bytes item.txn.request))) writes)
 
     read-bytes : item.txn.write ≡ false → ((address : ℕ) → may address ≡ is_accessed (given_status there kind address)) → due.bytes ≡ bytes_at there kind item
@@ -144,7 +158,7 @@ module _ (nodes : List DocumentNode) (items : List TrafficItem) (run : CanRun no
         ap (λ (m : ℕ → Bool). bytes_carried (forms its_end.link) m item.txn.write its_end.share) may-is
         ∙ ap (λ (b : Bool). bytes_carried (forms its_end.link) may b its_end.share) reads
         ∙ ap (λ (parts : List Addr). flat_map (wanted_of_beat (forms its_end.link) may) (beats_of_parts parts)) ends-parts
-        ∙ wanted-are s.bus width burst legal may (forms its_end.link) (end-full net forms its_sound number s inner script planned.own) ends-bus
+        ∙ wanted-are bus width burst legal may (forms its_end.link) (end-full net forms its_sound number s inner script planned.own) refl
         ∙ ap (map (byte_named may None)) (part-bytes script)
         ∙ map-same (byte_named may None) wanted (λ (address : ℕ). ap (as_named None address) (each address)) (burst_bytes item.txn.request)
         ∙ sym (ap (λ (b : Bool). cond b (map written (bytes_strobed item)) (map wanted (burst_bytes item.txn.request))) reads)
@@ -152,11 +166,10 @@ module _ (nodes : List DocumentNode) (items : List TrafficItem) (run : CanRun no
   -- ---- responses
 
   module _ {D : Type 0} (service : Service D) where
-    ends-write : item.txn.write ≡ true → ends_with service item.txn.write its_end.share ≡ worst_of_beats service burst 0 (data_beats script s.bus) ∷ []
+    ends-write : (writes : item.txn.write ≡ true) → ends_with service item.txn.write its_end.share ≡ worst_of_beats service burst 0 (sent writes).beats ∷ []
     ends-write writes =
         ap (λ (b : Bool). ends_with service b its_end.share) writes
-        ∙ ap₂ (λ (parts : List Addr) (beats : List (List WBeat)). map (λ (p : Addr × List WBeat). worst_of_beats service p.0 0 p.1) (zip parts beats)) ends-parts
-        (end-data net forms its_sound number s inner script planned.own writes)
+        ∙ ap₂ (λ (parts : List Addr) (beats : List (List WBeat)). map (λ (p : Addr × List WBeat). worst_of_beats service p.0 0 p.1) (zip parts beats)) ends-parts (sent writes).are
 
     ends-read : item.txn.write ≡ false → ends_with service item.txn.write its_end.share ≡ map (λ (n : ℕ). service.beat_status burst n) (range_with_len 0 (beats_of item.txn.request))
     ends-read reads =
@@ -190,11 +203,11 @@ module _ (nodes : List DocumentNode) (items : List TrafficItem) (run : CanRun no
       at = node-is nodes items its_target (target-less nodes items run traffic number inner item planned) ∙ ap (λ (p : Part). Some (opened (state_by_part nodes items its_target p))) is;
     }
 
-    area-bus : there.bus ≡ s.bus
+    area-bus : there.bus ≡ bus
     area-bus =
         let known = end-known net forms its_sound its_start (among net forms its_sound number s inner script planned.own) in
         let link = one-upper net forms its_sound its_target (memory_at nodes its_target items) is-memory its_end.link known (target-is nodes items run traffic number inner item planned) in
-        sym (has-form net forms its_sound its_target (memory_at nodes its_target items) is-memory).bus ∙ ap (λ (l : ℕ). (forms l).bus) (sym link) ∙ ends-bus
+        sym (has-form net forms its_sound its_target (memory_at nodes its_target items) is-memory).bus ∙ ap (λ (l : ℕ). (forms l).bus) (sym link)
 
     memory-bytes : due.bytes ≡ bytes_at there part.Memory item
     memory-bytes =
@@ -227,13 +240,13 @@ module _ (nodes : List DocumentNode) (items : List TrafficItem) (run : CanRun no
               let wanted : Byte → Resp = λ (byte : Byte). written_status there part.Memory byte.address in
               way-is part.Memory is ∙ ends-write (memory_service area) writes
               ∙ ap (λ (r : Resp). r ∷ [])
-              (memory-write area s.bus area-bus width burst legal (data_beats script s.bus) (data-long s.bus script (sends writes)) (data-valid s.bus script (sends writes))
-              ∙ ap (λ (bytes : List Byte). worst_among (map status bytes)) (data-written s.bus script (sends writes))
+              (memory-write area bus area-bus width burst legal (sent writes).beats (sent writes).fits.whole (valid writes)
+              ∙ ap (λ (bytes : List Byte). worst_among (map status bytes)) (sent-written writes)
               ∙ ap worst_among (map-same status wanted (λ (byte : Byte). written-same there byte.address) (bytes_strobed item)))
               ∙ sym (ap (λ (b : Bool). cond b of_write of_read) writes)
           | inr reads ↦
               way-is part.Memory is ∙ ends-read (memory_service area) reads
-              ∙ memory-reads area s.bus area-bus width burst legal (range_with_len 0 (beats_of item.txn.request))
+              ∙ memory-reads area bus area-bus width burst legal (range_with_len 0 (beats_of item.txn.request))
               ∙ reads-given (range_with_len 0 (beats_of item.txn.request))
               ∙ sym (ap (λ (b : Bool). cond b of_write of_read) reads)
         ]
@@ -261,11 +274,11 @@ module _ (nodes : List DocumentNode) (items : List TrafficItem) (run : CanRun no
     error-response = elim (cases_Bool item.txn.write) [
       | inl writes ↦
           way-is part.Error is ∙ ends-write error_service writes
-          ∙ ap (λ (r : Resp). r ∷ []) (error-write burst (data_beats script s.bus) (data-long s.bus script (sends writes)))
+          ∙ ap (λ (r : Resp). r ∷ []) (error-write burst (sent writes).beats (sent writes).fits.whole)
           ∙ sym (ap (λ (b : Bool). cond b (DecErr ∷ []) refused) writes)
       | inr reads ↦
           way-is part.Error is ∙ ends-read error_service reads
-          ∙ error-reads s.bus width burst legal (range_with_len 0 (beats_of item.txn.request))
+          ∙ error-reads bus width burst legal (range_with_len 0 (beats_of item.txn.request))
           ∙ sym (ap (λ (b : Bool). cond b (DecErr ∷ []) refused) reads)
     ]
 

@@ -1,9 +1,9 @@
 -- The bytes of an answer are those that were read, and 0 where nothing may be read.
-use Rattle.std.proofs.Common.{◌≡◌, ◌≤◌, ◌<◌, ◌+◌, ◌-◌, [], ◌∷◌, ◌++◌, ℕ, zero, suc, Bool, true, false, cond, List, Option, Some, None, ◌==◌, length, refl, sym, ap, ap₂, ◌∙◌, subst, inl, inr, arith, length-append}
+use Rattle.std.proofs.Common.{◌≡◌, ◌<◌, ◌+◌, ◌-◌, [], ◌∷◌, ◌++◌, ℕ, zero, suc, Bool, true, false, cond, List, Option, Some, None, ◌==◌, length, refl, sym, ap, ap₂, ◌∙◌, subst, inl, inr, arith, length-append}
 use Rattle.std.specs.Prelude.{All, drop, get_or, flat_map, map, replicate, slice_get, slice_range}
 use Rattle.std.specs.List.{range_with_len}
 use Rattle.std.specs.Option.{option_map_or}
-use Rattle.std.proofs.lemmas.List.{length-drop, length-map, length-take}
+use Rattle.std.proofs.lemmas.List.{length-map}
 use Rattle.std.proofs.lemmas.List.Concat.{flat_map-cons}
 use Rattle.std.proofs.lemmas.List.Elements.{All-append, All-cons, All-filter, All-head, All-map, All-nil, All-tail, All-take}
 use Rattle.std.proofs.lemmas.List.FromFn.{length-range_with_len}
@@ -17,7 +17,6 @@ use Rattle.axi_link.specs.declared.out.Out.{Out}
 use Rattle.axi_trail.specs.LinkContracts.{Answers}
 use Rattle.axi_trail.specs.Schedule.{Share, bytes_on}
 use Rattle.axi_trail.specs.Words.{number_of_read_data}
-use Rattle.burst_address.proofs.LaneBytes.{lanes-ordered}
 use Rattle.burst_address.specs.Accesses.{answered_bytes}
 use Rattle.burst_address.specs.Formulas.{beats_of}
 use Rattle.burst_address.specs.Lanes.{valid_span, word_address}
@@ -29,14 +28,14 @@ use Rattle.net_history.proofs.MemoryRuns.{IsMemoryAt}
 use Rattle.manager_node.specs.ManagerState.{ManagerState}
 use Rattle.manager_node.specs.ManagerTrail.{spans_of}
 use Rattle.manager_node.specs.Script.{ScriptItem}
-use Rattle.memory_node.proofs.LaneLemmas.{lanes-within}
-use Rattle.net_history.proofs.DoneLemmas.{all-read, same-there}
+use Rattle.net_history.proofs.DoneLemmas.{all-read, keeps-on}
 use Rattle.net_history.proofs.DueLemmas.{is_allowed}
 use Rattle.net_history.proofs.EndLemmas.{end-carried, first-carried, first_share}
 use Rattle.net_history.proofs.ItemLemmas.{among, answers-above, now, origin, own-reads as first-reads, read-note, schedules}
 use Rattle.net_history.proofs.ListLemmas.{All-flat}
 use Rattle.net_history.proofs.ManagerRuns.{begins, from-first, note_after, own-link, run-keeps}
 use Rattle.net_history.proofs.NetTransactions.{due_of}
+use Rattle.net_history.proofs.ReadLemmas.{IsSpan, on-long, valid-within}
 use Rattle.net_history.proofs.RoundLemmas.{IsItem}
 use Rattle.net_history.proofs.RunStates.{acted_as, holds-at, run_state, stands-at}
 use Rattle.net_history.proofs.TargetLemmas.{IsQuiet, ends-at, item-values, reads-named_allowed, target}
@@ -45,7 +44,7 @@ use Rattle.net_history.specs.Due.{bytes_carried, byte_named, wanted_of_beat, way
 use Rattle.net_history.specs.History.{events_after}
 use Rattle.net_kinds.specs.NodeHolds.{node_holds}
 use Rattle.net_kinds.specs.NodeKind.{KindName, NodeState, StateOf, node_kind}
-use Rattle.net_kinds.specs.NodeKind.KindName.{ADemux, AManager, AMemory, AMux, ASlice, AnError}
+use Rattle.net_kinds.specs.NodeKind.KindName.{ADemux, AManager, AMemory, AMux, ARemap, ASlice, AnError}
 use Rattle.net_model.specs.Network.{Network}
 use Rattle.net_runs.specs.Run.{nodes_after, noted_by, passed_by, upper_end}
 use Rattle.net_ways.proofs.WayLemmas.{is-carried}
@@ -138,22 +137,6 @@ module _ (form : LinkForm) (may : ℕ → Bool) where
       ∙ sym (lanes-append (wanted_lanes form part) (flat_map (wanted_lanes form) parts))
       ∙ sym (ap lanes_wanted (flat_map-cons (wanted_lanes form) part parts))
 
--- a span of lanes of the widest bus
-abbrev IsSpan : Span → Type 0
-IsSpan span = (span.low ≤ span.high) × (span.high < 128)
-
-on-long : (spans : List Span) (beats : List RBeat) → All IsSpan spans → All (λ (r : RBeat). length r.lanes ≡ 128) beats → length spans ≤ length beats → length (bytes_on beats spans) ≡ lanes_wanted spans
-on-long [] [] within whole le = refl
-on-long [] (r ∷ beats) within whole le = refl
-on-long (span ∷ spans) [] within whole le = absurd (omega (arith, le))
-on-long (span ∷ spans) (r ∷ beats) within whole le =
-    let here = All-head IsSpan span spans within in
-    let long = All-head (λ (r : RBeat). length r.lanes ≡ 128) r beats whole in
-    let one : length (slice_range r.lanes span.low (span.high + 1)) ≡ span.high + 1 - span.low =
-    omega (arith, length-take (span.high + 1 - span.low) (drop span.low r.lanes), length-drop span.low r.lanes, long, here.0, here.1) in
-    length-append (slice_range r.lanes span.low (span.high + 1)) (bytes_on beats spans)
-    ∙ ap₂ (λ (x y : ℕ). x + y) one (on-long spans beats (All-tail IsSpan span spans within) (All-tail (λ (r : RBeat). length r.lanes ≡ 128) r beats whole) (omega (arith, le)))
-
 module _ (net : Network NodeState) (forms : ℕ → LinkForm) (sound : IsSound node_kind net forms) where
   -- ---- a node that is no memory reads nothing but zeros
 
@@ -174,6 +157,7 @@ module _ (net : Network NodeState) (forms : ℕ → LinkForm) (sound : IsSound n
   zeros-kind n number k ASlice s out at none = All-nil IsZero
   zeros-kind n number k AMux s out at none = All-nil IsZero
   zeros-kind n number k ADemux s out at none = All-nil IsZero
+  zeros-kind n number k ARemap s out at none = All-nil IsZero
 
   abbrev filled_by : ℕ → ℕ → ℕ → Option (Acted NodeState) → List ℕ
   filled_by n number k o = (option_map_or (λ (a : Acted NodeState). node_kind.knows (schedules net forms sound) a.state (passed_by node_kind net k n)) o nothing_known).filled number
@@ -227,10 +211,7 @@ module _ (net : Network NodeState) (forms : ℕ → LinkForm) (sound : IsSound n
         let first = begins net forms sound node s own.is in
         let legal = at-all (λ (i : ScriptItem). IsLegal i.txn.request s.bus) s.script place item first.legal own.at in
         All-map IsSpan (λ k. valid_span item.txn.request k s.bus) (range_with_len 0 (beats_of item.txn.request)) (λ i d lt.
-        let k = get_or (range_with_len 0 (beats_of item.txn.request)) i d in
-        let bounds = lanes-within item.txn.request k s.bus first.bus_width in
-        let order = lanes-ordered item.txn.request k s.bus first.bus_width legal in
-        (order, omega (arith, bounds.1, bounds.2, order)))
+        valid-within s.bus first.bus_width item.txn.request legal (get_or (range_with_len 0 (beats_of item.txn.request)) i d))
 
     -- elsewhere they are zeros, one for each byte
     zeros-there : IsQuiet net forms sound (origin net forms sound node s place item own) →
@@ -249,9 +230,10 @@ module _ (net : Network NodeState) (forms : ℕ → LinkForm) (sound : IsSound n
         All-map IsRefused (byte_named (λ address. false) None) (bytes_within (word_address b.request b.beat (forms end.link).bus) (wanted_span (forms end.link) b.request b.beat)) (λ i d lt. refl)) in
         let none = none-answered named values refused in
         let fits = (is-carried node_kind node_holds net forms sound item.txn.write number end.link end.share (end-carried net forms sound its_origin among)).fits.lanes in
-        let lanes : flat_map (wanted_lanes (forms end.link)) end.share.parts ≡ spans =
-        sym (ap (λ (b : Bool). cond b [] (flat_map (wanted_lanes (forms end.link)) end.share.parts)) reads) ∙ sym fits ∙ (same-there net forms sound node s place item own).lanes
-        ∙ sym (ap (λ (share : Share). share.lanes) (first-reads net forms sound node s place item own reads)) in
+        let lanes : lanes_wanted spans ≡ lanes_wanted (flat_map (wanted_lanes (forms end.link)) end.share.parts) =
+        ap (λ (share : Share). lanes_wanted share.lanes) (first-reads net forms sound node s place item own reads)
+        ∙ sym (keeps-on net forms sound node s place item own end.link end.share (end-carried net forms sound its_origin among)).lanes
+        ∙ ap lanes_wanted (fits ∙ ap (λ (b : Bool). cond b [] (flat_map (wanted_lanes (forms end.link)) end.share.parts)) reads) in
         let spans_long : length (spans_of s.bus item.txn.request) ≡ suc item.txn.request.len =
         length-map (range_with_len 0 (beats_of item.txn.request)) (λ k. valid_span item.txn.request k s.bus) ∙ length-range_with_len 0 (beats_of item.txn.request) ∙ omega arith in
         let on : length (bytes_on beats spans) ≡ lanes_wanted spans =
@@ -259,7 +241,7 @@ module _ (net : Network NodeState) (forms : ℕ → LinkForm) (sound : IsSound n
         let zero : All IsZero (bytes_on beats spans) =
         All_front IsZero (prefix_trans (above.bytes_are_filled number) (filled-there net forms sound its_origin among reads n)) (zeros-at n number (target net forms sound node s place item own) (quiet.noted n)) in
         zeros-same (bytes_on beats spans) (answered_bytes (map is_allowed named) values) zero none.1
-        (on ∙ sym (ap lanes_wanted lanes) ∙ sym (parts-long (forms end.link) (λ address. false) end.share.parts) ∙ sym none.0)
+        (on ∙ lanes ∙ sym (parts-long (forms end.link) (λ address. false) end.share.parts) ∙ sym none.0)
         ∙ sym (ap (λ (bs : List NamedByte). answered_bytes (map is_allowed bs) values) bytes)
 
     pub bytes-noted : (note_after net s n place).bytes ≡ answered_bytes (map is_allowed (due_of net forms node s item).bytes) (values_of number (events_after n net))

@@ -1,11 +1,10 @@
 -- Where all answers to a transaction have been put on a link that carries it, all that is due of it was done by then.
-use Rattle.std.proofs.Common.{◌≡◌, ◌≤◌, ◌<◌, ◌+◌, ◌==◌, [], ◌∷◌, ℕ, zero, suc, Bool, true, false, List, Option, Some, None, length, refl, sym, ap, ◌∙◌, subst, inl, inr, arith, length-append}
+use Rattle.std.proofs.Common.{◌≡◌, ◌≤◌, ◌<◌, ◌+◌, ◌==◌, [], ◌∷◌, ℕ, zero, suc, Bool, true, false, List, Option, Some, None, length, refl, sym, ap, ◌∙◌, subst, inl, inr, arith, length-append, cond}
 use Rattle.std.specs.Prelude.{All, flat_map, map, unwrap_or}
 use Rattle.std.proofs.lemmas.Bool.{cases_Bool, cases_eq, cases_lt}
 use Rattle.std.proofs.lemmas.List.{length-map, nil_from_length, take_all}
 use Rattle.std.proofs.lemmas.List.Elements.{All-append, All-cons, All-filter, All-nil, All-weaker, filter-append}
 use Rattle.std.proofs.lemmas.Slice.Zip.{length-zip}
-use Rattle.axi_beats.specs.Lanes.{Span}
 use Rattle.axi_beats.specs.declared.beat.RBeat.{RBeat}
 use Rattle.axi_beats.specs.declared.beat.WBeat.{WBeat}
 use Rattle.axi_history.specs.Delivered.{access_due, access_made}
@@ -21,24 +20,27 @@ use Rattle.memory_node.specs.Accesses.{accesses_of, allowed_bytes, beat_span, du
 use Rattle.memory_node.specs.Beats.{stored_bytes}
 use Rattle.memory_node.specs.Events.{Access}
 use Rattle.memory_node.specs.MemoryState.{MemoryState}
-use Rattle.net_history.proofs.EndLemmas.{IsSameShare, carried-same, end-at, end-carried, first-carried, first_share}
+use Rattle.net_history.proofs.EndLemmas.{HasSameParts, carried-keeps, carried-same, end-at, end-carried, first-carried, first_share}
 use Rattle.net_history.proofs.EventLemmas.{all-nodes}
 use Rattle.net_history.proofs.ItemLemmas.{among, beat-count, carried-is, now, origin, read-note, schedules, taken-before, write-note}
 use Rattle.net_history.proofs.ManagerRuns.{note_after, own-link, run-keeps}
-use Rattle.net_history.proofs.MemoryRuns.{IsMemoryAt, memory-begins, memory-keeps}
+use Rattle.net_history.proofs.MemoryRuns.{IsMemoryAt, memory-keeps}
 use Rattle.net_history.proofs.NetTransactions.{due_of}
-use Rattle.net_history.proofs.ReadLemmas.{reads-whole}
+use Rattle.net_history.proofs.ReadLemmas.{IsSpan, allowed-lanes, lanes-count, on-long, reads-whole, spans-within}
 use Rattle.net_history.proofs.RoundLemmas.{IsItem}
 use Rattle.net_history.proofs.ShownLemmas.{shown_read, shown_write}
 use Rattle.net_history.proofs.TargetLemmas.{carried_there, data_count, end-link, ends-at, item-begins, item-reads, item-writes, lanes-in_order, no-events, none-due, own-reads, read_count, reads-named, share-read, share-written, target, writes-named}
 use Rattle.net_history.proofs.WhereLemmas.{filled-memory, filled-there, written-where}
 use Rattle.net_history.specs.History.{events_after, nodes_events}
+use Rattle.net_kinds.specs.NodeHolds.{node_holds}
 use Rattle.net_kinds.specs.NodeKind.{NodeState, node_kind}
 use Rattle.net_model.specs.Network.{Network}
 use Rattle.net_runs.specs.Run.{lower_end, nodes_after, noted_by, queues_after, upper_end}
+use Rattle.net_ways.proofs.WayLemmas.{is-carried}
 use Rattle.net_ways.specs.Sound.{IsSound}
+use Rattle.net_ways.specs.SoundLaws.{KeepsBytes}
 use Rattle.net_ways.specs.Ways.{carried}
-use Rattle.node_shape.specs.LinkForm.{LinkForm}
+use Rattle.node_shape.specs.LinkForm.{LinkForm, lanes_wanted, wanted_lanes}
 use Rattle.node_shape.specs.Way.{Origin}
 use Rattle.plain_lists.proofs.KeyLemmas.{of_key-cons, of_key-skip}
 use Rattle.plain_lists.proofs.PrefixLemmas.{prefix_length, prefix_of_key, prefix_of_same, prefix_trans, prefix_whole}
@@ -75,11 +77,14 @@ module _ (net : Network NodeState) (forms : ℕ → LinkForm) (sound : IsSound n
   abbrev there : Share
   there = carried_there net forms sound node s place item own
 
-  -- each link carries what the first one does
-  pub same-on : (link : ℕ) (share : Share) → carried node_kind net item.txn.write link number ≡ Some share → IsSameShare (first_share net forms sound its_origin (among net forms sound node s place item own)) share
+  -- each link carries the parts of the first one
+  pub same-on : (link : ℕ) (share : Share) → carried node_kind net item.txn.write link number ≡ Some share → HasSameParts (first_share net forms sound its_origin (among net forms sound node s place item own)) share
   same-on link share comes = carried-same net forms sound its_origin (among net forms sound node s place item own) link share comes
 
-  pub same-there : IsSameShare (first_share net forms sound its_origin (among net forms sound node s place item own)) there
+  pub keeps-on : (link : ℕ) (share : Share) → carried node_kind net item.txn.write link number ≡ Some share → KeepsBytes node_kind forms its_origin (record { link = link; share = share })
+  keeps-on link share comes = carried-keeps net forms sound its_origin (among net forms sound node s place item own) link share comes
+
+  pub same-there : HasSameParts (first_share net forms sound its_origin (among net forms sound node s place item own)) there
   same-there = same-on _ there (end-carried net forms sound its_origin (among net forms sound node s place item own))
 
   -- all answers to it have been put on a link
@@ -124,16 +129,29 @@ module _ (net : Network NodeState) (forms : ℕ → LinkForm) (sound : IsSound n
 
     -- ---- what is read of a read of which all beats have come
 
-    lanes-are : item.txn.write ≡ false → (link : ℕ) (share : Share) → carried node_kind net item.txn.write link number ≡ Some share →
-        ((schedules net forms sound link).reads number).lanes ≡ map (beat_span c.area) due
-    lanes-are reads link share comes =
-        ap (λ (o : Share). o.lanes) (read-share link share comes reads) ∙ (same-on link share comes).lanes ∙ sym same-there.lanes
-        ∙ ap (λ (share : Share). share.lanes) (sym (share-read net forms sound node s place item own c is reads))
+    lanes-there : item.txn.write ≡ false → there.lanes ≡ map (beat_span c.area) due
+    lanes-there reads =
+        ap (λ (share : Share). share.lanes) (sym (share-read net forms sound node s place item own c is reads))
         ∙ ((memory-keeps net forms sound end c is 0).suits.lanes number)
         ∙ ap (λ (share : Share). map (beat_span c.area) (beats_of_parts share.parts)) (share-read net forms sound node s place item own c is reads)
 
     abbrev values : ℕ → List ℕ
     values n = map (λ (a : Access). a.byte.value) (accesses_of false number (noted_by node_kind net end n))
+
+    -- a link on which all beats of a read stand has as many of its bytes as the memory
+    bytes-count : item.txn.write ≡ false → (link : ℕ) (share : Share) → carried node_kind net item.txn.write link number ≡ Some share →
+        (beats : List RBeat) → All (λ (r : RBeat). length r.lanes ≡ 128) beats → suc item.txn.request.len ≤ length beats →
+        length (bytes_on beats share.lanes) ≡ length (flat_map (allowed_bytes c.area) due)
+    bytes-count reads link share comes beats whole enough =
+        let fits = (is-carried node_kind node_holds net forms sound item.txn.write number link share comes).fits in
+        let lanes : share.lanes ≡ flat_map (wanted_lanes (forms link)) share.parts =
+        fits.lanes ∙ ap (λ (b : Bool). cond b [] (flat_map (wanted_lanes (forms link)) share.parts)) reads in
+        let count : length share.lanes ≡ suc item.txn.request.len =
+        ap length lanes ∙ lanes-count (forms link) share.parts ∙ ap (λ parts. length (beats_of_parts parts)) (same-on link share comes).parts
+        ∙ beat-count net forms sound node s place item own in
+        on-long share.lanes beats (subst (All IsSpan) (sym lanes) (spans-within (forms link) item.txn.write share fits)) whole (omega (arith, count, enough))
+        ∙ (keeps-on link share comes).lanes ∙ sym (keeps-on _ there (end-carried net forms sound its_origin (among net forms sound node s place item own))).lanes
+        ∙ ap lanes_wanted (lanes-there reads) ∙ sym (allowed-lanes c.area due (lanes-in_order net forms sound node s place item own c is reads))
 
     pub all-read : item.txn.write ≡ false → (link : ℕ) (share : Share) → carried node_kind net item.txn.write link number ≡ Some share →
         (n : ℕ) (beats : List RBeat) → All (λ (r : RBeat). length r.lanes ≡ 128) beats → suc item.txn.request.len ≤ length beats →
@@ -145,10 +163,9 @@ module _ (net : Network NodeState) (forms : ℕ → LinkForm) (sound : IsSound n
         prefix_of_same (filled-there net forms sound its_origin (among net forms sound node s place item own) reads n)
         (filled-memory net forms sound its_origin (among net forms sound node s place item own) reads n c is
         ∙ ap (λ (share : Share). answered_bytes (flat_map (allowed_bytes c.area) (beats_of_parts share.parts)) (values n)) (share-read net forms sound node s place item own c is reads)) in
-        let lanes = lanes-are reads link share comes in
-        let all = reads-whole c.area (memory-begins net forms sound end c is).area.bus due beats (values n) (lanes-in_order net forms sound node s place item own c is reads) whole
-        (subst (λ (spans : List Span). IsPrefix (bytes_on beats spans) (answered_bytes (flat_map (allowed_bytes c.area) due) (values n))) lanes (prefix_trans front known_there)) (omega (arith, due-long, enough)) in
-        (ap (bytes_on beats) lanes ∙ all.0, all.1)
+        let own_share = read-share link share comes reads in
+        reads-whole c.area due (bytes_on beats ((schedules net forms sound link).reads number).lanes) (values n)
+        (ap (λ (o : Share). length (bytes_on beats o.lanes)) own_share ∙ bytes-count reads link share comes beats whole enough) (prefix_trans front known_there)
 
     -- ---- where its answers are there
 

@@ -1,4 +1,5 @@
--- Where the way of a transaction ends, and that each of its links carries it as it is: no kind of node cuts anything.
+-- Where the way of a transaction ends, and that each of its links carries its bursts and its responses: no kind of node cuts a
+-- burst. What lanes its bytes stand on is the link's own.
 use Rattle.std.proofs.Common.{◌≡◌, ◌<◌, [], ◌∷◌, ℕ, Bool, List, Option, Some, None, length, refl, sym, ap, ◌∙◌, subst, inl, inr, arith}
 use Rattle.std.specs.Prelude.{◌≤◌, Contains, if◌then◌else◌, slice_get, true, false, zip}
 use Rattle.std.proofs.lemmas.List.{length-map}
@@ -18,26 +19,29 @@ use Rattle.axi_trail.specs.Schedule.{Share}
 use Rattle.net_history.specs.Due.{last_hop, way_end}
 use Rattle.net_kinds.specs.NodeHolds.{node_holds}
 use Rattle.net_kinds.specs.NodeKind.{KindName, NodeState, StateOf, kind_by_name, node_kind}
-use Rattle.net_kinds.specs.NodeKind.KindName.{ADemux, AManager, AMemory, AMux, ASlice, AnError}
+use Rattle.net_kinds.specs.NodeKind.KindName.{ADemux, AManager, AMemory, AMux, ARemap, ASlice, AnError}
 use Rattle.net_model.specs.Network.{Network, lower_node}
 use Rattle.net_model.specs.Wired.{IsWired}
 use Rattle.net_ways.proofs.HopLemmas.{IsEnd, IsJoined, IsStep, behind, share-further, share-here}
 use Rattle.net_ways.proofs.OriginLemmas.{HasItsWay, is-found, its-way}
+use Rattle.net_ways.proofs.WayLemmas.{keeps-there}
 use Rattle.net_ways.specs.Sound.{IsSound}
+use Rattle.net_ways.specs.SoundLaws.{KeepsBytes}
 use Rattle.net_ways.specs.Ways.{Hop, carried, origins_in, responses_from, share_on, way_at, way_below, way_of}
 use Rattle.node_core.specs.Acted.{Acted}
 use Rattle.node_shape.specs.LinkForm.{LinkForm}
 use Rattle.node_shape.specs.Way.{Origin, start_here, with_responses}
 
--- ---- no kind cuts
+-- ---- no kind cuts a burst
 
-cut-of_kind : (name : KindName) (s : StateOf name) (share : Share) → ((kind_by_name name).way s).cut share ≡ share
+cut-of_kind : (name : KindName) (s : StateOf name) (share : Share) → (((kind_by_name name).way s).cut share).parts ≡ share.parts
 cut-of_kind ASlice s share = refl
 cut-of_kind AMemory s share = refl
 cut-of_kind AManager s share = refl
 cut-of_kind AMux s share = refl
 cut-of_kind AnError s share = refl
 cut-of_kind ADemux s share = refl
+cut-of_kind ARemap s share = refl
 
 merged-of_kind : (name : KindName) (s : StateOf name) (write : Bool) (share : Share) (below : List Resp) → ((kind_by_name name).way s).merged write share below ≡ below
 merged-of_kind ASlice s write share below = refl
@@ -46,11 +50,12 @@ merged-of_kind AManager s write share below = refl
 merged-of_kind AMux s write share below = refl
 merged-of_kind AnError s write share below = refl
 merged-of_kind ADemux s write share below = refl
+merged-of_kind ARemap s write share below = refl
 
-none-cuts : (nodes : List (Acted NodeState)) (number : ℕ) (share : Share) → (way_at node_kind nodes number).cut share ≡ share
+none-cuts : (nodes : List (Acted NodeState)) (number : ℕ) (share : Share) → ((way_at node_kind nodes number).cut share).parts ≡ share.parts
 none-cuts nodes number share = go (slice_get nodes number)
   where
-    go : (o : Option (Acted NodeState)) → (option_map_or (λ (node : Acted NodeState). node_kind.way node.state) o (start_here [])).cut share ≡ share
+    go : (o : Option (Acted NodeState)) → ((option_map_or (λ (node : Acted NodeState). node_kind.way node.state) o (start_here [])).cut share).parts ≡ share.parts
     go None = refl
     go (Some node) = cut-of_kind node.state.kind node.state.state share
 
@@ -80,6 +85,7 @@ ends-of_kind AManager s write share = omega arith
 ends-of_kind AMux s write share = omega arith
 ends-of_kind AnError s write share = service-few error_service write share
 ends-of_kind ADemux s write share = omega arith
+ends-of_kind ARemap s write share = omega arith
 
 pub ends-few : (nodes : List (Acted NodeState)) (number : ℕ) (write : Bool) (share : Share) → length ((way_at node_kind nodes number).ends write share) ≤ responses_due write share
 ends-few nodes number write share = go (slice_get nodes number)
@@ -88,45 +94,37 @@ ends-few nodes number write share = go (slice_get nodes number)
     go None = omega arith
     go (Some node) = ends-of_kind node.state.kind node.state.state write share
 
--- the same but for the chain
-pub record IsSameShare (one other : Share) : Type 0 where
+-- the same bursts and responses
+pub record HasSameParts (one other : Share) : Type 0 where
   pub parts : other.parts ≡ one.parts
-  pub write_data : other.write_data ≡ one.write_data
-  pub lanes : other.lanes ≡ one.lanes
   pub responses : other.responses ≡ one.responses
 
+same-itself : (share : Share) → HasSameParts share share
+same-itself share = record { parts = refl; responses = refl }
+
 module _ (net : Network NodeState) (wired : IsWired node_kind net) (write : Bool) where
-  same-next : (hop next : Hop) → IsStep node_kind node_holds net wired write hop next → IsSameShare hop.share next.share
-  same-next hop next step =
-      let as_is = none-cuts net.nodes (lower_node net.links hop.link) hop.share in
-      record {
-        parts = ap (λ (s : Share). s.parts) step.sent.cut ∙ ap (λ (s : Share). s.parts) as_is;
-        write_data = ap (λ (s : Share). s.write_data) step.sent.cut ∙ ap (λ (s : Share). s.write_data) as_is;
-        lanes = ap (λ (s : Share). s.lanes) step.sent.cut ∙ ap (λ (s : Share). s.lanes) as_is;
-        responses = sym (step.sent.merged ∙ none-merges net.nodes (lower_node net.links hop.link) write hop.share next.share.responses);
-      }
+  same-next : (hop next : Hop) → IsStep node_kind node_holds net wired write hop next → HasSameParts hop.share next.share
+  same-next hop next step = record {
+    parts = ap (λ (s : Share). s.parts) step.sent.cut ∙ none-cuts net.nodes (lower_node net.links hop.link) hop.share;
+    responses = sym (step.sent.merged ∙ none-merges net.nodes (lower_node net.links hop.link) write hop.share next.share.responses);
+  }
 
   -- each link of a way carries the same
-  pub same-along : (hop : Hop) (hops : List Hop) → IsJoined node_kind node_holds net wired write (hop ∷ hops) → (link : ℕ) (share : Share) → share_on link (hop ∷ hops) ≡ Some share → IsSameShare hop.share share
+  pub same-along : (hop : Hop) (hops : List Hop) → IsJoined node_kind node_holds net wired write (hop ∷ hops) → (link : ℕ) (share : Share) → share_on link (hop ∷ hops) ≡ Some share → HasSameParts hop.share share
   same-along hop [] joined link share there = elim (cases_eq hop.link link) [
     | inl same ↦
         let is : hop.share ≡ share = same_Some hop.share share (sym (share-here link hop [] same) ∙ there) in
-        subst (IsSameShare hop.share) is (record { parts = refl; write_data = refl; lanes = refl; responses = refl })
+        subst (HasSameParts hop.share) is (same-itself hop.share)
     | inr other ↦ absurd (none-some share (sym (share-further link hop [] other) ∙ there))
   ]
   same-along hop (next ∷ more) joined link share there = elim (cases_eq hop.link link) [
     | inl same ↦
         let is : hop.share ≡ share = same_Some hop.share share (sym (share-here link hop (next ∷ more) same) ∙ there) in
-        subst (IsSameShare hop.share) is (record { parts = refl; write_data = refl; lanes = refl; responses = refl })
+        subst (HasSameParts hop.share) is (same-itself hop.share)
     | inr other ↦
         let first = same-next hop next joined.0 in
         let rest = same-along next more joined.1 link share (sym (share-further link hop (next ∷ more) other) ∙ there) in
-        record {
-          parts = rest.parts ∙ first.parts;
-          write_data = rest.write_data ∙ first.write_data;
-          lanes = rest.lanes ∙ first.lanes;
-          responses = rest.responses ∙ first.responses;
-        }
+        record { parts = rest.parts ∙ first.parts; responses = rest.responses ∙ first.responses }
   ]
 
   -- the last link carries it
@@ -195,12 +193,17 @@ module _ (net : Network NodeState) (forms : ℕ → LinkForm) (sound : IsSound n
   end-responses =
       subst (λ (h : Hop). h.share.responses ≡ (way_below node_kind net h.link).ends origin.write h.share) (sym end-is) ends-well.end.responses
 
-  -- each link that carries it carries the same
-  pub carried-same : (link : ℕ) (share : Share) → carried node_kind net origin.write link origin.number ≡ Some share → IsSameShare first_share share
+  -- each link that carries it carries the same bursts and responses
+  pub carried-same : (link : ℕ) (share : Share) → carried node_kind net origin.write link origin.number ≡ Some share → HasSameParts first_share share
   carried-same link share there =
       let first : Hop = record { link = origin.link; share = with_responses origin.share its.responses } in
-      subst (λ (r : List Resp). IsSameShare (with_responses origin.share r) share) (sym responses-are)
+      subst (λ (r : List Resp). HasSameParts (with_responses origin.share r) share) (sym responses-are)
       (same-along net sound.wired origin.write first its.more its.joined link share (sym (its.is link) ∙ there))
+
+  -- with its bytes
+  pub carried-keeps : (link : ℕ) (share : Share) → carried node_kind net origin.write link origin.number ≡ Some share →
+      KeepsBytes node_kind forms origin (record { link = link; share = share })
+  carried-keeps link share there = keeps-there node_kind node_holds net forms sound origin among link share there
 
   -- and the one below which it ends is the last one
   pub end-at : (link : ℕ) (share : Share) → carried node_kind net origin.write link origin.number ≡ Some share → (way_below node_kind net link).goes_on share ≡ None → (way_end net forms origin).link ≡ link

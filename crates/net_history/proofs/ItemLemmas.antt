@@ -17,7 +17,7 @@ use Rattle.manager_node.specs.Beats.{item_request}
 use Rattle.manager_node.specs.ManagerState.{ManagerState}
 use Rattle.manager_node.specs.ManagerTrail.{IsReadNote, IsWriteNote, item_origin}
 use Rattle.manager_node.specs.Script.{ScriptItem}
-use Rattle.net_history.proofs.EndLemmas.{IsSameShare, carried-same, end-carried, end-responses, ends-few, first-carried, first_share, responses_due}
+use Rattle.net_history.proofs.EndLemmas.{HasSameParts, carried-same, end-carried, end-responses, ends-few, first-carried, first_share, responses_due}
 use Rattle.net_history.proofs.ManagerRuns.{at-run, has-origin, manager-keeps, manager_run, note_after, own-link, run-keeps}
 use Rattle.net_history.proofs.RoundLemmas.{IsItem}
 use Rattle.net_history.specs.Due.{way_end}
@@ -103,7 +103,7 @@ module _ (net : Network NodeState) (forms : ℕ → LinkForm) (sound : IsSound n
     responses-few : length its_responses ≤ responses_due item.txn.write (first_share net forms sound origin among)
     responses-few =
         let end = way_end net forms origin in
-        let same : IsSameShare (first_share net forms sound origin among) end.share =
+        let same : HasSameParts (first_share net forms sound origin among) end.share =
         carried-same net forms sound origin among end.link end.share (end-carried net forms sound origin among) in
         let few = ends-few net.nodes (lower_node net.links end.link) item.txn.write end.share in
         let due : responses_due item.txn.write end.share ≡ responses_due item.txn.write (first_share net forms sound origin among) = due-same item.txn.write end.share (first_share net forms sound origin among) same.parts in

@@ -1,23 +1,34 @@
 -- Where all beats of a read have come, all its bytes were read, and they are what came.
-use Rattle.std.proofs.Common.{◌≡◌, ◌<◌, ◌≤◌, ◌+◌, ◌-◌, ℕ, Bool, true, false, List, [], ◌∷◌, length, map, drop, refl, sym, ◌∙◌, ap, ap₂, arith, length-append}
-use Rattle.std.specs.Prelude.{All, flat_map, slice_range}
+use Rattle.std.proofs.Common.{◌≡◌, ◌<◌, ◌≤◌, ◌+◌, ◌-◌, ℕ, Bool, true, false, cond, List, [], ◌∷◌, Some, length, map, drop, refl, sym, ◌∙◌, ap, ap₂, subst, inl, inr, arith, length-append}
+use Rattle.std.specs.Prelude.{All, flat_map, get_or, slice_get, slice_range}
+use Rattle.std.specs.List.{range_with_len}
+use Rattle.std.proofs.lemmas.Bool.{cases_Bool}
 use Rattle.std.proofs.lemmas.List.{length-drop, length-map, length-take}
 use Rattle.std.proofs.lemmas.List.Concat.{flat_map-cons}
-use Rattle.std.proofs.lemmas.List.Elements.{All-head, All-tail}
+use Rattle.std.proofs.lemmas.List.Elements.{All-head, All-map, All-tail}
 use Rattle.std.proofs.lemmas.List.FromFn.{length-range_with_len}
 use Rattle.axi_beats.specs.Bus.{IsBusWidth}
+use Rattle.axi_beats.specs.Lanes.{Span}
+use Rattle.axi_beats.specs.declared.beat.Addr.{Addr}
 use Rattle.axi_beats.specs.declared.beat.RBeat.{RBeat}
-use Rattle.axi_trail.specs.Schedule.{bytes_on}
+use Rattle.axi_trail.specs.Schedule.{Share, bytes_on}
+use Rattle.burst_address.proofs.LaneBytes.{lanes-ordered}
+use Rattle.burst_address.proofs.Widths.{width-bounds}
 use Rattle.burst_address.specs.Accesses.{answered_bytes}
-use Rattle.burst_address.specs.Lanes.{first_lane, lane_count, last_lane, valid_lanes}
+use Rattle.burst_address.specs.Formulas.{beats_of}
+use Rattle.burst_address.specs.Lanes.{first_lane, lane_count, last_lane, valid_lanes, valid_span}
+use Rattle.burst_address.specs.Legal.{IsLegal}
 use Rattle.memory_node.proofs.FillLemmas.{count-reads, count_allowed}
 use Rattle.memory_node.proofs.LaneLemmas.{lanes-within}
 use Rattle.memory_node.specs.Accesses.{allowed_bytes, beat_span, read_addresses}
 use Rattle.memory_node.specs.MemoryArea.{MemoryArea}
 use Rattle.net_history.proofs.DueLemmas.{HasLanes}
+use Rattle.net_history.proofs.ListLemmas.{All-flat}
+use Rattle.node_shape.specs.LinkForm.{FitsLink, IsWordRequest, LinkForm, lanes_wanted, wanted_lanes, wanted_span}
+use Rattle.plain_lists.proofs.PlaceLemmas.{at-all}
 use Rattle.plain_lists.proofs.PrefixLemmas.{prefix_whole}
 use Rattle.plain_lists.specs.Prefixes.{IsPrefix}
-use Rattle.subordinate.specs.Parts.{BeatOf}
+use Rattle.subordinate.specs.Parts.{BeatOf, beats_of_parts}
 
 filled-short : (allowed : List Bool) (values : List ℕ) → length (answered_bytes allowed values) ≤ length allowed
 filled-short [] values = omega arith
@@ -31,44 +42,85 @@ filled-all (false ∷ more) values le = filled-all more values (omega (arith, le
 filled-all (true ∷ more) [] le = absurd (omega (arith, le))
 filled-all (true ∷ more) (v ∷ values) le = omega (arith, filled-all more values (omega (arith, le)))
 
--- the bytes of a beat on its lanes
-range-long : (lanes : List ℕ) (low high : ℕ) → length lanes ≡ 128 → low ≤ high → high < 128 → length (slice_range lanes low (high + 1)) ≡ high - low + 1
-range-long lanes low high long order within = omega (arith, length-take (high + 1 - low) (drop low lanes), length-drop low lanes, long)
+-- ---- the bytes on lanes
 
-module _ (area : MemoryArea) (width : IsBusWidth area.bus) where
+-- a span of lanes of the widest bus
+abbrev pub IsSpan : Span → Type 0
+IsSpan span = (span.low ≤ span.high) × (span.high < 128)
+
+-- beats that stand on as many spans have as many bytes there as lanes are wanted
+pub on-long : (spans : List Span) (beats : List RBeat) → All IsSpan spans → All (λ (r : RBeat). length r.lanes ≡ 128) beats → length spans ≤ length beats → length (bytes_on beats spans) ≡ lanes_wanted spans
+on-long [] [] within whole le = refl
+on-long [] (r ∷ beats) within whole le = refl
+on-long (span ∷ spans) [] within whole le = absurd (omega (arith, le))
+on-long (span ∷ spans) (r ∷ beats) within whole le =
+    let here = All-head IsSpan span spans within in
+    let long = All-head (λ (r : RBeat). length r.lanes ≡ 128) r beats whole in
+    let one : length (slice_range r.lanes span.low (span.high + 1)) ≡ span.high + 1 - span.low =
+    omega (arith, length-take (span.high + 1 - span.low) (drop span.low r.lanes), length-drop span.low r.lanes, long, here.0, here.1) in
+    length-append (slice_range r.lanes span.low (span.high + 1)) (bytes_on beats spans)
+    ∙ ap₂ (λ (x y : ℕ). x + y) one (on-long spans beats (All-tail IsSpan span spans within) (All-tail (λ (r : RBeat). length r.lanes ≡ 128) r beats whole) (omega (arith, le)))
+
+-- the valid lanes of a beat of a legal burst
+pub valid-within : (bus : ℕ) → IsBusWidth bus → (request : Addr) → IsLegal request bus → (beat : ℕ) → IsSpan (valid_span request beat bus)
+valid-within bus width request legal beat =
+    let bounds = lanes-within request beat bus width in
+    let order = lanes-ordered request beat bus width legal in
+    (order, omega (arith, bounds.1, bounds.2, order))
+
+-- what a link wants of a transaction stands on lanes of its bus
+module _ (form : LinkForm) (write : Bool) (share : Share) (fits : FitsLink form write share) where
+  span-within : (k : ℕ) (part : Addr) → slice_get share.parts k ≡ Some part → (beat : ℕ) → IsSpan (wanted_span form part beat)
+  span-within k part at beat = elim (cases_Bool form.lite) [
+    | inl lite ↦
+        let word = at-all (IsWordRequest form.bus) share.parts k part (fits.words lite) at in
+        let most = (width-bounds form.bus fits.width).1 in
+        subst (λ (b : Bool). IsSpan (cond b (record { low = part.tag.low; high = part.tag.high }) (valid_span part beat form.bus))) (sym lite) (word.low, omega (arith, word.high, most))
+    | inr full ↦
+        subst (λ (b : Bool). IsSpan (cond b (record { low = part.tag.low; high = part.tag.high }) (valid_span part beat form.bus))) (sym full)
+        (valid-within form.bus fits.width part (at-all (λ (a : Addr). IsLegal a form.bus) share.parts k part fits.legal at) beat)
+  ]
+
+  pub spans-within : All IsSpan (flat_map (wanted_lanes form) share.parts)
+  spans-within =
+      All-flat IsSpan (wanted_lanes form) share.parts (λ k part at.
+      All-map IsSpan (wanted_span form part) (range_with_len 0 (beats_of part)) (λ i d lt. span-within k part at (get_or (range_with_len 0 (beats_of part)) i d)))
+
+-- a span for each beat
+pub lanes-count : (form : LinkForm) (parts : List Addr) → length (flat_map (wanted_lanes form) parts) ≡ length (beats_of_parts parts)
+lanes-count form [] = refl
+lanes-count form (part ∷ parts) =
+    let beats : Addr → List BeatOf = λ p. map (λ n. record { request = p; beat = n }) (range_with_len 0 (beats_of p)) in
+    ap length (flat_map-cons (wanted_lanes form) part parts) ∙ length-append (wanted_lanes form part) (flat_map (wanted_lanes form) parts)
+    ∙ ap₂ (λ (x y : ℕ). x + y)
+    (length-map (range_with_len 0 (beats_of part)) (wanted_span form part) ∙ sym (length-map (range_with_len 0 (beats_of part)) (λ n. record { request = part; beat = n })))
+    (lanes-count form parts)
+    ∙ sym (length-append (beats part) (beats_of_parts parts)) ∙ sym (ap length (flat_map-cons beats part parts))
+
+module _ (area : MemoryArea) where
   allowed-long : (b : BeatOf) → length (allowed_bytes area b) ≡ lane_count b.request b.beat area.bus
   allowed-long b =
       length-map (valid_lanes b.request b.beat area.bus) _ ∙ length-range_with_len (first_lane b.request b.beat area.bus) (lane_count b.request b.beat area.bus)
 
-  bytes-long : (due : List BeatOf) (beats : List RBeat) → All (HasLanes area.bus) due → All (λ (r : RBeat). length r.lanes ≡ 128) beats → length due ≤ length beats →
-      length (bytes_on beats (map (beat_span area) due)) ≡ length (flat_map (allowed_bytes area) due)
-  bytes-long [] [] order whole le = refl
-  bytes-long [] (r ∷ beats) order whole le = refl
-  bytes-long (b ∷ due) [] order whole le = absurd (omega (arith, le))
-  bytes-long (b ∷ due) (r ∷ beats) order whole le =
-      let low = first_lane b.request b.beat area.bus in
-      let high = last_lane b.request b.beat area.bus in
-      let bounds = lanes-within b.request b.beat area.bus width in
-      let ordered : low ≤ high = All-head (HasLanes area.bus) b due order in
-      let one : length (slice_range r.lanes low (high + 1)) ≡ high - low + 1 =
-      range-long r.lanes low high (All-head (λ (r : RBeat). length r.lanes ≡ 128) r beats whole) ordered (omega (arith, bounds.1, bounds.2, ordered)) in
-      let rest = bytes-long due beats (All-tail (HasLanes area.bus) b due order) (All-tail (λ (r : RBeat). length r.lanes ≡ 128) r beats whole) (omega (arith, le)) in
-      length-append (slice_range r.lanes low (high + 1)) (bytes_on beats (map (beat_span area) due))
-      ∙ ap₂ (λ (m n : ℕ). m + n) (one ∙ sym (allowed-long b)) rest
-      ∙ sym (length-append (allowed_bytes area b) (flat_map (allowed_bytes area) due))
-      ∙ sym (ap length (flat_map-cons (allowed_bytes area) b due))
+  -- a memory has a byte for each lane that is wanted of it
+  pub allowed-lanes : (due : List BeatOf) → All (HasLanes area.bus) due → length (flat_map (allowed_bytes area) due) ≡ lanes_wanted (map (beat_span area) due)
+  allowed-lanes [] order = refl
+  allowed-lanes (b ∷ due) order =
+      let ordered : first_lane b.request b.beat area.bus ≤ last_lane b.request b.beat area.bus = All-head (HasLanes area.bus) b due order in
+      let one : length (allowed_bytes area b) ≡ last_lane b.request b.beat area.bus + 1 - first_lane b.request b.beat area.bus = omega (arith, allowed-long b, ordered) in
+      ap length (flat_map-cons (allowed_bytes area) b due) ∙ length-append (allowed_bytes area b) (flat_map (allowed_bytes area) due)
+      ∙ ap₂ (λ (m n : ℕ). m + n) one (allowed-lanes due (All-tail (HasLanes area.bus) b due order))
 
   -- as many addresses are read as bytes may be read
   pub reads-counted : (due : List BeatOf) → length (flat_map (read_addresses area) due) ≡ count_allowed (flat_map (allowed_bytes area) due)
-  reads-counted due = sym (count-reads area due)
+  reads-counted due = sym (count-reads area (beat_span area) due)
 
-  pub reads-whole : (due : List BeatOf) (beats : List RBeat) (values : List ℕ) → All (HasLanes area.bus) due → All (λ (r : RBeat). length r.lanes ≡ 128) beats →
-      IsPrefix (bytes_on beats (map (beat_span area) due)) (answered_bytes (flat_map (allowed_bytes area) due) values) → length due ≤ length beats →
-      (bytes_on beats (map (beat_span area) due) ≡ answered_bytes (flat_map (allowed_bytes area) due) values) × (length (flat_map (read_addresses area) due) ≤ length values)
-  reads-whole due beats values order whole front le =
-      let long = bytes-long due beats order whole le in
+  -- bytes that have come, one for each byte at the memory
+  pub reads-whole : (due : List BeatOf) (bytes values : List ℕ) → length bytes ≡ length (flat_map (allowed_bytes area) due) → IsPrefix bytes (answered_bytes (flat_map (allowed_bytes area) due) values) →
+      (bytes ≡ answered_bytes (flat_map (allowed_bytes area) due) values) × (length (flat_map (read_addresses area) due) ≤ length values)
+  reads-whole due bytes values long front =
       let short = filled-short (flat_map (allowed_bytes area) due) values in
-      let same : answered_bytes (flat_map (allowed_bytes area) due) values ≡ bytes_on beats (map (beat_span area) due) =
-      prefix_whole (bytes_on beats (map (beat_span area) due)) (answered_bytes (flat_map (allowed_bytes area) due) values) front (omega (arith, long, short)) in
+      let same : answered_bytes (flat_map (allowed_bytes area) due) values ≡ bytes =
+      prefix_whole bytes (answered_bytes (flat_map (allowed_bytes area) due) values) front (omega (arith, long, short)) in
       let all = filled-all (flat_map (allowed_bytes area) due) values (omega (arith, long, ap (λ (bytes : List ℕ). length bytes) same)) in
       (sym same, omega (arith, all, reads-counted due))

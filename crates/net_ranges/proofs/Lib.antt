@@ -5,4 +5,5 @@ pub mod LaneRanges
 pub mod LinkRanges
 pub mod PlanLemmas
 pub mod PortLemmas
+pub mod RemapRanges
 pub mod RequestRanges

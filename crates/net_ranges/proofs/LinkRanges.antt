@@ -35,7 +35,7 @@ use Rattle.net_history.proofs.MemoryRuns.{IsMemoryAt, area-is, has-form, memory-
 use Rattle.net_history.proofs.RunStates.{acted_as, holds-at, run_state, stands-at}
 use Rattle.net_kinds.specs.NodeHolds.{node_holds}
 use Rattle.net_kinds.specs.NodeKind.{KindName, NodeState, StateOf, kind_by_name, node_kind}
-use Rattle.net_kinds.specs.NodeKind.KindName.{ADemux, AManager, AMemory, AMux, ASlice, AnError}
+use Rattle.net_kinds.specs.NodeKind.KindName.{ADemux, AManager, AMemory, AMux, ARemap, ASlice, AnError}
 use Rattle.net_model.specs.Network.{Network, lower_node, upper_node}
 use Rattle.net_ranges.proofs.AnswerRanges.{accesses-write, inside-read, left-byte, read_data-put, responses-put, written-bytes}
 use Rattle.net_ranges.proofs.BeatRanges.{IsAddressInRange, IsReadDataInRange, IsResponseInRange, narrowed-read_data, narrowed-response, read-on_bus, zeros-on_bus}
@@ -55,6 +55,8 @@ use Rattle.plain_lists.proofs.PrefixLemmas.{All_front}
 use Rattle.plain_lists.proofs.SelectedLemmas.{all-by_way}
 use Rattle.plain_lists.specs.Keys.{of_key, selected}
 use Rattle.plain_text.specs.ExactLaws.{AreBytes}
+use Rattle.net_ranges.proofs.RemapRanges.{remap-gives_back}
+use Rattle.remap_node.specs.RemapState.{RemapShape, RemapState}
 use Rattle.slice_node.specs.SliceState.{SliceState}
 use Rattle.slice_node.specs.SliceTrail.{SliceKeeps}
 use Rattle.subordinate.specs.Tracks.{KeepsOrder}
@@ -239,6 +241,10 @@ module _ (net : Network NodeState) (forms : ℕ → LinkForm) (sound : IsSound n
     demux-stays s zero = refl
     demux-stays s (suc k) = demux-stays s k
 
+    remap-stays : (s : RemapState) (k : ℕ) → (run_state net ARemap s k).shape ≡ s.shape
+    remap-stays s zero = refl
+    remap-stays s (suc k) = remap-stays s k
+
     -- what has passed above a mux of the answers below it
     mux-parts : (s : MuxState) (out : Out) (node : ℕ) → slice_get net.nodes node ≡ Some (acted_as AMux s out) → AreNarrowed s.shape (passed_by node_kind net node n)
     mux-parts s out node at =
@@ -268,6 +274,22 @@ module _ (net : Network NodeState) (forms : ℕ → LinkForm) (sound : IsSound n
         let there : AnswersOf s.upper ((passed_by node_kind net node n).uppers s.upper) =
         subst (λ (beats : Beats). AnswersOf s.upper beats) keeps.same (back.0, subst (λ (b : ℕ). All (IsReadDataInRange b) ((passed_by node_kind net node n).lowers s.lower).r) bus back.1) in
         at-node link node below (subst (λ (l : ℕ). AnswersOf l ((passed_by node_kind net node n).uppers l)) (sym one) there)
+    by-kind ARemap s out node at link known below among answers =
+        let own = own-lower node_kind node_holds net forms sound node (acted_as ARemap s out) at s.shape.lower (0, omega arith, refl) in
+        let back = back-at s.shape.lower node own.0 own.1 (answers s.shape.lower (0, omega arith, refl)) in
+        let one = one-of link s.shape.upper among in
+        let trails = passed_by node_kind net node n in
+        let bus = (is-sound net forms sound ARemap s out node at).alike.bus in
+        let GivesBack : RemapShape → Type 0 = λ shape.
+        All IsAddressInRange (trails.uppers shape.upper).aw → All IsAddressInRange (trails.uppers shape.upper).ar → All IsResponseInRange (trails.lowers shape.lower).b →
+        All (IsReadDataInRange (bus_of s.shape.upper)) (trails.lowers shape.lower).r →
+        All IsResponseInRange (trails.uppers shape.upper).b × All (IsReadDataInRange (bus_of s.shape.upper)) (trails.uppers shape.upper).r in
+        let gives : GivesBack s.shape =
+        subst GivesBack (remap-stays s n) (remap-gives_back (schedules net forms sound) (run_state net ARemap s n) _ _ (keeps-at ARemap s out node at) (bus_of s.shape.upper)) in
+        let writes = subst (λ (l : ℕ). All IsAddressInRange (trails.uppers l).aw) one (subst (λ (k : ℕ). All IsAddressInRange ((passed_by node_kind net k n).uppers link).aw) below (writes-come link known n)) in
+        let reads = subst (λ (l : ℕ). All IsAddressInRange (trails.uppers l).ar) one (subst (λ (k : ℕ). All IsAddressInRange ((passed_by node_kind net k n).uppers link).ar) below (reads-come link known n)) in
+        let there : AnswersOf s.shape.upper (trails.uppers s.shape.upper) = gives writes reads back.0 (subst (λ (b : ℕ). All (IsReadDataInRange b) (trails.lowers s.shape.lower).r) bus back.1) in
+        at-node link node below (subst (λ (l : ℕ). AnswersOf l (trails.uppers l)) (sym one) there)
     by-kind AMux s out node at link known below among answers =
         let own = own-lower node_kind node_holds net forms sound node (acted_as AMux s out) at s.shape.lower (0, omega arith, refl) in
         let back = back-at s.shape.lower node own.0 own.1 (answers s.shape.lower (0, omega arith, refl)) in

@@ -80,7 +80,7 @@ plain-below kind.Demux node links built own above = above refl
 plain-below kind.Mux node links built own above = let first = above refl in record { axi = first.axi; width = first.width }
 plain-below kind.Crossbar node links built own above = let first = above refl in record { axi = first.axi; width = first.width }
 plain-below kind.LiteMemory node links built own above = absurd (cc)
-plain-below kind.Remap node links built own above = absurd (cc)
+plain-below kind.Remap node links built own above = let first = above refl in record { axi = first.axi; width = first.width }
 plain-below kind.Up node links built own above = absurd (cc)
 plain-below kind.Down node links built own above = absurd (cc)
 plain-below kind.Lite node links built own above = absurd (cc)

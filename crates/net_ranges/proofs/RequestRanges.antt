@@ -25,14 +25,14 @@ use Rattle.net_history.proofs.ManagerRuns.{IsManagerAt, begins, has-link, run-ke
 use Rattle.net_history.proofs.RunStates.{acted_as}
 use Rattle.net_kinds.specs.NodeHolds.{node_holds}
 use Rattle.net_kinds.specs.NodeKind.{KindName, NodeState, StateOf, node_kind}
-use Rattle.net_kinds.specs.NodeKind.KindName.{ADemux, AManager, AMemory, AMux, ASlice, AnError}
+use Rattle.net_kinds.specs.NodeKind.KindName.{ADemux, AManager, AMemory, AMux, ARemap, ASlice, AnError}
 use Rattle.net_model.specs.Network.{Network}
 use Rattle.net_ranges.proofs.BeatRanges.{IsAddressInRange, IsPartInRange, data-in_range, request-in_range}
-use Rattle.net_ranges.proofs.FormLemmas.{bus-carried}
+use Rattle.net_ranges.proofs.FormLemmas.{DataFits, data-along}
 use Rattle.net_ranges.specs.TraceLines.{FitsItsBeats, FitsLanes, FitsTraces}
 use Rattle.net_runs.proofs.ContractFacts.{at-some}
 use Rattle.net_runs.specs.Run.{upper_end}
-use Rattle.net_ways.proofs.OriginLemmas.{flat-from, its-way}
+use Rattle.net_ways.proofs.OriginLemmas.{flat-from, is-found, its-way}
 use Rattle.net_ways.proofs.WayLemmas.{is-carried}
 use Rattle.net_ways.specs.Sound.{IsSound}
 use Rattle.net_ways.specs.Ways.{carried, is_origin, origins_in, share_on, way_of}
@@ -69,6 +69,7 @@ module _ (net : Network NodeState) (forms : ℕ → LinkForm) (sound : IsSound n
   of-kind node AMux s out origin at among = absurd (omega (arith, among.1))
   of-kind node AnError s out origin at among = absurd (omega (arith, among.1))
   of-kind node ADemux s out origin at among = absurd (omega (arith, among.1))
+  of-kind node ARemap s out origin at among = absurd (omega (arith, among.1))
 
   of-script : (origin : Origin) → Contains (origins_in node_kind net.nodes) origin → IsOfScript origin
   of-script origin among =
@@ -85,15 +86,14 @@ module _ (net : Network NodeState) (forms : ℕ → LinkForm) (sound : IsSound n
   abbrev bus_of : ℕ → ℕ
   bus_of link = (forms link).bus
 
-  -- a link carries a transaction of a script as it is
+  -- a link carries the request of a transaction of a script
   pub record IsItsOwn (write : Bool) (link : ℕ) (share : Share) : Type 0 where
     pub origin : Origin
     pub among : Contains (origins_in node_kind net.nodes) origin
     pub script : IsOfScript origin
     pub direction : origin.write ≡ write
     pub parts : share.parts ≡ origin.share.parts
-    pub write_data : share.write_data ≡ origin.share.write_data
-    pub bus : (forms origin.link).bus ≡ bus_of link
+    pub there : carried node_kind net origin.write link origin.number ≡ Some share
 
   own-share : (write : Bool) (link number : ℕ) (share : Share) → carried node_kind net write link number ≡ Some share → IsItsOwn write link share
   own-share write link number share there = go (find (is_origin write number) (origins_in node_kind net.nodes)) refl
@@ -113,8 +113,7 @@ module _ (net : Network NodeState) (forms : ℕ → LinkForm) (sound : IsSound n
             script = of-script origin among;
             direction = its.same_direction;
             parts = same.parts;
-            write_data = same.write_data;
-            bus = bus-carried net forms sound origin among link share own;
+            there = own;
           }
 
   parts-in_range : (write : Bool) (link number : ℕ) → All (IsPartInRange (bus_of link)) (unwrap_or (carried node_kind net write link number) no_share).parts
@@ -134,6 +133,29 @@ module _ (net : Network NodeState) (forms : ℕ → LinkForm) (sound : IsSound n
           (All-cons (IsPartInRange (bus_of link)) part []
           (record { legal = legal 0 part (omega arith); start = small 0 part (omega arith); tag = record { txn = item.number; low = omega arith; high = omega arith } }) (All-nil (IsPartInRange (bus_of link))))
 
+  -- the data of a script fits a trace line of its manager's link
+  first-fits : (origin : Origin) → IsOfScript origin → origin.write ≡ true → Contains (origins_in node_kind net.nodes) origin → DataFits net forms sound origin.link origin.share
+  first-fits origin script direction among =
+      let its = its-way node_kind node_holds net forms sound origin.write origin.number origin (is-found node_kind node_holds net forms sound origin among) in
+      let new = begins net forms sound script.node script.s script.is in
+      let item = fits-item script.node script.s script.is script.place script.item script.at in
+      let beats_sent = data_beats script.item script.s.bus in
+      let writes : script.item.txn.write ≡ true = ap (λ (o : Origin). o.write) script.same ∙ direction in
+      let sent : flat_map (λ (beats : List WBeat). beats) origin.share.write_data ≡ beats_sent =
+      ap (flat_map (λ (beats : List WBeat). beats)) (ap (λ (o : Origin). o.share.write_data) (sym script.same) ∙ ap (λ (b : Bool). cond b (beats_sent ∷ []) []) writes) ∙ append-nil beats_sent in
+      let same : script.s.bus ≡ bus_of origin.link = sym (has-link net forms sound script.node script.s script.is).bus ∙ ap (λ (o : Origin). (forms o.link).bus) script.same in
+      let strobes : All (λ (w : WBeat). w.strobe < 2 ^ bus_of origin.link) beats_sent = subst (All (λ (w : WBeat). w.strobe < 2 ^ bus_of origin.link)) sent (its.starts.fits.is.fits.strobes direction) in
+      let beats = beats_of script.item.txn.request in
+      subst (All (IsTraceWriteData (bus_of origin.link))) (sym sent) (λ n past within.
+      let here : n < beats = subst (λ (k : ℕ). n < k) (length-map-range_with_len (data_beat script.item script.s.bus) 0 beats) within in
+      let place : 0 + n ≡ n = omega arith in
+      let is : get_or beats_sent n past ≡ data_beat script.item script.s.bus n = get_or-map-range_with_len (data_beat script.item script.s.bus) 0 beats n n past here place in
+      let legal = at-all (λ (i : ScriptItem). IsLegal i.txn.request script.s.bus) script.s.script script.place script.item new.legal script.at in
+      let strobe : (data_beat script.item script.s.bus n).strobe < 2 ^ script.s.bus =
+      subst (λ (b : ℕ). (data_beat script.item script.s.bus n).strobe < 2 ^ b) (sym same) (subst (λ (w : WBeat). w.strobe < 2 ^ bus_of origin.link) is (strobes n past within)) in
+      subst (λ (w : WBeat). IsTraceWriteData (bus_of origin.link) w) (sym is)
+      (subst (λ (b : ℕ). IsTraceWriteData b (data_beat script.item script.s.bus n)) same (data-in_range script.item script.s.bus n new.bus_width legal item strobe)))
+
   pub data-carried : (link number : ℕ) → All (IsTraceWriteData (bus_of link)) (flat_map (λ (beats : List WBeat). beats) (unwrap_or (carried node_kind net true link number) no_share).write_data)
   data-carried link number = go (carried node_kind net true link number) refl
     where
@@ -141,26 +163,7 @@ module _ (net : Network NodeState) (forms : ℕ → LinkForm) (sound : IsSound n
       go None none = All-nil (IsTraceWriteData (bus_of link))
       go (Some share) there =
           let own = own-share true link number share there in
-          let script = own.script in
-          let fit = (is-carried node_kind node_holds net forms sound true number link share there).fits in
-          let new = begins net forms sound script.node script.s script.is in
-          let item = fits-item script.node script.s script.is script.place script.item script.at in
-          let writes : script.item.txn.write ≡ true = ap (λ (o : Origin). o.write) script.same ∙ own.direction in
-          let sent : flat_map (λ (beats : List WBeat). beats) share.write_data ≡ data_beats script.item script.s.bus =
-          ap (flat_map (λ (beats : List WBeat). beats)) (own.write_data ∙ ap (λ (o : Origin). o.share.write_data) (sym script.same) ∙ ap (λ (b : Bool). cond b (data_beats script.item script.s.bus ∷ []) []) writes)
-          ∙ append-nil (data_beats script.item script.s.bus) in
-          let strobes : All (λ (w : WBeat). w.strobe < 2 ^ bus_of link) (data_beats script.item script.s.bus) = subst (All (λ (w : WBeat). w.strobe < 2 ^ bus_of link)) sent (fit.strobes refl) in
-          let same : script.s.bus ≡ bus_of link = sym (has-link net forms sound script.node script.s script.is).bus ∙ ap (λ (o : Origin). (forms o.link).bus) script.same ∙ own.bus in
-          let beats = beats_of script.item.txn.request in
-          subst (All (IsTraceWriteData (bus_of link))) (sym sent) (λ n past within.
-          let here : n < beats = subst (λ (k : ℕ). n < k) (length-map-range_with_len (data_beat script.item script.s.bus) 0 beats) within in
-          let place : 0 + n ≡ n = omega arith in
-          let is : get_or (data_beats script.item script.s.bus) n past ≡ data_beat script.item script.s.bus n = get_or-map-range_with_len (data_beat script.item script.s.bus) 0 beats n n past here place in
-          let legal = at-all (λ (i : ScriptItem). IsLegal i.txn.request script.s.bus) script.s.script script.place script.item new.legal script.at in
-          let strobe : (data_beat script.item script.s.bus n).strobe < 2 ^ script.s.bus =
-          subst (λ (b : ℕ). (data_beat script.item script.s.bus n).strobe < 2 ^ b) (sym same) (subst (λ (w : WBeat). w.strobe < 2 ^ bus_of link) is (strobes n past within)) in
-          subst (λ (w : WBeat). IsTraceWriteData (bus_of link) w) (sym is)
-          (subst (λ (b : ℕ). IsTraceWriteData b (data_beat script.item script.s.bus n)) same (data-in_range script.item script.s.bus n new.bus_width legal item strobe)))
+          data-along net forms sound own.origin own.among (first-fits own.origin own.script own.direction own.among) link share own.there
 
   -- ---- what is asked on a link
 

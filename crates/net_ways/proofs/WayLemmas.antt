@@ -81,9 +81,9 @@ module _ {S E : Type 0} (kind : Kind S E) (holds : KindHolds kind) (net : Networ
     pub is : IsCarried (forms hop.link) write hop.link hop.share
     pub keeps : KeepsBytes kind forms origin hop
 
-  right-next : (write : Bool) (origin : Origin) (hop next : Hop) → hop.link < length net.links → (way_below kind net hop.link).goes_on hop.share ≡ Some next.link →
+  right-next : (write : Bool) (origin : Origin) → origin.write ≡ write → (hop next : Hop) → hop.link < length net.links → (way_below kind net hop.link).goes_on hop.share ≡ Some next.link →
       IsSentOn (way_below kind net hop.link) write next.link hop.share next.share → IsRight write origin hop → IsRight write origin next
-  right-next write origin hop next known goes sent right =
+  right-next write origin direction hop next known goes sent right =
       let node = node-below hop.link known in
       let k = lower_node net.links hop.link in
       let way : way_below kind net hop.link ≡ kind.way node.0.state = way-is k node.0 node.1 hop.link refl in
@@ -94,14 +94,18 @@ module _ {S E : Type 0} (kind : Kind S E) (holds : KindHolds kind) (net : Networ
       sent.cut ∙ ap (λ (w : Way). with_responses (onto next.link (w.cut hop.share)) next.share.responses) way in
       record {
         is = subst (λ (s : Share). IsCarried (forms next.link) write next.link s) (sym is) (responding (forms next.link) write next.link (onto next.link ((kind.way node.0.state).cut hop.share)) next.share.responses cut.is);
-        keeps = subst (λ (s : Share). KeepsBytes kind forms origin (record { link = next.link; share = s })) (sym is) (record { bytes = cut.bytes ∙ right.keeps.bytes; lanes = cut.lanes ∙ right.keeps.lanes });
+        keeps = subst (λ (s : Share). KeepsBytes kind forms origin (record { link = next.link; share = s })) (sym is) (record {
+          bytes = cut.bytes ∙ right.keeps.bytes;
+          lanes = cut.lanes ∙ right.keeps.lanes;
+          written = λ writes. cut.written (sym direction ∙ writes) ∙ right.keeps.written writes;
+        });
       }
 
-  all-right : (write : Bool) (origin : Origin) (hop : Hop) (more : List Hop) → hop.link < length net.links → Joined write (hop ∷ more) → IsRight write origin hop → All (IsRight write origin) (hop ∷ more)
-  all-right write origin hop [] known joined right = All-cons (IsRight write origin) hop [] right (All-nil (IsRight write origin))
-  all-right write origin hop (next ∷ more) known joined right =
+  all-right : (write : Bool) (origin : Origin) → origin.write ≡ write → (hop : Hop) (more : List Hop) → hop.link < length net.links → Joined write (hop ∷ more) → IsRight write origin hop → All (IsRight write origin) (hop ∷ more)
+  all-right write origin direction hop [] known joined right = All-cons (IsRight write origin) hop [] right (All-nil (IsRight write origin))
+  all-right write origin direction hop (next ∷ more) known joined right =
       All-cons (IsRight write origin) hop (next ∷ more) right
-      (all-right write origin next more joined.0.known joined.1 (right-next write origin hop next known joined.0.goes joined.0.sent right))
+      (all-right write origin direction next more joined.0.known joined.1 (right-next write origin direction hop next known joined.0.goes joined.0.sent right))
 
   module _ (write : Bool) (number : ℕ) (origin : Origin) (its : HasItsWay kind holds net forms sound write number origin) where
     abbrev hop : Hop
@@ -109,13 +113,19 @@ module _ {S E : Type 0} (kind : Kind S E) (holds : KindHolds kind) (net : Networ
 
     pub rights : All (IsRight write origin) (hop ∷ its.more)
     rights =
-        all-right write origin hop its.more its.starts.known its.joined (record {
+        all-right write origin its.same_direction hop its.more its.starts.known its.joined (record {
           is = responding (forms origin.link) write origin.link origin.share its.responses (subst (λ (w : Bool). IsCarried (forms origin.link) w origin.link origin.share) its.same_direction its.starts.fits.is);
-          keeps = record { bytes = refl; lanes = refl };
+          keeps = record { bytes = refl; lanes = refl; written = λ writes. refl };
         })
 
-    right-there : (link : ℕ) (share : Share) → carried kind net write link number ≡ Some share → IsCarried (forms link) write link share
-    right-there link share there = (All-contains (IsRight write origin) (hop ∷ its.more) (record { link = link; share = share }) rights (among-hops link (hop ∷ its.more) share (sym (its.is link) ∙ there))).is
+    right-there : (link : ℕ) (share : Share) → carried kind net write link number ≡ Some share → IsRight write origin (record { link = link; share = share })
+    right-there link share there = All-contains (IsRight write origin) (hop ∷ its.more) (record { link = link; share = share }) rights (among-hops link (hop ∷ its.more) share (sym (its.is link) ∙ there))
+
+  -- a link that carries a transaction carries its bytes
+  pub keeps-there : (origin : Origin) → Contains (origins_in kind net.nodes) origin → (link : ℕ) (share : Share) → carried kind net origin.write link origin.number ≡ Some share →
+      KeepsBytes kind forms origin (record { link = link; share = share })
+  keeps-there origin among link share there =
+      (right-there origin.write origin.number origin (its-way kind holds net forms sound origin.write origin.number origin (is-found kind holds net forms sound origin among)) link share there).keeps
 
   -- what a link carries is legal on it
   pub is-carried : (write : Bool) (number link : ℕ) (share : Share) → carried kind net write link number ≡ Some share → IsCarried (forms link) write link share
@@ -123,7 +133,7 @@ module _ {S E : Type 0} (kind : Kind S E) (holds : KindHolds kind) (net : Networ
     where
       go : (o : Option Origin) → find (is_origin write number) (origins_in kind net.nodes) ≡ o → IsCarried (forms link) write link share
       go None none = absurd (none-some share (sym (not-carried kind holds net forms sound write number link none) ∙ there))
-      go (Some origin) found = right-there write number origin (its-way kind holds net forms sound write number origin found) link share there
+      go (Some origin) found = (right-there write number origin (its-way kind holds net forms sound write number origin found) link share there).is
 
   module _ (k : ℕ) (a : Acted S) (at : slice_get net.nodes k ≡ Some a) (write : Bool) where
     abbrev way : Way

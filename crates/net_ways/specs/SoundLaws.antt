@@ -11,7 +11,7 @@ use Rattle.net_ways.specs.Sound.{IsSound}
 use Rattle.net_ways.specs.Ways.{Hop, origins_in, schedules_of, way_of}
 use Rattle.node_core.specs.Acted.{Acted}
 use Rattle.node_shape.specs.Kind.{Kind}
-use Rattle.node_shape.specs.LinkForm.{LinkForm, lanes_wanted, wanted_bytes}
+use Rattle.node_shape.specs.LinkForm.{LinkForm, lanes_wanted, parts_written, wanted_bytes}
 use Rattle.node_shape.specs.Way.{Origin}
 use Rattle.node_shape.specs.WaysAround.{WaysAround}
 
@@ -23,10 +23,11 @@ module _ {S E : Type 0} (kind : Kind S E) where
       IfSome (slice_get net.nodes node)
       (λ (a : Acted S). WaysAround (kind.way a.state) (kind.uppers a.state) (kind.lowers a.state) forms (schedules_of kind net forms))
 
-  -- a link of a way carries the bytes with which the transaction started, and wants as many lanes
+  -- a link of a way carries the bytes with which the transaction started, writes the same, and wants as many lanes
   pub record KeepsBytes (forms : ℕ → LinkForm) (origin : Origin) (hop : Hop) : Type 0 where
     pub bytes : flat_map (wanted_bytes (forms hop.link)) hop.share.parts ≡ flat_map (wanted_bytes (forms origin.link)) origin.share.parts
     pub lanes : lanes_wanted hop.share.lanes ≡ lanes_wanted origin.share.lanes
+    pub written : origin.write ≡ true → parts_written (forms hop.link) hop.share ≡ parts_written (forms origin.link) origin.share
 
   abbrev pub WaysKeepBytes : Type 0
   WaysKeepBytes =

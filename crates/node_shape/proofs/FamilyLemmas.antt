@@ -38,7 +38,7 @@ module _ {I E : Type 0} {StateOf : I → Type 0} (kinds : (i : I) → Kind (Stat
         record { below = fits.below; is = fits.is; no_responses = fits.no_responses };
     cuts_fit = λ forms schedules s begun sound write link next share among is goes.
         let fits = (all s.kind).cuts_fit forms schedules s.state begun sound write link next share among is goes in
-        record { is = fits.is; bytes = fits.bytes; lanes = fits.lanes };
+        record { is = fits.is; bytes = fits.bytes; lanes = fits.lanes; written = fits.written };
     ways_suit = λ forms schedules s begun sound ways. (all s.kind).ways_suit forms schedules s.state begun sound ways;
     opens = λ schedules s begun suits. (all s.kind).opens schedules s.state begun suits;
     may_decide = λ schedules now rounds links s passed. (all s.kind).may_decide schedules now rounds links s.state passed;

@@ -3,7 +3,7 @@ use Rattle.std.proofs.Common.{◌≡◌, ◌∙◌, ℕ, List, Bool, sym, ap, su
 use Rattle.std.specs.Prelude.{flat_map}
 use Rattle.axi_beats.specs.declared.beat.Addr.{Addr}
 use Rattle.axi_trail.specs.Schedule.{Share}
-use Rattle.node_shape.specs.LinkForm.{FitsLink, IsAlike, LinkForm, wanted_bytes}
+use Rattle.node_shape.specs.LinkForm.{FitsLink, IsAlike, LinkForm, parts_written, wanted_bytes}
 use Rattle.node_shape.specs.Way.{onto}
 use Rattle.node_shape.specs.WaysAround.{IsCarried}
 
@@ -47,6 +47,10 @@ module _ (form other : LinkForm) (alike : IsAlike form other) where
   -- the same bytes are wanted
   pub bytes-alike : (parts : List Addr) → flat_map (wanted_bytes other) parts ≡ flat_map (wanted_bytes form) parts
   bytes-alike parts = ap (λ (f : LinkForm). flat_map (wanted_bytes f) parts) (sym same-form)
+
+  -- and the same written
+  pub written-alike : (share : Share) → parts_written other share ≡ parts_written form share
+  written-alike share = ap (λ (f : LinkForm). parts_written f share) (sym same-form)
 
   -- and it is carried by the next link
   pub carried-alike : (write : Bool) (link next : ℕ) (share : Share) → IsCarried form write link share → IsCarried other write next (onto next share)

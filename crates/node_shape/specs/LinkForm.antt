@@ -1,5 +1,5 @@
 -- The form of a link, and what of a transaction fits it.
-use Rattle.std.specs.Prelude.{◌≡◌, ◌<◌, ◌≤◌, ◌+◌, ◌-◌, ◌%◌, ◌^◌, [], ◌∷◌, ℕ, List, Bool, true, false, All, flat_map, map, if◌then◌else◌}
+use Rattle.std.specs.Prelude.{◌≡◌, ◌<◌, ◌≤◌, ◌+◌, ◌-◌, ◌%◌, ◌^◌, [], ◌∷◌, ℕ, List, Bool, true, false, All, flat_map, map, zip, if◌then◌else◌}
 use Rattle.std.specs.List.{AllZip, range_with_len}
 use Rattle.axi_beats.specs.Bus.{IsBusWidth}
 use Rattle.axi_beats.specs.Lanes.{Span}
@@ -7,6 +7,7 @@ use Rattle.axi_beats.specs.declared.beat.Addr.{Addr}
 use Rattle.axi_beats.specs.declared.beat.Burst.TheVariants.{Incr}
 use Rattle.axi_beats.specs.declared.beat.WBeat.{WBeat}
 use Rattle.axi_trail.specs.Schedule.{Share}
+use Rattle.burst_address.specs.Bytes.{Byte, written_bytes}
 use Rattle.burst_address.specs.Formulas.{beats_of, size_of}
 use Rattle.burst_address.specs.Lanes.{valid_span, word_address}
 use Rattle.burst_address.specs.Legal.{IsLegal, page}
@@ -57,6 +58,10 @@ bytes_within word span = range_with_len (word + span.low) (span.high + 1 - span.
 
 abbrev pub wanted_bytes : LinkForm → Addr → List ℕ
 wanted_bytes form request = flat_map (λ beat. bytes_within (word_address request beat form.bus) (wanted_span form request beat)) (range_with_len 0 (beats_of request))
+
+-- the bytes that the data of a write writes, part by part in burst order
+abbrev pub parts_written : LinkForm → Share → List Byte
+parts_written form share = flat_map (λ (p : Addr × List WBeat). written_bytes form.bus p.0 p.1) (zip share.parts share.write_data)
 
 -- What a link carries of a transaction of a direction is legal on its bus.
 pub record FitsLink (form : LinkForm) (write : Bool) (share : Share) : Type 0 where

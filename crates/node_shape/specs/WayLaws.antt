@@ -1,8 +1,8 @@
 -- What every kind shows of the ways of transactions through its nodes.
-use Rattle.std.specs.Prelude.{◌≡◌, ◌<◌, [], ℕ, Bool, Contains, Some, flat_map, length}
+use Rattle.std.specs.Prelude.{◌≡◌, ◌<◌, [], ℕ, Bool, Contains, Some, flat_map, length, true}
 use Rattle.axi_trail.specs.Schedule.{Schedule, Share}
 use Rattle.node_shape.specs.Kind.{Kind, Passed}
-use Rattle.node_shape.specs.LinkForm.{LinkForm, lanes_wanted, wanted_bytes}
+use Rattle.node_shape.specs.LinkForm.{LinkForm, lanes_wanted, parts_written, wanted_bytes}
 use Rattle.node_shape.specs.Way.{IsWay, Origin, onto}
 use Rattle.node_shape.specs.WaysAround.{IsCarried, WaysAround}
 
@@ -26,11 +26,12 @@ module _ {S E : Type 0} (kind : Kind S E) where
       (forms : ℕ → LinkForm) (schedules : ℕ → Schedule) (s : S) → kind.begins s → kind.is_sound forms schedules s → (origin : Origin) →
       Contains (kind.way s).origins origin → IsOrigin forms s origin
 
-  -- What goes on is legal on its next link, has the same bytes, wants as many lanes, and stays in its page.
+  -- What goes on is legal on its next link, has the same bytes, writes the same, wants as many lanes, and stays in its page.
   pub record IsSentOnWhole (forms : ℕ → LinkForm) (s : S) (write : Bool) (link next : ℕ) (share : Share) : Type 0 where
     pub is : IsCarried (forms next) write next (onto next ((kind.way s).cut share))
     pub bytes : flat_map (wanted_bytes (forms next)) ((kind.way s).cut share).parts ≡ flat_map (wanted_bytes (forms link)) share.parts
     pub lanes : lanes_wanted ((kind.way s).cut share).lanes ≡ lanes_wanted share.lanes
+    pub written : write ≡ true → parts_written (forms next) ((kind.way s).cut share) ≡ parts_written (forms link) share
 
   abbrev pub CutsFit : Type 0
   CutsFit =
