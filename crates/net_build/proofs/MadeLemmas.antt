@@ -11,9 +11,10 @@ use Rattle.memory_node.specs.MemoryState.{MemoryState, new_memory}
 use Rattle.memory_node.specs.declared.config.MemoryConfig.{MemoryConfig}
 use Rattle.memory_node.specs.declared.config.Range.{Range}
 use Rattle.mux_node.specs.MuxState.{MuxState, new_mux}
+use Rattle.remap_node.specs.RemapState.{RemapState, new_remap}
 use Rattle.net_kinds.specs.NodeKind.{KindName, NodeState, StateOf}
 use Rattle.net_opening.specs.PlanLinks.{link_into, link_out_of, links_into, links_out_of}
-use Rattle.net_opening.specs.States.{area_of_node, demux_at, document_node_of, manager_at, memory_at, memory_range, mux_at}
+use Rattle.net_opening.specs.States.{area_of_node, demux_at, document_node_of, manager_at, memory_at, memory_range, mux_at, remap_at}
 use Rattle.net_opening.specs.Touched.{lines_touched}
 use Rattle.node_core.specs.Acted.{Acted, opened}
 use Rattle.node_core.specs.Paces.{new_paces}
@@ -54,7 +55,7 @@ module _ (nodes : List DocumentNode) (items : List TrafficItem) (number : ℕ) w
       ∙ ap₂ (λ (l b : ℕ). opened (new_manager (script_of items (plan_node_at nodes number).document) l b (new_paces give accept))) below width
       ∙ ap₂ (λ (g a : List ℕ). opened (new_manager (script_of items (plan_node_at nodes number).document) (link_out_of nodes number) (document_node_of nodes number).bus (new_paces g a))) puts takes
 
-  -- ---- a mux and a demux
+  -- ---- a mux, a remapper and a demux
 
   pub mux-made : (uppers : List ℕ) (lower width : ℕ) (mux : Acted MuxState) → uppers ≡ links_into nodes number → lower ≡ link_out_of nodes number →
       width ≡ widest (map (λ link. (plan_link_at nodes link).link) uppers) → mux ≡ opened (new_mux (record { uppers = uppers; lower = lower; width = width })) →
@@ -62,6 +63,12 @@ module _ (nodes : List DocumentNode) (items : List TrafficItem) (number : ℕ) w
   mux-made uppers lower width mux above below most made =
       made ∙ ap (λ (w : ℕ). opened (new_mux (record { uppers = uppers; lower = lower; width = w }))) most
       ∙ ap₂ (λ (u : List ℕ) (l : ℕ). opened (new_mux (record { uppers = u; lower = l; width = widest (map (λ link. (plan_link_at nodes link).link) u) }))) above below
+
+  pub remap-made : (upper lower width : ℕ) (remap : Acted RemapState) → upper ≡ link_into nodes number → lower ≡ link_out_of nodes number → width ≡ (document_node_of nodes number).id_width →
+      remap ≡ opened (new_remap (record { upper = upper; lower = lower; width = width })) → remap ≡ opened (remap_at nodes number)
+  remap-made upper lower width remap above below own made =
+      made ∙ ap (λ (w : ℕ). opened (new_remap (record { upper = upper; lower = lower; width = w }))) own
+      ∙ ap₂ (λ (u l : ℕ). opened (new_remap (record { upper = u; lower = l; width = (document_node_of nodes number).id_width }))) above below
 
   pub demux-made : (upper : ℕ) (lowers : List ℕ) (regions : List Region) (demux : Acted DemuxState) → upper ≡ link_into nodes number → lowers ≡ links_out_of nodes number →
       regions ≡ ported_regions nodes (document_node_of nodes number) → demux ≡ opened (new_demux (record { upper = upper; lowers = lowers; regions = regions })) →

@@ -19,7 +19,7 @@ use Rattle.mux_node.specs.MuxState.{IsNewMux}
 use Rattle.net_build.specs.Source.{IsSource}
 use Rattle.net_kinds.specs.NodeKind.{NodeState, node_kind}
 use Rattle.net_opening.specs.Opening.{state_at, state_by_part}
-use Rattle.net_opening.specs.States.{demux_at, document_node_of, manager_at, memory_at, mux_at}
+use Rattle.net_opening.specs.States.{demux_at, document_node_of, manager_at, memory_at, mux_at, remap_at}
 use Rattle.net_opening.specs.Touched.{lines_touched}
 use Rattle.node_core.specs.Acted.{Acted, opened}
 use Rattle.node_graph.specs.Graph.{numbers}
@@ -27,6 +27,7 @@ use Rattle.plan_traffic.specs.Traffic.{TrafficItem}
 use Rattle.topology.proofs.AcceptedFacts.{accepted-is_clean}
 use Rattle.topology.specs.Document.{DocumentNode, node_at, plan_links_at, plan_nodes_at, targets_of, uppers_of}
 use Rattle.topology.specs.Refused.{IsAccepted}
+use Rattle.remap_node.specs.RemapState.{IsNewRemap}
 use Rattle.topology_text.specs.Form.{table_form}
 use Rattle.topology_text.specs.Formed.{AreDelays, AreDelaysAt, IsFormed}
 use Rattle.topology_text.specs.declared.kind.Kind.{Kind}
@@ -137,6 +138,9 @@ formed-at nodes document formed less = All-get_or IsFormed nodes document _ less
 module _ {nodes : List DocumentNode} {items : List TrafficItem} {targets : List ℕ} (number : ℕ) (source : IsSource nodes items targets) (less : number < length (plan_nodes nodes)) where
   pub mux-begins : (plan_node_at nodes number).part ≡ part.Mux → IsNewMux (mux_at nodes number)
   mux-begins same = begins-by nodes items targets number part.Mux source less same
+
+  pub remap-begins : (plan_node_at nodes number).part ≡ part.Remap → IsNewRemap (remap_at nodes number)
+  remap-begins same = begins-by nodes items targets number part.Remap source less same
 
   pub demux-begins : (plan_node_at nodes number).part ≡ part.Demux → IsNewDemux (demux_at nodes number)
   demux-begins same = begins-by nodes items targets number part.Demux source less same

@@ -21,6 +21,7 @@ use manager_node::ManagerNode;
 use memory_node::{MemoryConfig, MemoryNode};
 use mux_node::MuxNode;
 use net_kinds::Node;
+use remap_node::RemapNode;
 use slice_node::SliceNode;
 use std::alloc::{AllocError, Global};
 use topology::Wiring;
@@ -37,9 +38,9 @@ pub(crate) fn node_of(alloc: Global, source: &Source<'_>, number: u32) -> Result
         Part::Mux => mux_node(alloc, source, number),
         Part::Demux => demux_node(alloc, source, number),
         Part::Error => error_node(alloc, source, number),
+        Part::Remap => remap_node(alloc, source, number),
         Part::LiteMemory
         | Part::Slice
-        | Part::Remap
         | Part::Split
         | Part::Up
         | Part::Down
@@ -88,6 +89,21 @@ fn widest(plan: &Plan, links: &[u32]) -> u8
         most = most.max(plan.id_width(*link));
     }
     most
+}
+
+// A remapper, with IDs below of the width that its document node names.
+fn remap_node(alloc: Global, source: &Source<'_>, number: u32) -> Result<Node, NoMemory>
+    requires source { IsSource source.now.plan.now source.now.traffic.now source.now.targets.now }
+    requires known { number < length (plan_nodes source.now.plan.now) }
+    requires remap { (plan_node_at source.now.plan.now number).part ≡ part.Remap }
+    ensures { IfOk result (λ node. node_view node ≡ opened (state_by_part source.now.plan.now source.now.traffic.now number part.Remap)) }
+{
+    let upper = link_into(alloc, source.plan, number)?;
+    let lower = link_out_of(alloc, source.plan, number)?;
+    let document = source.plan.document(number);
+    let width = source.plan.wiring().id_width(document);
+    let node = RemapNode::new(upper, lower, width);
+    Ok(Node::Remap(boxed(alloc, node)?))
 }
 
 // A demux, with the regions of its document node.

@@ -10,6 +10,7 @@ use manager_node::ManagerNode;
 use memory_node::MemoryNode;
 use mux_node::MuxNode;
 use node_core::Step;
+use remap_node::RemapNode;
 use slice_node::SliceNode;
 use std::marker::{Send, Sync};
 
@@ -24,6 +25,8 @@ pub enum Node {
     Error(Box<ErrorNode>),
     /// Below several links, which it joins into the one below it.
     Mux(MuxNode),
+    /// Between two links, of which the lower one has IDs of its own.
+    Remap(Box<RemapNode>),
     /// Above one link: it issues the transactions of its script.
     Manager(Box<ManagerNode>),
     /// Below one link: it answers from bytes that it keeps.
@@ -47,6 +50,7 @@ impl Step for Node {
             Node::Demux(demux) => demux.decide(round, links),
             Node::Error(error) => error.decide(round, links),
             Node::Mux(mux) => mux.decide(round, links),
+            Node::Remap(remap) => remap.decide(round, links),
             Node::Manager(manager) => manager.decide(round, links),
             Node::Memory(memory) => memory.decide(round, links),
         }
@@ -58,6 +62,7 @@ impl Step for Node {
             Node::Demux(demux) => demux.out(),
             Node::Error(error) => error.out(),
             Node::Mux(mux) => mux.out(),
+            Node::Remap(remap) => remap.out(),
             Node::Manager(manager) => manager.out(),
             Node::Memory(memory) => memory.out(),
         }
@@ -75,6 +80,7 @@ impl Node {
             Node::Demux(_) => true,
             Node::Error(_) => true,
             Node::Mux(_) => true,
+            Node::Remap(_) => true,
             Node::Memory(_) => true,
         }
     }

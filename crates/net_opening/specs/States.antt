@@ -14,6 +14,7 @@ use Rattle.net_opening.specs.Touched.{lines_touched}
 use Rattle.node_core.specs.Paces.{new_paces}
 use Rattle.plan_traffic.specs.Scripts.{script_of}
 use Rattle.plan_traffic.specs.Traffic.{TrafficItem}
+use Rattle.remap_node.specs.RemapState.{RemapState, new_remap}
 use Rattle.slice_node.specs.SliceState.{SliceState, new_slice}
 use Rattle.topology.specs.Document.{DocumentNode, node_at, widest}
 use Rattle.topology_text.specs.declared.kind.Span.{Span}
@@ -65,3 +66,7 @@ module _ (nodes : List DocumentNode) (number : ℕ) where
   -- a demux has the regions of its document node
   abbrev pub demux_at : DemuxState
   demux_at = new_demux (record { upper = link_into nodes number; lowers = links_out_of nodes number; regions = ported_regions nodes document_node_of })
+
+  -- a remapper has IDs below of the width that its document node names
+  abbrev pub remap_at : RemapState
+  remap_at = new_remap (record { upper = link_into nodes number; lower = link_out_of nodes number; width = document_node_of.id_width })

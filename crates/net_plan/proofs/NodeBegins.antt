@@ -50,7 +50,7 @@ use Rattle.topology.specs.Refused.{is_bad_range}
 use Rattle.topology.specs.declared.link.LinkKind.{LinkKind}
 use Rattle.topology_text.specs.Form.{table_form}
 use Rattle.topology_text.specs.Formed.{IsFormed, IsNumberAt}
-use Rattle.topology_text.specs.Shape.{bus_limits}
+use Rattle.topology_text.specs.Shape.{bus_limits, id_width_limits}
 use Rattle.topology_text.specs.declared.kind.Kind.{Kind}
 use Rattle.topology_text.specs.declared.kind.Kind.TheVariants as kind
 use Rattle.topology_text.specs.declared.kind.Span.{Span}
@@ -67,6 +67,10 @@ width-of bus some e = elim (or_cases (bus == 0) (is_bus_width bus) e) [ inl none
 manager-bus : (bus : ℕ) → IsNumberAt (table_form kind.Manager).bus bus_limits bus → 4 ≤ bus
 unfolding table_form
 manager-bus bus within = within.0
+
+remap-width : (width : ℕ) → IsNumberAt (table_form kind.Remap).id_width id_width_limits width → width ≤ 16
+unfolding table_form
+remap-width width within = within.1
 
 memory-bus : (bus : ℕ) → IsNumberAt (table_form kind.Memory).bus bus_limits bus → 4 ≤ bus
 unfolding table_form
@@ -325,6 +329,13 @@ module _ (nodes : List DocumentNode) (items : List TrafficItem) (run : CanRun no
         new = refl;
       }
 
+  as-remap : (node_at nodes place).kind ≡ kind.Remap → BeginsAs part.Remap
+  as-remap own = record {
+    narrow = subst (λ (k : ℕ). (node_at nodes k).id_width ≤ 16) (sym document_is)
+        (remap-width (node_at nodes place).id_width (subst (λ (k : Kind). IsNumberAt (table_form k).id_width id_width_limits (node_at nodes place).id_width) own (formed-at nodes run place within).id_width));
+    new = refl;
+  }
+
   as-own : (k : Kind) → (node_at nodes place).kind ≡ k → is_unbuilt k ≡ false → (p : Part) → own_part k ≡ Some p → node.part ≡ p → BeginsAs p
   as-own kind.Manager own built p own_is is = let same = Some-same part.Manager p own_is in subst BeginsAs same (as-manager own)
   as-own kind.Memory own built p own_is is = let same = Some-same part.Memory p own_is in subst BeginsAs same (as-memory own)
@@ -339,7 +350,7 @@ module _ (nodes : List DocumentNode) (items : List TrafficItem) (run : CanRun no
       let from = mux-input nodes items run traffic (λ link. empty_schedule) number place inner node at document node_is within is_part own link there in
       record { upper = from.from; among = from.among; is = from.is }))
   as-own kind.LiteMemory own built p own_is is = absurd (true≢false built)
-  as-own kind.Remap own built p own_is is = absurd (true≢false built)
+  as-own kind.Remap own built p own_is is = let same = Some-same part.Remap p own_is in subst BeginsAs same (as-remap own)
   as-own kind.Up own built p own_is is = absurd (true≢false built)
   as-own other own built p own_is is = absurd (None-Some p own_is)
 

@@ -86,6 +86,26 @@ module _ (nodes : List DocumentNode) (items : List TrafficItem) (run : CanRun no
       below-alike nodes run number node at (link_into nodes number) (link_out_of nodes number) (into-is nodes number (link_into nodes number) (into-there first mux)).0
       (link_is ∙ handed nodes run place kind.Slice within own ∙ sym (above-first first mux (ap is_behind is) (ap joins_links own))) (out-there long)
 
+  as-remap : node.part ≡ part.Remap → (node_at nodes place).kind ≡ kind.Remap → node.link ≡ link_kind_of nodes place → SoundAs part.Remap
+  as-remap is own link_is =
+      let first : is_first node.part ≡ false = ap is_first is in
+      let mux : is_mux node.part ≡ false = ap is_mux is in
+      let long : LowersSuit part.Remap node.lower = subst (λ (p : Part). LowersSuit p node.lower) is (lowers-suit nodes run number node at) in
+      let above = into-is nodes number (link_into nodes number) (into-there first mux) in
+      let out = out-is nodes number (link_out_of nodes number) (out-there long) in
+      let over = form-plain nodes run (link_into nodes number) above.0 ∙ ap plain_form (above-first first mux (ap is_behind is) (ap joins_links own)) in
+      let form : form_of_link nodes (link_out_of nodes number) ≡ plain_form (record (first_link (inputs_of nodes place)) { id_width = (node_at nodes place).id_width }) =
+      form-plain nodes run (link_out_of nodes number) out.0
+      ∙ ap plain_form (link-below nodes run number (link_out_of nodes number) node at (out-there long) ∙ link_is ∙ handed nodes run place kind.Remap within own) in
+      record {
+        alike = record {
+          lite = ap (λ (f : LinkForm). f.lite) form ∙ sym (ap (λ (f : LinkForm). f.lite) over);
+          bus = ap (λ (f : LinkForm). f.bus) form ∙ sym (ap (λ (f : LinkForm). f.bus) over);
+          single = ap (λ (f : LinkForm). f.single) form ∙ sym (ap (λ (f : LinkForm). f.single) over);
+        };
+        width = ap (λ (f : LinkForm). f.id_width) form ∙ ap (λ (k : ℕ). (node_at nodes k).id_width) (sym document_is);
+      }
+
   as-demux : node.part ≡ part.Demux → node.link ≡ (plan_link_at nodes (link_into nodes number)).link → SoundAs part.Demux
   as-demux is same =
       sound-demux nodes run number node at place within document_is (into-is nodes number (link_into nodes number) (into-there (ap is_first is) (ap is_mux is))).0 same
@@ -208,7 +228,7 @@ module _ (nodes : List DocumentNode) (items : List TrafficItem) (run : CanRun no
   as-own kind.Slice own built p own_is is link_is lines = let same = Some-same part.Slice p own_is in subst SoundAs same (as-slice (is ∙ sym same) own link_is)
   as-own kind.Mux own built p own_is is link_is lines = let same = Some-same part.Mux p own_is in subst SoundAs same (as-mux (is ∙ sym same) own link_is)
   as-own kind.LiteMemory own built p own_is is link_is lines = absurd (true≢false built)
-  as-own kind.Remap own built p own_is is link_is lines = absurd (true≢false built)
+  as-own kind.Remap own built p own_is is link_is lines = let same = Some-same part.Remap p own_is in subst SoundAs same (as-remap (is ∙ sym same) own link_is)
   as-own kind.Up own built p own_is is link_is lines = absurd (true≢false built)
   as-own other own built p own_is is link_is lines = absurd (None-Some p own_is)
 

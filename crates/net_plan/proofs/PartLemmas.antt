@@ -81,6 +81,7 @@ abbrev pub LowersSuit : Part → List ℕ → Type 0
 LowersSuit part.Manager lower = length lower ≡ 1
 LowersSuit part.Mux lower = length lower ≡ 1
 LowersSuit part.Slice lower = length lower ≡ 1
+LowersSuit part.Remap lower = length lower ≡ 1
 LowersSuit part.Demux lower = Unit {0}
 LowersSuit part.Memory lower = length lower ≡ 0
 LowersSuit part.Error lower = length lower ≡ 0
@@ -93,7 +94,7 @@ own-suits kind.Memory p lower own built one none = subst (λ (q : Part). LowersS
 own-suits kind.Slice p lower own built one none = subst (λ (q : Part). LowersSuit q lower) (Some-same part.Slice p own) (one refl refl)
 own-suits kind.Mux p lower own built one none = subst (λ (q : Part). LowersSuit q lower) (Some-same part.Mux p own) (one refl refl)
 own-suits kind.LiteMemory p lower own built one none = absurd (true≢false built)
-own-suits kind.Remap p lower own built one none = absurd (true≢false built)
+own-suits kind.Remap p lower own built one none = subst (λ (q : Part). LowersSuit q lower) (Some-same part.Remap p own) (one refl refl)
 own-suits kind.Up p lower own built one none = absurd (true≢false built)
 own-suits other p lower own built one none = absurd (None-Some p own)
 

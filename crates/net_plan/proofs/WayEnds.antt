@@ -120,7 +120,7 @@ module _ (nodes : List DocumentNode) (items : List TrafficItem) (run : CanRun no
       ap (λ (k : ℕ). slice_get (links_out_of nodes number) (unwrap_or (serving_port (ported_regions nodes (node_at nodes node.document)) request.addr) k)) (sym last) ∙ e_port in
       port-leads number (unwrap_or (serving_port (ported_regions nodes (node_at nodes node.document)) request.addr) (length (targets_of nodes (node_at nodes node.document)))) next node at e_last
   goes-by number next node part.LiteMemory share request at is is_part parts suits long e = absurd suits
-  goes-by number next node part.Remap share request at is is_part parts suits long e = absurd suits
+  goes-by number next node part.Remap share request at is is_part parts suits long e = first-leads number next node at suits e
   goes-by number next node part.Split share request at is is_part parts suits long e = absurd suits
   goes-by number next node part.Up share request at is is_part parts suits long e = absurd suits
   goes-by number next node part.Down share request at is is_part parts suits long e = absurd suits

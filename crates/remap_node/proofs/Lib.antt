@@ -1,0 +1,13 @@
+pub mod AnswerLemmas
+pub mod AskLemmas
+pub mod CodeLemmas
+pub mod EitherLemmas
+pub mod IdleLemmas
+pub mod LocalLemmas
+pub mod PairLemmas
+pub mod RemapHolds
+pub mod RowLemmas
+pub mod StepLemmas
+pub mod TableLemmas
+pub mod TrailLemmas
+pub mod WayLemmas
