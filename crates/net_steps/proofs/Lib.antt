@@ -1,3 +1,4 @@
+pub mod CallLemmas
 pub mod PhaseLemmas
 pub mod RunLemmas
 pub mod PortLemmas

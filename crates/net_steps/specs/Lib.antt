@@ -1,3 +1,4 @@
+pub mod Calls
 pub mod NetInside
 pub mod NetView
 pub mod Offers

@@ -1,5 +1,6 @@
 -- How a network is kept.
-use Rattle.std.specs.Prelude.{◌≡◌, ◌<◌, ◌-◌, ◌^◌, length, true}
+use Rattle.std.specs.Prelude.{◌≡◌, ◌<◌, ◌-◌, ◌^◌, length, map, true}
+use Rattle.net_steps.specs.Calls.{acts}
 use Rattle.net_steps.specs.NetView.{NetView}
 use Rattle.net_steps.specs.Unfinished.{unfinished_in}
 use Rattle.net_steps.specs.declared.net.Net.TheInside.{Inside}
@@ -13,11 +14,14 @@ net_view n = record {
   decided = n.decided;
 }
 
--- its counts fit their types, each link has its queue, and those that wait for answers are counted
+-- its counts fit their types, each link has its queue, those that wait for answers are counted, and of each node it is noted
+-- whether it acts
 pub record IsNet (n : Inside) : Type 0 where
   pub few_nodes : length n.nodes.items < 2 ^ 32
   pub few_links : length n.links.items < 2 ^ 32
   pub long : length n.queues.items ≡ length n.links.items
   pub counted : n.rounds < 2 ^ 63
   pub begun : n.decided ≡ true → n.rounds < 2 ^ 63 - 1
+  pub acting : n.acting.items ≡ map acts n.nodes.items
+  pub seen : length n.seen.items ≡ length n.nodes.items
   pub unfinished : n.unfinished ≡ unfinished_in n.nodes.items

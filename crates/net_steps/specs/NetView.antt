@@ -1,11 +1,13 @@
 -- A network that runs, as contracts see it.
-use Rattle.std.specs.Prelude.{◌≡◌, ◌<◌, ◌≤◌, ◌+◌, ◌-◌, ◌^◌, ℕ, All, Bool, List, false, map, true}
+use Rattle.std.specs.Prelude.{◌≡◌, ◌<◌, ◌≤◌, ◌+◌, ◌-◌, ◌^◌, ℕ, All, Bool, List, false, length, map, true}
 use Rattle.axi_link.specs.LinkView.{LinkView, empty_link}
 use Rattle.net_kinds.specs.NodeKind.{NodeState, node_kind, node_view}
 use Rattle.net_kinds.specs.NodeTable.{node_table}
 use Rattle.net_kinds.specs.declared.node.Node.{Node}
-use Rattle.net_model.specs.Network.{CanMoveQueue, Network, after_rounds}
+use Rattle.net_model.specs.Network.{CanMoveQueue, Network, after_rounds, lower_node, upper_node}
+use Rattle.net_model.specs.Wired.{lowers_at, uppers_at}
 use Rattle.net_model.specs.declared.net_link.NetLink.{NetLink}
+use Rattle.net_steps.specs.Calls.{HaveEnds}
 use Rattle.net_ways.specs.Sound.{IsSound}
 use Rattle.node_core.specs.Acted.{Acted}
 use Rattle.node_shape.specs.LinkForm.{LinkForm}
@@ -49,11 +51,19 @@ decided_in net = record {
   decided = true;
 }
 
+-- nodes and links are joined as they tell of one another
+pub record AreJoined (net : NetView) : Type 0 where
+  pub long : length net.queues ≡ length net.links
+  pub ends : (link : ℕ) → link < length net.queues → HaveEnds net.links (length net.nodes) link
+  pub uppers : (node : ℕ) → All (λ link. (link < length net.links) × (lower_node net.links link ≡ node)) (uppers_at node_kind (map node_view net.nodes) node)
+  pub lowers : (node : ℕ) → All (λ link. (link < length net.links) × (upper_node net.links link ≡ node)) (lowers_at node_kind (map node_view net.nodes) node)
+
 -- the nodes haven't decided, there is a number for the next round, and each node may decide in it
 pub record CanDecide (net : NetView) : Type 0 where
   pub undecided : net.decided ≡ false
   pub room : net.rounds < 2 ^ 63 - 1
   pub nodes : All (λ (a : Acted NodeState). node_kind.can (net.rounds + 1) net.queues a.state) (map node_view net.nodes)
+  pub joined : AreJoined net
 
 -- the nodes have decided, and each link can make the moves of its two nodes
 pub record CanCommit (net : NetView) : Type 0 where

@@ -5,6 +5,7 @@
 //! round of each network that can be run is a law (`run_laws`). No call after [`Net::new`] takes memory.
 #![tactic(auto)]
 
+mod calls;
 mod net;
 mod offers;
 mod phase;

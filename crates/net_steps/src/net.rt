@@ -9,6 +9,7 @@ ghost use Rattle.net_runs.specs.Ports.{port_at};
 ghost use Rattle.net_steps.specs.NetView.{CanCommit, CanDecide, HasDepth, decided_in, network_of, opened_net};
 ghost use Rattle.net_steps.specs.Offers.{offers_beat as is_offering};
 
+use crate::calls::{acting_of, see_each};
 use crate::offers::offers_beat;
 use crate::phase::{commit_each, count_unfinished, decide_each};
 use axi_beats::NoMemory;
@@ -32,6 +33,10 @@ pub struct Net {
     decided: bool,
     // How many nodes wait for answers.
     unfinished: u32,
+    // Of each node, whether it chose some move when it decided last.
+    acting: Vec<bool>,
+    // And whether a link offers it a beat in the round in which it decides.
+    seen: Vec<bool>,
 }
 
 impl Model for Net {
@@ -61,6 +66,8 @@ impl Net {
     {
         let queues = queues_of(alloc, &links)?;
         let unfinished = count_unfinished(&nodes);
+        let acting = acting_of(alloc, &nodes)?;
+        let seen = acting_of(alloc, &nodes)?;
         Ok(Net {
             nodes,
             links,
@@ -68,6 +75,8 @@ impl Net {
             rounds: 0,
             decided: false,
             unfinished,
+            acting,
+            seen,
         })
     }
 
@@ -147,7 +156,14 @@ impl Net {
         ensures net { self.new ≡ decided_in self.old }
         ensures network { network_of self.new ≡ after_decide node_kind (self.old.rounds + 1) (network_of self.old) }
     {
-        self.unfinished = decide_each(&mut self.nodes, self.rounds + 1, &self.queues);
+        see_each(&mut self.seen, &self.links, &self.queues);
+        self.unfinished = decide_each(
+            &mut self.nodes,
+            &mut self.acting,
+            &self.seen,
+            self.rounds + 1,
+            &self.queues,
+        );
         self.decided = true;
     }
 
@@ -158,7 +174,7 @@ impl Net {
         ensures rounds { self.new.rounds ≡ self.old.rounds + 1 }
         ensures decided { self.new.decided ≡ false }
     {
-        commit_each(&mut self.queues, 0, &self.links, &self.nodes);
+        commit_each(&mut self.queues, 0, &self.links, &self.nodes, &self.acting);
         self.rounds += 1;
         self.decided = false;
     }

@@ -5,8 +5,8 @@ use Rattle.net_model.specs.Network.{CanMoveQueue, queue_moved}
 use Rattle.net_steps.proofs.phase.commit_each.Goals as goal
 use Rattle.plain_lists.proofs.NumberedLemmas.{all_numbered-at, next_as_it_was, numbered_over_more}
 
-pub commit_one-requires : goal.commit_one-requires
-commit_one-requires c =
+pub commit_one-requires-clause-ready : goal.commit_one-requires-clause-ready
+commit_one-requires-clause-ready c =
     let can = CanMoveQueue c.args.links.now (map node_view c.args.nodes.now) in
     let i = c.loop-queue.queue-index in
     let item = c.queue-item.result in

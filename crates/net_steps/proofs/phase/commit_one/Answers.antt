@@ -1,29 +1,21 @@
-use Rattle.std.proofs.Common.{◌≡◌, map, refl, subst, sym, ◌∙◌}
-use Rattle.axi_link.specs.Moves.{CanMove}
-use Rattle.axi_link.specs.declared.out.Out.{Out}
+use Rattle.std.proofs.Common.{◌<◌, ◌∙◌, map, subst}
+use Rattle.std.proofs.lemmas.List.{length-map}
 use Rattle.net_kinds.specs.NodeKind.{node_view}
-use Rattle.net_model.specs.Network.{lower_node, moves_at, net_link, upper_node}
-use Rattle.net_steps.proofs.PhaseLemmas.{moved-by, moves-at}
+use Rattle.net_model.specs.Network.{lower_node, upper_node}
+use Rattle.net_steps.proofs.CallLemmas.{moved-is, others-moved}
 use Rattle.net_steps.proofs.phase.commit_one.Goals as goal
 
-pub commit-requires : goal.commit-requires
-commit-requires c =
-    let links = c.args.links.now in
-    let nodes = c.args.nodes.now in
-    let number = c.args.number in
-    let above : moves_at (map node_view nodes) (upper_node links number) ≡ c.out.result.now =
-    moves-at nodes (upper_node links number) c.index-nodes-link.result _ c.requires.upper c.index-nodes-link.is ∙ sym c.out.ensures in
-    let below : moves_at (map node_view nodes) (lower_node links number) ≡ c.out-2.result.now =
-    moves-at nodes (lower_node links number) c.index-nodes-link-2.result _ c.requires.lower c.index-nodes-link-2.is ∙ sym c.out-2.ensures in
-    subst (λ (out : Out). CanMove number c.args.queue.now c.out.result.now out) below
-    (subst (λ (out : Out). CanMove number c.args.queue.now out (moves_at (map node_view nodes) (lower_node links number))) above c.requires.moves)
+pub move_on-requires : goal.move_on-requires
+move_on-requires c = record {
+  upper = subst (λ n. upper_node c.args.links.now c.args.number < n) (length-map c.args.nodes.now node_view) c.requires.ready.upper;
+  lower = subst (λ n. lower_node c.args.links.now c.args.number < n) (length-map c.args.nodes.now node_view) c.requires.ready.lower;
+  ready = c.requires.ready.moves;
+}
 
-pub returns : goal.returns
-returns c =
-    let links = c.args.links.now in
-    let nodes = c.args.nodes.now in
-    let number = c.args.number in
-    c.commit.ensures
-    ∙ moved-by links (map node_view nodes) number c.args.queue.now (net_link links number) c.out.result.now c.out-2.result.now refl
-    (moves-at nodes (upper_node links number) c.index-nodes-link.result _ c.requires.upper c.index-nodes-link.is ∙ sym c.out.ensures)
-    (moves-at nodes (lower_node links number) c.index-nodes-link-2.result _ c.requires.lower c.index-nodes-link-2.is ∙ sym c.out-2.ensures)
+pub returns-then-acting-link : goal.returns-then-acting-link
+returns-then-acting-link c = c.move_on.ensures ∙ moved-is c.args.links.now (map node_view c.args.nodes.now) c.args.number c.args.queue.now
+
+pub returns-else-acting-link-2 : goal.returns-else-acting-link-2
+returns-else-acting-link-2 c =
+    others-moved c.args.links.now c.args.nodes.now c.args.acting.now c.args.number c.args.queue.now _ _ c.requires.acting c.requires.ready.upper c.requires.ready.lower c.if-acting-link.false
+    c.if-acting-link-2.false
