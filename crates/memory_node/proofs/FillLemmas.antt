@@ -9,19 +9,19 @@ use Rattle.std.proofs.lemmas.List.FromFn.{length-range_with_len}
 use Rattle.axi_beats.specs.declared.beat.RBeat.{RBeat}
 use Rattle.axi_trail.specs.Schedule.{bytes_on}
 use Rattle.subordinate.specs.Parts.{BeatOf}
-use Rattle.memory_node.specs.Accesses.{allowed_bytes, read_addresses, beat_span}
-use Rattle.memory_node.specs.Beats.{answered_byte, answered_lanes, read_bytes}
+use Rattle.memory_node.specs.WantedReads.{lanes_of_span, lanes_read, wanted_addresses, wanted_allowed, wanted_reads}
+use Rattle.memory_node.specs.Beats.{answered_byte, answered_lanes}
 use Rattle.memory_node.specs.Status.{may_read}
 use Rattle.memory_node.specs.Store.{Store, byte_at}
 use Rattle.memory_node.specs.MemoryArea.{IsMemoryArea, MemoryArea}
-use Rattle.memory_node.proofs.LaneLemmas.{lanes-within}
+use Rattle.memory_node.proofs.LaneLemmas.{AreWithin, lanes-within}
 use Rattle.plain_lists.specs.Prefixes.{IsPrefix}
 use Rattle.plain_lists.proofs.PrefixLemmas.{prefix_cons, prefix_itself, prefix_nil}
 use Rattle.plain_lists.proofs.RangeLemmas.{map-range-agree, range-split}
 use Rattle.axi_beats.specs.Lanes.{Span}
 use Rattle.burst_address.specs.Accesses.{answered_bytes}
 use Rattle.burst_address.specs.Bytes.{Byte}
-use Rattle.burst_address.specs.Lanes.{first_lane, lane_address, lane_count, valid_lanes, last_lane}
+use Rattle.burst_address.specs.Lanes.{first_lane, lane_address, lane_count, last_lane}
 use Rattle.burst_address.proofs.LaneBytes.{lanes-ordered}
 use Rattle.burst_address.specs.Legal.{IsLegal}
 
@@ -65,17 +65,17 @@ count-append (true ∷ xs) ys = omega (arith, count-append xs ys)
 count-append (false ∷ xs) ys = count-append xs ys
 
 -- as many addresses are read as bytes may be read
-pub count-reads : (area : MemoryArea) (beats : List BeatOf) → count_allowed (flat_map (allowed_bytes area) beats) ≡ length (flat_map (read_addresses area) beats)
-count-reads area [] = refl
-count-reads area (b ∷ beats) =
-    let own : count_allowed (allowed_bytes area b) ≡ length (read_addresses area b) =
-    count-tested (λ lane. may_read area (lane_address b.request b.beat area.bus lane)) (valid_lanes b.request b.beat area.bus)
-    ∙ sym (length-map (filter (λ lane. may_read area (lane_address b.request b.beat area.bus lane)) (valid_lanes b.request b.beat area.bus)) (λ lane. lane_address b.request b.beat area.bus lane)) in
+pub count-reads : (area : MemoryArea) (wanted : BeatOf → Span) (beats : List BeatOf) → count_allowed (flat_map (wanted_allowed area wanted) beats) ≡ length (flat_map (wanted_addresses area wanted) beats)
+count-reads area wanted [] = refl
+count-reads area wanted (b ∷ beats) =
+    let own : count_allowed (wanted_allowed area wanted b) ≡ length (wanted_addresses area wanted b) =
+    count-tested (λ lane. may_read area (lane_address b.request b.beat area.bus lane)) (lanes_of_span (wanted b))
+    ∙ sym (length-map (lanes_read area wanted b) (λ lane. lane_address b.request b.beat area.bus lane)) in
     omega (
       arith,
-      count-append (allowed_bytes area b) (flat_map (allowed_bytes area) beats),
-      length-append (read_addresses area b) (flat_map (read_addresses area) beats),
-      count-reads area beats,
+      count-append (wanted_allowed area wanted b) (flat_map (wanted_allowed area wanted) beats),
+      length-append (wanted_addresses area wanted b) (flat_map (wanted_addresses area wanted) beats),
+      count-reads area wanted beats,
     )
 
 -- the bytes of one beat more
@@ -110,24 +110,29 @@ slice-range g end low count le =
     ∙ take_at (map g (range_with_len low count)) (map g (range_with_len (low + count) (end - (low + count)))) count (length-map (range_with_len low count) g ∙ length-range_with_len low count)
 
 -- the lanes of an answer beat that are wanted have the bytes that were read for it
-pub filled-beat : (area : MemoryArea) (store : Store) (b : BeatOf) → IsMemoryArea area → IsLegal b.request area.bus →
-    slice_range (answered_lanes area store b.request b.beat) (beat_span area b).low ((beat_span area b).high + 1)
-    ≡ answered_bytes (allowed_bytes area b) (map (λ (byte : Byte). byte.value) (read_bytes area store b.request b.beat))
-filled-beat area store b is legal =
-    let bounds : (0 < lane_count b.request b.beat area.bus) × (first_lane b.request b.beat area.bus + lane_count b.request b.beat area.bus ≤ area.bus) × (area.bus ≤ 128) = lanes-within b.request b.beat area.bus is.bus in
-    let last : last_lane b.request b.beat area.bus + 1 ≡ first_lane b.request b.beat area.bus + lane_count b.request b.beat area.bus =
-    omega (arith, lanes-ordered b.request b.beat area.bus is.bus legal) in
-    ap (slice_range (answered_lanes area store b.request b.beat) (first_lane b.request b.beat area.bus)) last
-    ∙ of_lanes (first_lane b.request b.beat area.bus) (lane_count b.request b.beat area.bus) (λ lane. lane_address b.request b.beat area.bus lane) (omega (arith, bounds.1, bounds.2))
+pub filled-beat : (area : MemoryArea) (wanted : BeatOf → Span) (store : Store) (b : BeatOf) → IsMemoryArea area → IsLegal b.request area.bus → AreWithin area.bus (wanted b) b →
+    slice_range (answered_lanes area store b.request b.beat) (wanted b).low ((wanted b).high + 1)
+    ≡ answered_bytes (wanted_allowed area wanted b) (map (λ (byte : Byte). byte.value) (wanted_reads area wanted store b))
+filled-beat area wanted store b is legal within =
+    let first : ℕ = first_lane b.request b.beat area.bus in
+    let many : ℕ = lane_count b.request b.beat area.bus in
+    let bounds : (0 < many) × (first + many ≤ area.bus) × (area.bus ≤ 128) = lanes-within b.request b.beat area.bus is.bus in
+    let order = lanes-ordered b.request b.beat area.bus is.bus legal in
+    let end : (wanted b).high + 1 ≡ (wanted b).low + ((wanted b).high - (wanted b).low + 1) = omega (arith, within.some) in
+    let last : last_lane b.request b.beat area.bus + 1 ≡ first + many = omega (arith, order) in
+    let inner : (wanted b).low + ((wanted b).high - (wanted b).low + 1) ≤ first + many = omega (arith, within.some, within.to, last) in
+    ap (slice_range (answered_lanes area store b.request b.beat) (wanted b).low) end
+    ∙ of_lanes first many (wanted b).low ((wanted b).high - (wanted b).low + 1) (λ lane. lane_address b.request b.beat area.bus lane) within.from inner (omega (arith, bounds.1, bounds.2, inner))
   where
-    of_lanes : (low count : ℕ) (address : ℕ → ℕ) → low + count ≤ 128 →
-        slice_range (map (λ lane. cond (leb low lane && ltb lane (low + count)) (answered_byte area store (address lane)) 0) (range_with_len 0 128)) low (low + count)
+    of_lanes : (first many low count : ℕ) (address : ℕ → ℕ) → first ≤ low → low + count ≤ first + many → low + count ≤ 128 →
+        slice_range (map (λ lane. cond (leb first lane && ltb lane (first + many)) (answered_byte area store (address lane)) 0) (range_with_len 0 128)) low (low + count)
         ≡ answered_bytes (map (λ lane. may_read area (address lane)) (range_with_len low count))
         (map (λ (byte : Byte). byte.value) (map (λ lane. record { address = address lane; value = byte_at store (address lane) }) (filter (λ lane. may_read area (address lane)) (range_with_len low count))))
-    of_lanes low count address le =
-        slice-range (λ lane. cond (leb low lane && ltb lane (low + count)) (answered_byte area store (address lane)) 0) 128 low count le
-        ∙ map-range-agree (λ lane. cond (leb low lane && ltb lane (low + count)) (answered_byte area store (address lane)) 0) (λ lane. answered_byte area store (address lane)) low count
-        (λ k from below. ap (λ c. cond (c && ltb k (low + count)) (answered_byte area store (address k)) 0) (le-leb low k from) ∙ ap (λ c. cond (true && c) (answered_byte area store (address k)) 0) (lt-ltb k (low + count) below))
+    of_lanes first many low count address from to le =
+        slice-range (λ lane. cond (leb first lane && ltb lane (first + many)) (answered_byte area store (address lane)) 0) 128 low count le
+        ∙ map-range-agree (λ lane. cond (leb first lane && ltb lane (first + many)) (answered_byte area store (address lane)) 0) (λ lane. answered_byte area store (address lane)) low count
+        (λ k above below. ap (λ c. cond (c && ltb k (first + many)) (answered_byte area store (address k)) 0) (le-leb first k (omega (arith, from, above)))
+        ∙ ap (λ c. cond (true && c) (answered_byte area store (address k)) 0) (lt-ltb k (first + many) (omega (arith, to, below))))
         ∙ sym (filled-tested (λ lane. may_read area (address lane)) (λ lane. byte_at store (address lane)) (range_with_len low count))
         ∙ ap (answered_bytes (map (λ lane. may_read area (address lane)) (range_with_len low count)))
         (sym (map-map (λ (byte : Byte). byte.value) (λ lane. record { address = address lane; value = byte_at store (address lane) }) (filter (λ lane. may_read area (address lane)) (range_with_len low count))))

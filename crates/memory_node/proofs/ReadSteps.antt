@@ -1,5 +1,5 @@
 -- The read channels of a memory in a round: the order of what is put, and what is read for it.
-use Rattle.std.proofs.Common.{◌≡◌, ℕ, ◌+◌, ◌≤◌, ◌==◌, suc, Bool, true, false, cond, List, [], ◌∷◌, ◌++◌, Option, Some, None, length, map, refl, sym, ◌∙◌, ap, subst, arith, append-nil, length-append}
+use Rattle.std.proofs.Common.{◌≡◌, ℕ, ◌+◌, ◌≤◌, ◌==◌, suc, Bool, true, false, cond, List, [], ◌∷◌, ◌++◌, Option, Some, None, length, map, drop, refl, sym, ◌∙◌, ap, subst, arith, append-nil, length-append}
 use Rattle.std.specs.Prelude.{All, option_map}
 use Rattle.std.proofs.lemmas.List.{length-map, map-append}
 use Rattle.std.proofs.lemmas.List.Elements.{All-head}
@@ -14,19 +14,19 @@ use Rattle.axi_trail.specs.Words.{Mark, burst_asked, len_of_asked, mark_of_reply
 use Rattle.axi_trail.proofs.FilterFacts.{length-marks}
 use Rattle.axi_trail.proofs.StepFacts.{next_goes_on, pending-shown}
 use Rattle.axi_trail.proofs.WaitingFacts.{pending-beat, pending-request}
-use Rattle.memory_node.specs.Accesses.{beat_span}
-use Rattle.memory_node.specs.Events.{Access, beat_reads}
+use Rattle.axi_beats.specs.Lanes.{Span}
+use Rattle.memory_node.specs.Events.{Access, reads_on}
 use Rattle.memory_node.specs.MemoryArea.{IsMemoryArea, MemoryArea}
 use Rattle.memory_node.specs.MemoryState.{IsReadEntry}
 use Rattle.memory_node.specs.MemoryTable.{memory_service}
-use Rattle.memory_node.specs.MemoryTrail.{AnswersInOrder, HasAccessed}
+use Rattle.memory_node.specs.MemoryTrail.{AnswersInOrder, HasAccessedOn}
 use Rattle.memory_node.specs.Store.{Store}
 use Rattle.node_core.specs.Rows.{beat_where}
 use Rattle.plain_lists.specs.Keys.{of_key}
 use Rattle.plain_lists.specs.Prefixes.{IsPrefix}
 use Rattle.plain_lists.proofs.KeyLemmas.{of_key-map}
 use Rattle.plain_lists.proofs.PrefixLemmas.{prefix_append, prefix_flat_map, prefix_length, prefix_map, prefix_trans}
-use Rattle.subordinate.specs.Parts.{beats_of_parts}
+use Rattle.subordinate.specs.Parts.{BeatOf, beats_of_parts}
 use Rattle.subordinate.specs.SubordinateTable.{after_ar, after_r, next_beat}
 use Rattle.subordinate.specs.Tracks.{TracksReads, len_of_address, number_of_read, read_waiting}
 use Rattle.subordinate.specs.declared.entry.ReadEntry.{ReadEntry}
@@ -34,6 +34,7 @@ use Rattle.subordinate.proofs.ReadOrder.{next-read}
 use Rattle.subordinate.proofs.TrailLemmas.{one_of}
 use Rattle.subordinate.proofs.WriteOrder.{beats-shown}
 use Rattle.memory_node.proofs.ChainLemmas.{count_marks, none-later}
+use Rattle.memory_node.proofs.LaneLemmas.{AreWithin}
 use Rattle.memory_node.proofs.ReadAccess.{IsNextRead, accessed-read}
 
 -- the beats of answers, by what they show
@@ -105,17 +106,26 @@ pub record ReadsAsked (schedule : Schedule) (ar : List Addr) : Type 0 where
   pub parts : (t : ℕ) → IsPrefix (map without_id (of_key number_of_address t ar)) (schedule.reads t).parts
   pub whole : WholeBeforeTheNext schedule.reads (map burst_asked ar)
 
-module _ (schedule : Schedule) (area : MemoryArea) (store : Store) (w : List WBeat) (ar : List Addr) (r : List RBeat) (all : List Access)
-    (is_area : IsMemoryArea area) (lanes : (t : ℕ) → (schedule.reads t).lanes ≡ map (beat_span area) (beats_of_parts (schedule.reads t).parts)) (asked : ReadsAsked schedule ar) where
-  quiet-r : HasAccessed schedule area store w r all → HasAccessed schedule area store w (r ++ []) (all ++ [])
-  quiet-r is = subst (λ (t : List RBeat). HasAccessed schedule area store w t (all ++ [])) (sym (append-nil r)) (subst (λ (t : List Access). HasAccessed schedule area store w r t) (sym (append-nil all)) is)
+module _ (wanted : BeatOf → Span) (schedule : Schedule) (area : MemoryArea) (store : Store) (w : List WBeat) (ar : List Addr) (r : List RBeat) (all : List Access)
+    (is_area : IsMemoryArea area) (lanes : (t : ℕ) → (schedule.reads t).lanes ≡ map wanted (beats_of_parts (schedule.reads t).parts))
+    (alike : (a : Addr) (n : ℕ) → wanted (record { request = without_id a; beat = n }) ≡ wanted (record { request = a; beat = n })) (asked : ReadsAsked schedule ar) where
+  quiet-r : HasAccessedOn wanted schedule area store w r all → HasAccessedOn wanted schedule area store w (r ++ []) (all ++ [])
+  quiet-r is = subst (λ (t : List RBeat). HasAccessedOn wanted schedule area store w t (all ++ [])) (sym (append-nil r)) (subst (λ (t : List Access). HasAccessedOn wanted schedule area store w r t) (sym (append-nil all)) is)
 
-  next-is : (e : ReadEntry) (es : List ReadEntry) → IsReadEntry area e → TracksReads schedule.reads (e ∷ es) ar r → AnswersInOrder (e ∷ es) ar r → IsNextRead schedule area store e w r all
-  next-is e es entry tracks order =
+  -- the wanted lanes of each beat that is due are valid
+  abbrev pub AreFit : Type 0
+  AreFit = (e : ReadEntry) (rest : List BeatOf) → IsReadEntry area e →
+      drop (length (of_key number_of_read_data e.request.tag.txn r)) (beats_of_parts (schedule.reads e.request.tag.txn).parts) ≡ record { request = without_id e.request; beat = e.put } ∷ rest →
+      AreWithin area.bus (wanted (record { request = e.request; beat = e.put })) (record { request = e.request; beat = e.put })
+
+  next-is : AreFit → (e : ReadEntry) (es : List ReadEntry) → IsReadEntry area e → TracksReads schedule.reads (e ∷ es) ar r → AnswersInOrder (e ∷ es) ar r → IsNextRead wanted schedule area store e w r all
+  next-is fit e es entry tracks order =
       let found = next-read schedule.reads e es ar r tracks (asked.parts (number_of_read e)) in
       record {
         is_area = is_area;
         legal = entry.request.legal;
+        alike = alike e.request e.put;
+        within = fit e found.0 entry found.1;
         lanes = lanes (number_of_read e);
         rest = found.0;
         place = found.1;
@@ -125,9 +135,9 @@ module _ (schedule : Schedule) (area : MemoryArea) (store : Store) (w : List WBe
             (sym order.open_reads) chain;
       }
 
-  pub read-step : (done : Bool) (entries : List ReadEntry) → All (IsReadEntry area) entries → TracksReads schedule.reads entries ar r → AnswersInOrder entries ar r → HasAccessed schedule area store w r all →
-      HasAccessed schedule area store w (r ++ one_of (beat_where done (option_map (next_beat (memory_service area) store) (head_of entries))))
-      (all ++ beat_reads area store (beat_where done (option_map (next_beat (memory_service area) store) (head_of entries))) (head_of entries))
-  read-step false entries each tracks order is = quiet-r is
-  read-step true [] each tracks order is = quiet-r is
-  read-step true (e ∷ es) each tracks order is = accessed-read schedule area store e w r all is (next-is e es (All-head (IsReadEntry area) e es each) tracks order)
+  pub read-step : AreFit → (done : Bool) (entries : List ReadEntry) → All (IsReadEntry area) entries → TracksReads schedule.reads entries ar r → AnswersInOrder entries ar r → HasAccessedOn wanted schedule area store w r all →
+      HasAccessedOn wanted schedule area store w (r ++ one_of (beat_where done (option_map (next_beat (memory_service area) store) (head_of entries))))
+      (all ++ reads_on area wanted store (beat_where done (option_map (next_beat (memory_service area) store) (head_of entries))) (head_of entries))
+  read-step fit false entries each tracks order is = quiet-r is
+  read-step fit true [] each tracks order is = quiet-r is
+  read-step fit true (e ∷ es) each tracks order is = accessed-read wanted schedule area store e w r all is (next-is fit e es (All-head (IsReadEntry area) e es each) tracks order)

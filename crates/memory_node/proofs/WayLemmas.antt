@@ -52,22 +52,16 @@ spans-of bus (p ∷ parts) =
     ∙ ap (λ xs. xs ++ map span (beats_of_parts parts)) (sym (map-map span (beat_of p) (range_with_len 0 (beats_of p))))
     ∙ sym (map-append span (map (beat_of p) (range_with_len 0 (beats_of p))) (beats_of_parts parts))
 
-module _ (area : MemoryArea) (form : LinkForm) (full : form.lite ≡ false) (bus : form.bus ≡ area.bus) (link : ℕ) where
-  requests : (parts : List Addr) → All (λ (part : Addr). IsLegal part form.bus) parts → All (λ (part : Addr). part.addr < 2 ^ 63) parts → All (IsRequest area.bus) parts
+module _ (area : MemoryArea) (form : LinkForm) (bus : form.bus ≡ area.bus) (link : ℕ) where
+  pub requests : (parts : List Addr) → All (λ (part : Addr). IsLegal part form.bus) parts → All (λ (part : Addr). part.addr < 2 ^ 63) parts → All (IsRequest area.bus) parts
   requests parts legal small = subst (λ (n : ℕ). All (IsRequest n) parts) bus (λ k d lt. record { legal = legal k d lt; small = small k d lt })
 
-  lanes-whole : (parts : List Addr) → flat_map (wanted_lanes form) parts ≡ map (beat_span area) (beats_of_parts parts)
-  lanes-whole parts =
-      ap (λ (b : Bool). flat_map (wanted_lanes (plain_form b form.bus)) parts) full
-      ∙ ap (λ (n : ℕ). flat_map (wanted_lanes (plain_form false n)) parts) bus
-      ∙ spans-of area.bus parts
-
   -- what the link carries of a write suits the memory
-  record WriteSuits (share : Share) : Type 0 where
-    requests : All (IsRequest area.bus) share.parts
-    strobes : All (λ (w : WBeat). w.strobe < 2 ^ area.bus) (flat_map (λ beats. beats) share.write_data)
+  pub record WriteSuits (share : Share) : Type 0 where
+    pub requests : All (IsRequest area.bus) share.parts
+    pub strobes : All (λ (w : WBeat). w.strobe < 2 ^ area.bus) (flat_map (λ beats. beats) share.write_data)
 
-  write-suits : (o : Option Share) → ((share : Share) → o ≡ Some share → IsCarried form true link share) → WriteSuits (unwrap_or o no_share)
+  pub write-suits : (o : Option Share) → ((share : Share) → o ≡ Some share → IsCarried form true link share) → WriteSuits (unwrap_or o no_share)
   write-suits None carried = record { requests = All-nil (IsRequest area.bus); strobes = All-nil (λ (w : WBeat). w.strobe < 2 ^ area.bus) }
   write-suits (Some share) carried =
       let fits : FitsLink form true share = (carried share refl).fits in
@@ -76,7 +70,14 @@ module _ (area : MemoryArea) (form : LinkForm) (full : form.lite ≡ false) (bus
         strobes = subst (λ (n : ℕ). All (λ (w : WBeat). w.strobe < 2 ^ n) (flat_map (λ beats. beats) share.write_data)) bus (fits.strobes refl);
       }
 
-  -- and so does what it carries of a read
+-- and so does what it carries of a read
+module _ (area : MemoryArea) (form : LinkForm) (full : form.lite ≡ false) (bus : form.bus ≡ area.bus) (link : ℕ) where
+  lanes-whole : (parts : List Addr) → flat_map (wanted_lanes form) parts ≡ map (beat_span area) (beats_of_parts parts)
+  lanes-whole parts =
+      ap (λ (b : Bool). flat_map (wanted_lanes (plain_form b form.bus)) parts) full
+      ∙ ap (λ (n : ℕ). flat_map (wanted_lanes (plain_form false n)) parts) bus
+      ∙ spans-of area.bus parts
+
   record ReadSuits (share : Share) : Type 0 where
     requests : All (IsRequest area.bus) share.parts
     lanes : share.lanes ≡ map (beat_span area) (beats_of_parts share.parts)
@@ -85,15 +86,15 @@ module _ (area : MemoryArea) (form : LinkForm) (full : form.lite ≡ false) (bus
   read-suits None carried = record { requests = All-nil (IsRequest area.bus); lanes = refl }
   read-suits (Some share) carried =
       let fits : FitsLink form false share = (carried share refl).fits in
-      record { requests = requests share.parts fits.legal fits.small; lanes = fits.lanes ∙ lanes-whole share.parts }
+      record { requests = requests area form bus link share.parts fits.legal fits.small; lanes = fits.lanes ∙ lanes-whole share.parts }
 
 pub memory-ways_suit : WaysSuit memory_kind
 memory-ways_suit forms schedules s new sound ways =
     let u : ℕ = s.inner.upper in
     let among : Contains (u ∷ []) u = one-has u in
-    let write : (t : ℕ) → WriteSuits s.area (forms u) sound.full sound.bus u ((schedules u).writes t) = λ t.
-    subst (λ (x : Share). WriteSuits s.area (forms u) sound.full sound.bus u x) (sym (ways.writes_are u t))
-    (write-suits s.area (forms u) sound.full sound.bus u (ways.carried_writes u t) (λ share is. ways.writes.above u t share among is)) in
+    let write : (t : ℕ) → WriteSuits s.area (forms u) sound.bus u ((schedules u).writes t) = λ t.
+    subst (λ (x : Share). WriteSuits s.area (forms u) sound.bus u x) (sym (ways.writes_are u t))
+    (write-suits s.area (forms u) sound.bus u (ways.carried_writes u t) (λ share is. ways.writes.above u t share among is)) in
     let read : (t : ℕ) → ReadSuits s.area (forms u) sound.full sound.bus u ((schedules u).reads t) = λ t.
     subst (λ (x : Share). ReadSuits s.area (forms u) sound.full sound.bus u x) (sym (ways.reads_are u t))
     (read-suits s.area (forms u) sound.full sound.bus u (ways.carried_reads u t) (λ share is. ways.reads.above u t share among is)) in

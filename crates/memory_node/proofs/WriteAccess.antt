@@ -11,7 +11,7 @@ use Rattle.axi_trail.specs.LinkContracts.{without_id}
 use Rattle.axi_trail.specs.Schedule.{ComesBefore, Schedule}
 use Rattle.axi_trail.specs.Words.{number_of_data, number_of_read_data}
 use Rattle.subordinate.specs.Parts.{BeatOf, beats_with_data}
-use Rattle.memory_node.specs.Accesses.{accesses_of, allowed_before, due_writes, writes_at}
+use Rattle.memory_node.specs.Accesses.{accesses_of, due_writes, writes_at}
 use Rattle.memory_node.specs.Beats.{with_bytes, stored_bytes}
 use Rattle.memory_node.specs.Events.{Access, accesses}
 use Rattle.memory_node.specs.MemoryState.{AreLinesAmong}
@@ -19,7 +19,9 @@ use Rattle.memory_node.specs.Status.{may_write}
 use Rattle.memory_node.specs.Store.{IsStore, Store, byte_at, byte_place, with_byte, line_number}
 use Rattle.memory_node.specs.MemoryArea.{IsMemoryArea, MemoryArea, is_in_some, is_inside}
 use Rattle.memory_node.proofs.AccessLemmas.{accesses_of-append, accesses_of-opposite, accesses_of-other, accesses_of-own, bytes-of_accesses, nil-of_map, order-more, order-other, stands_among}
-use Rattle.memory_node.specs.MemoryTrail.{HasAccessed}
+use Rattle.memory_node.specs.MemoryTrail.{HasAccessedOn}
+use Rattle.memory_node.specs.WantedReads.{wanted_before}
+use Rattle.axi_beats.specs.Lanes.{Span}
 use Rattle.memory_node.proofs.LaneLemmas.{inside-of_lane, okay-inside, written-without_id}
 use Rattle.memory_node.proofs.ReadLemmas.{reads-others, reads-written}
 use Rattle.memory_node.proofs.StayLemmas.{Keeps, store-stays, with_byte_at-keeps}
@@ -74,7 +76,7 @@ lines-written area lines a n x is among le = on (strobed_lanes area.bus x) (filt
         ]
         in go (may_write area (lane_address a n area.bus k)) refl
 
-module _ (schedule : Schedule) (area : MemoryArea) (store : Store) (a : Addr) (n : ℕ) (x : WBeat) (w : List WBeat) (r : List RBeat) (all : List Access) where
+module _ (wanted : BeatOf → Span) (schedule : Schedule) (area : MemoryArea) (store : Store) (a : Addr) (n : ℕ) (x : WBeat) (w : List WBeat) (r : List RBeat) (all : List Access) where
   abbrev t : ℕ
   t = a.tag.txn
 
@@ -105,7 +107,7 @@ module _ (schedule : Schedule) (area : MemoryArea) (store : Store) (a : Addr) (n
   reads-same : (number : ℕ) → accesses_of false number (all ++ new) ≡ accesses_of false number all
   reads-same number = accesses_of-append false number all new ∙ ap (λ xs. accesses_of false number all ++ xs) (accesses_of-opposite true number t bytes_written) ∙ append-nil (accesses_of false number all)
 
-  module _ (is : HasAccessed schedule area store w r all) (next : IsNextWrite) where
+  module _ (is : HasAccessedOn wanted schedule area store w r all) (next : IsNextWrite) where
     own-count : length (of_key number_of_data t (w ++ x ∷ [])) ≡ suc so_far
     own-count = omega (arith, ap length (of_key-push number_of_data t w x next.own), length-append (of_key number_of_data t w) (x ∷ []))
 
@@ -138,13 +140,13 @@ module _ (schedule : Schedule) (area : MemoryArea) (store : Store) (a : Addr) (n
       | inr mine ↦ absurd (stands_among false b.number new mine.0 b later mine.1 way refl (accesses_of-opposite true b.number t bytes_written))
     ]
 
-    pub accessed-written : HasAccessed schedule area (with_bytes store bytes_written) (w ++ x ∷ []) r (all ++ new)
+    pub accessed-written : HasAccessedOn wanted schedule area (with_bytes store bytes_written) (w ++ x ∷ []) r (all ++ new)
     accessed-written = record {
       written = written-more;
       read = λ number. ap (map (λ (a : Access). a.byte.address)) (reads-same number) ∙ is.read number;
       answered = λ number.
           is.answered number
-          ∙ ap (λ (xs : List Access). answered_bytes (allowed_before area (schedule.reads number) (length (of_key number_of_read_data number r))) (map (λ (a : Access). a.byte.value) xs)) (sym (reads-same number));
+          ∙ ap (λ (xs : List Access). answered_bytes (wanted_before area wanted (schedule.reads number) (length (of_key number_of_read_data number r))) (map (λ (a : Access). a.byte.value) xs)) (sym (reads-same number));
       bytes = λ address inside.
           value_after-append (writes_at address) (λ (a : Access). a.byte.value) area.fill all new
           ∙ ap (λ v. value_after (writes_at address) (λ (a : Access). a.byte.value) v new) (is.bytes address inside)

@@ -18,7 +18,8 @@ use Rattle.memory_node.specs.Events.{Access, accesses, beat_writes}
 use Rattle.memory_node.specs.MemoryArea.{IsMemoryArea, MemoryArea}
 use Rattle.memory_node.specs.MemoryState.{IsWriteEntry}
 use Rattle.memory_node.specs.MemoryTable.{memory_service}
-use Rattle.memory_node.specs.MemoryTrail.{HasAccessed}
+use Rattle.memory_node.specs.MemoryTrail.{HasAccessedOn}
+use Rattle.axi_beats.specs.Lanes.{Span}
 use Rattle.memory_node.specs.Store.{IsStore, Store}
 use Rattle.node_core.specs.Rows.{beat_where}
 use Rattle.plain_lists.specs.Keys.{of_key}
@@ -85,12 +86,12 @@ next-part parts aw w e others place asked order =
     let found = parts-from before (without_id e.request) (map without_id after ++ asked.rest) e.taken place.4 in
     (found.0, ap (λ n. drop n (beats_of_parts parts)) count ∙ ap (λ ps. drop (beats_by len_of_address before + e.taken) (beats_of_parts ps)) whole ∙ found.1)
 
-module _ (schedule : Schedule) (area : MemoryArea) (store : Store) (entries : List WriteEntry) (aw : List Addr) (w : List WBeat) (b : List BBeat) (r : List RBeat) (all : List Access)
+module _ (wanted : BeatOf → Span) (schedule : Schedule) (area : MemoryArea) (store : Store) (entries : List WriteEntry) (aw : List Addr) (w : List WBeat) (b : List BBeat) (r : List RBeat) (all : List Access)
     (is_area : IsMemoryArea area) (is_store : IsStore store) (each : All (IsWriteEntry area store.lines) entries) (tracks : TracksWrites (memory_service area) entries aw w b) where
-  quiet-w : HasAccessed schedule area store w r all → HasAccessed schedule area store (w ++ []) r (all ++ [])
-  quiet-w is = subst (λ (t : List WBeat). HasAccessed schedule area store t r (all ++ [])) (sym (append-nil w)) (subst (λ (t : List Access). HasAccessed schedule area store w r t) (sym (append-nil all)) is)
+  quiet-w : HasAccessedOn wanted schedule area store w r all → HasAccessedOn wanted schedule area store (w ++ []) r (all ++ [])
+  quiet-w is = subst (λ (t : List WBeat). HasAccessedOn wanted schedule area store t r (all ++ [])) (sym (append-nil w)) (subst (λ (t : List Access). HasAccessedOn wanted schedule area store w r t) (sym (append-nil all)) is)
 
-  next-is : (e : WriteEntry) (x : WBeat) → oldest_lacking entries ≡ Some e → WritesAsked schedule aw (w ++ x ∷ []) → IsNextWrite schedule area store e.request e.taken x w r all
+  next-is : (e : WriteEntry) (x : WBeat) → oldest_lacking entries ≡ Some e → WritesAsked schedule aw (w ++ x ∷ []) → IsNextWrite wanted schedule area store e.request e.taken x w r all
   next-is e x found asked =
       let t : ℕ = number_of_write e in
       let first = first-pending (memory_service area) e entries aw w b found tracks in
@@ -117,23 +118,23 @@ module _ (schedule : Schedule) (area : MemoryArea) (store : Store) (entries : Li
             ∙ none-later schedule.writes write_asked counts-writes (λ a. refl) aw asked.whole (map mark_of_data w) (length w) (data_waiting e) first.0 after (asked.parts t) order (length-map w mark_of_data) first.1 chain;
       }
 
-  take-next : (e : WriteEntry) (x : WBeat) → oldest_lacking entries ≡ Some e → WritesAsked schedule aw (w ++ x ∷ []) → HasAccessed schedule area store w r all →
-      HasAccessed schedule area (kept_after_w (memory_service area) (Some x) entries store) (w ++ x ∷ []) r (all ++ beat_writes area (Some x) (oldest_lacking entries))
+  take-next : (e : WriteEntry) (x : WBeat) → oldest_lacking entries ≡ Some e → WritesAsked schedule aw (w ++ x ∷ []) → HasAccessedOn wanted schedule area store w r all →
+      HasAccessedOn wanted schedule area (kept_after_w (memory_service area) (Some x) entries store) (w ++ x ∷ []) r (all ++ beat_writes area (Some x) (oldest_lacking entries))
   take-next e x found asked is =
       let bytes = stored_bytes area e.request e.taken x in
-      let next : IsNextWrite schedule area store e.request e.taken x w r all = next-is e x found asked in
-      let done : HasAccessed schedule area (with_bytes store bytes) (w ++ x ∷ []) r (all ++ accesses e.request.tag.txn true bytes) = accessed-written schedule area store e.request e.taken x w r all is next in
-      let numbered : HasAccessed schedule area (with_bytes store bytes) (w ++ x ∷ []) r (all ++ accesses x.tag.txn true bytes) =
-      subst (λ (n : ℕ). HasAccessed schedule area (with_bytes store bytes) (w ++ x ∷ []) r (all ++ accesses n true bytes)) (sym next.own) done in
-      subst (λ (o : Option WriteEntry). HasAccessed schedule area (kept_with (memory_service area) x o store) (w ++ x ∷ []) r (all ++ beat_writes area (Some x) o)) (sym found) numbered
+      let next : IsNextWrite wanted schedule area store e.request e.taken x w r all = next-is e x found asked in
+      let done : HasAccessedOn wanted schedule area (with_bytes store bytes) (w ++ x ∷ []) r (all ++ accesses e.request.tag.txn true bytes) = accessed-written wanted schedule area store e.request e.taken x w r all is next in
+      let numbered : HasAccessedOn wanted schedule area (with_bytes store bytes) (w ++ x ∷ []) r (all ++ accesses x.tag.txn true bytes) =
+      subst (λ (n : ℕ). HasAccessedOn wanted schedule area (with_bytes store bytes) (w ++ x ∷ []) r (all ++ accesses n true bytes)) (sym next.own) done in
+      subst (λ (o : Option WriteEntry). HasAccessedOn wanted schedule area (kept_with (memory_service area) x o store) (w ++ x ∷ []) r (all ++ beat_writes area (Some x) o)) (sym found) numbered
 
-  pub write-step : (done : Bool) (head : Option WBeat) → (done ≡ true → is_some (oldest_lacking entries) ≡ true) → WritesAsked schedule aw (w ++ one_of (beat_where done head)) → HasAccessed schedule area store w r all →
-      HasAccessed schedule area (kept_after_w (memory_service area) (beat_where done head) entries store) (w ++ one_of (beat_where done head)) r (all ++ beat_writes area (beat_where done head) (oldest_lacking entries))
+  pub write-step : (done : Bool) (head : Option WBeat) → (done ≡ true → is_some (oldest_lacking entries) ≡ true) → WritesAsked schedule aw (w ++ one_of (beat_where done head)) → HasAccessedOn wanted schedule area store w r all →
+      HasAccessedOn wanted schedule area (kept_after_w (memory_service area) (beat_where done head) entries store) (w ++ one_of (beat_where done head)) r (all ++ beat_writes area (beat_where done head) (oldest_lacking entries))
   write-step false head may asked is = quiet-w is
   write-step true None may asked is = quiet-w is
   write-step true (Some x) may asked is = go (oldest_lacking entries) refl (may refl)
     where
       go : (o : Option WriteEntry) → oldest_lacking entries ≡ o → is_some o ≡ true →
-          HasAccessed schedule area (kept_after_w (memory_service area) (Some x) entries store) (w ++ x ∷ []) r (all ++ beat_writes area (Some x) (oldest_lacking entries))
+          HasAccessedOn wanted schedule area (kept_after_w (memory_service area) (Some x) entries store) (w ++ x ∷ []) r (all ++ beat_writes area (Some x) (oldest_lacking entries))
       go None found there = absurd (cc)
       go (Some e) found there = take-next e x found asked is

@@ -6,7 +6,7 @@ use Rattle.axi_beats.specs.declared.beat.Addr.{Addr}
 use Rattle.axi_beats.specs.declared.beat.WBeat.{WBeat}
 use Rattle.axi_beats.specs.declared.response.Resp.{Resp}
 use Rattle.burst_address.specs.Bytes.{Byte}
-use Rattle.burst_address.specs.Lanes.{is_valid, lane_address, lane_bytes, strobed_lanes, valid_lanes, word_address}
+use Rattle.burst_address.specs.Lanes.{is_valid, lane_address, lane_bytes, strobed_lanes, word_address}
 use Rattle.burst_address.specs.Status.{worst_of_strobed, worst_of_valid}
 use Rattle.memory_node.specs.MemoryArea.{MemoryArea}
 use Rattle.memory_node.specs.Status.{may_read, may_write, read_status, write_status}
@@ -29,12 +29,6 @@ with_bytes store bytes = fold (λ s byte. with_byte s byte.address byte.value) s
 -- the worst status of the valid bytes of an R beat
 abbrev pub valid_status : MemoryArea → Addr → ℕ → Resp
 valid_status area request beat = worst_of_valid (read_status area) request beat area.bus
-
--- the bytes that an R beat reads, lanes upwards: those that are valid and have the status OKAY
-abbrev pub read_bytes : MemoryArea → Store → Addr → ℕ → List Byte
-read_bytes area store request beat =
-    map (λ lane. record { address = lane_address request beat area.bus lane; value = byte_at store (lane_address request beat area.bus lane) })
-    (filter (λ lane. may_read area (lane_address request beat area.bus lane)) (valid_lanes request beat area.bus))
 
 -- what an R beat answers for a byte: 0 where its status isn't OKAY
 abbrev pub answered_byte : MemoryArea → Store → ℕ → ℕ

@@ -12,3 +12,4 @@ pub mod MemoryTrail
 pub mod Status
 pub mod Store
 pub mod StoreInside
+pub mod WantedReads

@@ -9,19 +9,21 @@ use Rattle.axi_trail.specs.Trail.{Beats}
 use Rattle.axi_trail.specs.Waiting.{pending}
 use Rattle.axi_trail.specs.Words.{burst_asked, mark_of_reply, marks, number_of_data, number_of_read_data, read_reply}
 use Rattle.burst_address.specs.Accesses.{answered_bytes, value_after}
-use Rattle.memory_node.specs.Accesses.{accesses_of, allowed_before, beat_span, due_reads, due_writes, writes_at}
+use Rattle.memory_node.specs.Accesses.{accesses_of, beat_span, due_writes, writes_at}
 use Rattle.memory_node.specs.Events.{Access, memory_events}
 use Rattle.memory_node.specs.MemoryArea.{IsMemoryArea, MemoryArea, is_inside}
 use Rattle.memory_node.specs.MemoryState.{AreLinesAmong, IsMemory, IsRequest, MemoryState, new_memory}
 use Rattle.memory_node.specs.MemoryTable.{CanMemory, memory_service, memory_table, memory_wants}
 use Rattle.memory_node.specs.Store.{Store, byte_at}
+use Rattle.memory_node.specs.WantedReads.{wanted_before, wanted_due}
 use Rattle.node_core.specs.Paces.{longest_delay}
 use Rattle.node_shape.specs.Kind.{Kind, Passed, always_done}
 use Rattle.node_shape.specs.LinkForm.{LinkForm}
 use Rattle.node_shape.specs.Way.{end_here}
 use Rattle.plain_lists.specs.Keys.{of_key}
 use Rattle.plain_lists.specs.Prefixes.{IsPrefix}
-use Rattle.subordinate.specs.Parts.{beats_of_parts}
+use Rattle.axi_beats.specs.Lanes.{Span}
+use Rattle.subordinate.specs.Parts.{BeatOf, beats_of_parts}
 use Rattle.subordinate.specs.Tracks.{KeepsOrder, SuitsService, ends_with, is_written, len_of_address, read_waiting}
 use Rattle.subordinate.specs.declared.entry.ReadEntry.{ReadEntry}
 
@@ -32,20 +34,20 @@ AccessesInOrder shares write all =
     a.number ≡ after → accesses_of write before later ≡ []
 
 -- What a memory has accessed, by the write data that has come and the read data that it has put. `store` are its bytes, and
--- `all` its accesses.
-pub record HasAccessed (schedule : Schedule) (area : MemoryArea) (store : Store) (w : List WBeat) (r : List RBeat) (all : List Access) : Type 0 where
+-- `all` its accesses, of which the reads are of the wanted lanes.
+pub record HasAccessedOn (wanted : BeatOf → Span) (schedule : Schedule) (area : MemoryArea) (store : Store) (w : List WBeat) (r : List RBeat) (all : List Access) : Type 0 where
   -- the accesses of a transaction are those of its beats that have come, and those of its answer's beats
   pub written : (t : ℕ) → map (λ (a : Access). a.byte) (accesses_of true t all) ≡ due_writes area (schedule.writes t) (length (of_key number_of_data t w))
   pub read :
       (t : ℕ) →
       map (λ (a : Access). a.byte.address) (accesses_of false t all)
-      ≡ due_reads area (schedule.reads t) (length (of_key number_of_read_data t r))
+      ≡ wanted_due area wanted (schedule.reads t) (length (of_key number_of_read_data t r))
   -- the bytes that were answered are those that were read
   pub answered :
       (t : ℕ) →
       bytes_on (of_key number_of_read_data t r) (schedule.reads t).lanes
       ≡ answered_bytes
-      (allowed_before area (schedule.reads t) (length (of_key number_of_read_data t r)))
+      (wanted_before area wanted (schedule.reads t) (length (of_key number_of_read_data t r)))
       (map (λ (a : Access). a.byte.value) (accesses_of false t all))
   -- each byte is what the writes left there
   pub bytes :
@@ -58,6 +60,10 @@ pub record HasAccessed (schedule : Schedule) (area : MemoryArea) (store : Store)
   -- the accesses of a chain's transactions are in order
   pub writes_in_order : AccessesInOrder schedule.writes true all
   pub reads_in_order : AccessesInOrder schedule.reads false all
+
+-- at a memory these are the valid ones
+abbrev pub HasAccessed : Schedule → MemoryArea → Store → List WBeat → List RBeat → List Access → Type 0
+HasAccessed schedule area store w r all = HasAccessedOn (beat_span area) schedule area store w r all
 
 -- What is due of each transaction suits a memory that keeps these lines: it can do the requests, their data has its strobes
 -- on the bus, the lanes of read data are the valid ones, and the responses follow from its bytes.
@@ -81,15 +87,19 @@ pub record MemoryKeeps (schedule : Schedule) (s : MemoryState) (trail : Beats) (
   pub reads : AnswersInOrder s.inner.reads trail.ar trail.r
   pub accessed : HasAccessed schedule s.area s.inner.kept trail.w trail.r all
 
--- A memory knows of a write that it is written, where its data has all come, and of a read the bytes that were read for it.
-abbrev pub memory_knows : (ℕ → Schedule) → MemoryState → Passed Access → Progress
-memory_knows schedules s passed = record {
+-- A memory knows of a write that it is written, where its data has all come, and of a read the wanted bytes that were read for
+-- it.
+abbrev pub knows_on : (MemoryArea → BeatOf → Span) → (ℕ → Schedule) → MemoryState → Passed Access → Progress
+knows_on wanted schedules s passed = record {
   issued = λ t. false;
   written = λ t. is_written ((schedules s.inner.upper).writes t) (length (of_key number_of_data t (passed.uppers s.inner.upper).w));
   filled = λ t.
-      answered_bytes (allowed_before s.area ((schedules s.inner.upper).reads t) (length (beats_of_parts ((schedules s.inner.upper).reads t).parts)))
+      answered_bytes (wanted_before s.area (wanted s.area) ((schedules s.inner.upper).reads t) (length (beats_of_parts ((schedules s.inner.upper).reads t).parts)))
       (map (λ (a : Access). a.byte.value) (accesses_of false t passed.noted));
 }
+
+abbrev pub memory_knows : (ℕ → Schedule) → MemoryState → Passed Access → Progress
+memory_knows schedules s passed = knows_on beat_span schedules s passed
 
 -- how a memory begins: with the bytes that it has, its delays and the lines that may be written
 pub record BeginsMemory (s : MemoryState) : Type 0 where

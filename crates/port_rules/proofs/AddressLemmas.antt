@@ -6,6 +6,7 @@ use Rattle.std.specs.List.{list_all}
 use Rattle.std.proofs.lemmas.Bool.{and_from, lt-ltb}
 use Rattle.axi_history.specs.declared.port.RawAddr.{RawAddr}
 use Rattle.axi_history.specs.PortRules.{same_address, handshake_rules, rules_of_offer, address_rules, least_broken, keeps_address_rules}
+use Rattle.burst_address.proofs.Numbers.{power_above}
 use Rattle.port_rules.specs.Unpaired.{is_usable}
 use Rattle.port_rules.specs.Offers.{new_offer}
 
@@ -25,3 +26,7 @@ pub new_keeps : (bus : ℕ) (waits offer : Option RawAddr) → least_broken (han
 new_keeps bus None None kept = refl
 new_keeps bus (Some w) offer kept = refl
 new_keeps bus None (Some a) kept = and_from (keeps_address_rules bus a) true (ap (λ (o : Option ℕ). is_none o) kept) refl
+
+-- a size that is too great for a shift has more bytes than each bus
+pub great_size : (s : ℕ) → 7 < s → 128 < 2 ^ s
+great_size s lt = power_above s lt

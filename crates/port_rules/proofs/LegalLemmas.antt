@@ -1,8 +1,10 @@
 -- The rounds before the first one that breaks a rule.
 use Rattle.std.proofs.Common.{◌≡◌, ℕ, ◌≤◌, ◌∷◌, [], ◌++◌, List, Option, Some, None, length, refl, ap, ◌∙◌, zero, suc, arith}
 use Rattle.std.specs.Prelude.{take, is_none, if◌then◌else◌}
+use Rattle.axi_history.specs.declared.port.PortKind.{PortKind}
 use Rattle.axi_history.specs.declared.port.PortRound.{PortRound}
-use Rattle.axi_history.specs.PortRules.{or_else, axi4_fault, first_fault, axi4_history_fault}
+use Rattle.axi_history.specs.PortRules.{or_else, first_fault}
+use Rattle.lite_rules.specs.PortFaults.{round_fault, history_fault}
 use Rattle.port_rules.specs.Laws.{IsLongestLegal}
 use Rattle.port_rules.specs.Unanswered.{before_fault, legal_beginning}
 
@@ -28,8 +30,8 @@ stays fault earlier (x ∷ h) r f e =
     (λ later. stays fault (earlier ++ x ∷ []) h r f later)
 
 -- one more round that leaves a history illegal is no part of its legal beginning
-pub beginning_stays : (bus : ℕ) (h : List PortRound) (r : PortRound) (f : ℕ × ℕ) → axi4_history_fault bus (h ++ r ∷ []) ≡ Some f → legal_beginning bus (h ++ r ∷ []) ≡ legal_beginning bus h
-beginning_stays bus h r f e = stays (axi4_fault bus) [] h r f e
+pub beginning_stays : (port : PortKind) (h : List PortRound) (r : PortRound) (f : ℕ × ℕ) → history_fault port (h ++ r ∷ []) ≡ Some f → legal_beginning port (h ++ r ∷ []) ≡ legal_beginning port h
+beginning_stays port h r f e = stays (round_fault port) [] h r f e
 
 whole_step : (found : Option (ℕ × ℕ)) (r : PortRound) (more : Option (ℕ × ℕ)) (rest rounds : List PortRound) → or_else found more ≡ None → (more ≡ None → rest ≡ rounds) → step found r rest ≡ r ∷ rounds
 whole_step None r more rest rounds e same = ap (λ (xs : List PortRound). r ∷ xs) (same e)
@@ -41,8 +43,8 @@ whole fault earlier (x ∷ rounds) e =
     whole_step (fault earlier x) x (first_fault fault (earlier ++ x ∷ []) rounds) (before_fault fault (earlier ++ x ∷ []) rounds) rounds e
     (λ later. whole fault (earlier ++ x ∷ []) rounds later)
 
-pub whole_beginning : (bus : ℕ) (h : List PortRound) → axi4_history_fault bus h ≡ None → legal_beginning bus h ≡ h
-whole_beginning bus h e = whole (axi4_fault bus) [] h e
+pub whole_beginning : (port : PortKind) (h : List PortRound) → history_fault port h ≡ None → legal_beginning port h ≡ h
+whole_beginning port h e = whole (round_fault port) [] h e
 
 -- ---- it is the longest beginning that breaks no rule
 
@@ -73,9 +75,9 @@ longest fault earlier (x ∷ rounds) (suc n) within e =
     longest_step (fault earlier x) n x (first_fault fault (earlier ++ x ∷ []) (take n rounds)) (before_fault fault (earlier ++ x ∷ []) rounds) e
     (λ later. longest fault (earlier ++ x ∷ []) rounds n (omega arith) later)
 
-pub longest_legal : (bus : ℕ) (history : List PortRound) → IsLongestLegal bus (legal_beginning bus history) history
-longest_legal bus history = record {
-  begins = begins (axi4_fault bus) [] history;
-  legal = legal (axi4_fault bus) [] history;
-  longest = λ n within e. longest (axi4_fault bus) [] history n within e;
+pub longest_legal : (port : PortKind) (history : List PortRound) → IsLongestLegal port (legal_beginning port history) history
+longest_legal port history = record {
+  begins = begins (round_fault port) [] history;
+  legal = legal (round_fault port) [] history;
+  longest = λ n within e. longest (round_fault port) [] history n within e;
 }

@@ -3,9 +3,12 @@ pub mod BurstLemmas
 pub mod HeldLemmas
 pub mod KeptLemmas
 pub mod LegalLemmas
+pub mod LiteAnswerLemmas
+pub mod LiteLemmas
 pub mod PairingLemmas
 pub mod PayloadLemmas
 pub mod PlaceLemmas
+pub mod PortLemmas
 pub mod ReadLemmas
 pub mod RoundLemmas
 pub mod StandsLemmas

@@ -18,7 +18,8 @@ use Rattle.port_rules.specs.OpenWrites.{response_fault}
 use Rattle.port_rules.specs.OpenReads.{read_fault}
 use Rattle.port_rules.specs.Offers.{new_offer, fault_of_offer}
 use Rattle.port_rules.specs.Unpaired.{Unpaired, data_fault}
-use Rattle.port_rules.specs.Kept.{Kept, on_fault, new_aw, new_w, aw_fault, w_fault, b_fault, ar_fault, r_fault, kept_fault}
+use Rattle.port_rules.specs.Kept.{Kept, new_aw, new_w}
+use Rattle.port_rules.specs.KeptFaults.{on_fault, aw_fault, w_fault, b_fault, ar_fault, r_fault, axi4_kept_fault}
 use Rattle.port_rules.specs.Held.{Held}
 use Rattle.port_rules.proofs.AddressLemmas.{new_keeps}
 use Rattle.port_rules.proofs.HeldLemmas.{offered_more, data_told}
@@ -27,7 +28,7 @@ use Rattle.port_rules.proofs.ReadLemmas.{judges_read}
 
 -- what counts only where nothing is answered before
 module _ {X : Type 0} where
-  else_same : (a b c : Option X) → (a ≡ None → b ≡ c) → or_else a b ≡ or_else a c
+  pub else_same : (a b c : Option X) → (a ≡ None → b ≡ c) → or_else a b ≡ or_else a c
   else_same None b c same = same refl
   else_same (Some x) b c same = refl
 
@@ -98,7 +99,7 @@ w_same bus k h r held aw =
     ∙ sym (least_append (handshake_rules same_data (waiting on_w h) (offer_of r.w)) ((9, last_is_on_the_last_beat bus (h ++ r ∷ [])) ∷ (10, strobes_are_on_valid_lanes bus (h ++ r ∷ [])) ∷ []))
 
 -- a round is judged by what is kept as by the rules on the history
-pub told : (bus : ℕ) (k : Kept) (h : List PortRound) (r : PortRound) → Held bus k h → kept_fault bus k r ≡ axi4_fault bus h r
+pub told : (bus : ℕ) (k : Kept) (h : List PortRound) (r : PortRound) → Held bus k h → axi4_kept_fault bus k r ≡ axi4_fault bus h r
 told bus k h r held =
     let one = least_broken (write_address_rules bus h r) in
     let two = least_broken (write_data_rules bus h r) in

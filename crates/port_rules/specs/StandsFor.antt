@@ -4,10 +4,10 @@ use Rattle.std.specs.Option.{ForSome}
 use Rattle.axi_history.specs.declared.port.PortKind.{PortKind}
 use Rattle.axi_history.specs.declared.port.PortRound.{PortRound}
 use Rattle.axi_history.specs.PortHistory.{offer_of}
-use Rattle.axi_history.specs.PortRules.{axi4_history_fault}
+use Rattle.lite_rules.specs.PortFaults.{history_fault}
 use Rattle.port_rules.specs.declared.state.PortChecker.{PortChecker}
-use Rattle.port_rules.specs.Held.{Held}
 use Rattle.port_rules.specs.Kept.{kept_of}
+use Rattle.port_rules.specs.LiteHeld.{HeldOn}
 use Rattle.port_rules.specs.Unanswered.{unanswered_writes, unanswered_reads}
 
 -- the port of a checker, and the number of rounds that it was given
@@ -26,9 +26,9 @@ pub record HasSmallAddresses (r : PortRound) : Type 0 where
 pub record StandsFor (c : PortChecker) (history : List PortRound) : Type 0 where
   pub rounds : c.rounds ≡ length history
   -- the checker keeps what the rounds break first
-  pub fault : c.fault ≡ axi4_history_fault c.port.bus history
+  pub fault : c.fault ≡ history_fault c.port history
   -- and, as long as they break no rule, what is outstanding
-  pub held : c.fault ≡ None → Held c.port.bus (kept_of c) history
+  pub held : c.fault ≡ None → HeldOn c.port (kept_of c) history
   -- the requests that wait for the end of their answer, in the rounds before the first broken one
-  pub writes : length c.writes.issued.items + length c.writes.whole.items ≡ unanswered_writes c.port.bus history
-  pub reads : length c.reads.reads.items ≡ unanswered_reads c.port.bus history
+  pub writes : length c.writes.issued.items + length c.writes.whole.items ≡ unanswered_writes c.port history
+  pub reads : length c.reads.reads.items ≡ unanswered_reads c.port history

@@ -1,7 +1,8 @@
-//! The rules of one address, 3 to 8, and of one W beat by its address, 9 and 10.
-ghost use Rattle.std.specs.Prelude.{◌≡◌, ◌<◌, ◌≤◌, ◌^◌, true, IsTrue, Option, None};
+//! The rules of one address, 3 to 8 and on AXI4-Lite 3, and of one W beat by its address, 9 and 10.
+ghost use Rattle.std.specs.Prelude.{◌≡◌, ◌<◌, ◌≤◌, ◌^◌, ◌==◌, true, IsTrue, Option, None};
 ghost use Rattle.axi_beats.specs.Bus.{IsBusWidth};
 ghost use Rattle.axi_history.specs.PortRules.{request_of, address_rules, least_broken, keeps_address_rules, has_last_where_due, has_strobes_on_valid_lanes, strobes_within};
+ghost use Rattle.lite_rules.specs.LiteRules.{is_lite_access};
 
 use axi_beats::{Addr, Burst, WBeat};
 use axi_history::RawAddr;
@@ -38,6 +39,24 @@ pub(crate) fn address_fault(a: &RawAddr, bus: u8) -> Option<u8>
         Ok(()) if a.lock => Some(8),
         Ok(()) => None,
     }
+}
+
+/// Whether an address is that of an AXI4-Lite access on a bus of this many bytes. (Rule 3 of AXI4-Lite; Arm IHI 0022, AXI4-Lite.)
+pub(crate) fn is_lite_access(a: &RawAddr, bus: u8) -> bool
+    requires { IsBusWidth bus }
+    ensures { result ≡ is_lite_access bus a.now }
+{
+    a.id == 0 && a.len == 0 && has_size_of_bus(a.size, bus) && a.burst == 1 && !a.lock
+}
+
+/// Whether beats of this AxSIZE are as wide as the bus. A great size is told first, so that the shift
+/// fits.
+#[tactic(auto, using(crate::proofs::AddressLemmas::great_size))]
+fn has_size_of_bus(size: u8, bus: u8) -> bool
+    requires { bus ≤ 128 }
+    ensures { result ≡ (2 ^ size == bus) }
+{
+    size <= 7 && 1 << size == bus
 }
 
 /// Whether beat `n` of an address, counted from 0, has `last` where it is due, and isn't beyond the

@@ -2,12 +2,16 @@
 ghost use Rattle.std.specs.Prelude.{◌≡◌, ◌≢◌, ◌+◌, ◌<◌, ◌≤◌, ◌^◌, ◌∷◌, ◌++◌, [], ℕ, false, List, Option, None, Some, IsOk, IfNone, OnOk, Err, vec_len, vec_capacity};
 ghost use Rattle.std.specs.VecDeque.{deque_len, deque_capacity};
 ghost use Rattle.axi_beats.specs.Bus.{IsBusWidth};
-ghost use Rattle.axi_history.specs.PortRules.{axi4_history_fault};
 ghost use Rattle.axi_history.specs.declared.port.PortRound.{PortRound as Round};
-ghost use Rattle.port_rules.specs.Kept.{kept_of, kept_fault, kept_after_round, unpaired_in};
+ghost use Rattle.lite_rules.specs.PortFaults.{history_fault};
+ghost use Rattle.port_rules.specs.Kept.{kept_of, kept_after_round, unpaired_in};
+ghost use Rattle.port_rules.specs.KeptFaults.{axi4_kept_fault, lite_kept_fault, kept_fault};
 ghost use Rattle.port_rules.specs.StandsFor.{HasSmallAddresses, StandsFor, checked_port, rounds_of};
 ghost use Rattle.port_rules.specs.Unanswered.{unanswered_writes, unanswered_reads};
 
+use crate::lite::{
+    lite_address_fault, lite_data_fault, lite_read_channel_fault, lite_response_channel_fault,
+};
 use crate::outstanding::{
     Waits, address_channel_fault, data_channel_fault, read_channel_fault, response_channel_fault,
     transfer_reads, transfer_writes,
@@ -20,9 +24,9 @@ use axi_history::{PortKind, PortRound};
 use std::alloc::Global;
 
 impl PortChecker {
-    /// A checker of an AXI4 port, not of AXI4-Lite, which was given no round. It takes no memory.
+    /// A checker of a port of this kind, which was given no round. It takes no memory.
+    #[tactic(auto, using(crate::proofs::StandsLemmas::stands_at_first))]
     pub fn new(alloc: Global, port: PortKind) -> PortChecker
-        requires kind { port.lite ≡ false }
         requires bus { IsBusWidth port.bus }
         ensures stands { StandsFor result [] }
         ensures port { checked_port result ≡ port }
@@ -62,10 +66,32 @@ impl PortChecker {
         Ok(())
     }
 
-    /// The least channel on which a round breaks a rule, and the least such rule. Where it breaks
-    /// none, its addresses and W beats are added.
+    /// The least channel on which a round of an AXI4-Lite port breaks a rule, and the least such rule.
+    fn judge_lite(&self, r: &PortRound) -> Option<(u8, u8)>
+        ensures { result ≡ lite_kept_fault self.now.port.bus (kept_of self.now) r.now }
+    {
+        if let Some(rule) = lite_address_fault(&self.waits.aw, &r.aw, self.port.bus) {
+            return Some((1, rule));
+        }
+        if let Some(rule) = lite_data_fault(&self.waits.w, &r.w) {
+            return Some((2, rule));
+        }
+        if let Some(rule) = lite_response_channel_fault(&self.writes, &self.waits.b, &r.b) {
+            return Some((3, rule));
+        }
+        if let Some(rule) = lite_address_fault(&self.waits.ar, &r.ar, self.port.bus) {
+            return Some((4, rule));
+        }
+        match lite_read_channel_fault(&self.reads, &self.waits.r, &r.r) {
+            Some(rule) => Some((5, rule)),
+            None => None,
+        }
+    }
+
+    /// The least channel on which a round of an AXI4 port breaks a rule, and the least such rule. Where
+    /// it breaks none, its addresses and W beats are added.
     #[tactic(auto, using(crate::proofs::AddressLemmas::new_usable))]
-    fn judge(&mut self, r: &PortRound) -> Option<(u8, u8)>
+    fn judge_axi4(&mut self, r: &PortRound) -> Option<(u8, u8)>
         requires small { HasSmallAddresses r.now }
         requires addresses { deque_len self.old.bursts.addresses
             < deque_capacity self.old.bursts.addresses }
@@ -76,9 +102,9 @@ impl PortChecker {
         ensures waits { self.new.waits ≡ self.old.waits }
         ensures writes { self.new.writes ≡ self.old.writes }
         ensures reads { self.new.reads ≡ self.old.reads }
-        ensures fault { result ≡ kept_fault self.old.port.bus (kept_of self.old) r.now }
+        ensures fault { result ≡ axi4_kept_fault self.old.port.bus (kept_of self.old) r.now }
         ensures unpaired { IfNone result
-            (unpaired_in self.new.bursts ≡ (kept_after_round (kept_of self.old) r.now).unpaired) }
+            (unpaired_in self.new.bursts ≡ (kept_after_round false (kept_of self.old) r.now).unpaired) }
     {
         if let Some(rule) = address_channel_fault(&self.waits.aw, &r.aw, self.port.bus) {
             return Some((1, rule));
@@ -98,6 +124,31 @@ impl PortChecker {
         }
     }
 
+    /// The least channel on which a round breaks a rule, and the least such rule. Where it breaks none,
+    /// the addresses and W beats of an AXI4 port are added.
+    fn judge(&mut self, r: &PortRound) -> Option<(u8, u8)>
+        requires small { HasSmallAddresses r.now }
+        requires addresses { deque_len self.old.bursts.addresses
+            < deque_capacity self.old.bursts.addresses }
+        requires beats { deque_len self.old.bursts.beats < deque_capacity self.old.bursts.beats }
+        ensures port { self.new.port ≡ self.old.port }
+        ensures rounds { self.new.rounds ≡ self.old.rounds }
+        ensures same_fault { self.new.fault ≡ self.old.fault }
+        ensures waits { self.new.waits ≡ self.old.waits }
+        ensures writes { self.new.writes ≡ self.old.writes }
+        ensures reads { self.new.reads ≡ self.old.reads }
+        ensures fault { result ≡ kept_fault self.old.port (kept_of self.old) r.now }
+        ensures unpaired { IfNone result
+            (unpaired_in self.new.bursts
+            ≡ (kept_after_round self.old.port.lite (kept_of self.old) r.now).unpaired) }
+    {
+        if self.port.lite {
+            self.judge_lite(r)
+        } else {
+            self.judge_axi4(r)
+        }
+    }
+
     /// Judges a round, and counts what it transfers where it breaks no rule.
     fn add(&mut self, r: &PortRound) -> Option<(u8, u8)>
         requires small { HasSmallAddresses r.now }
@@ -111,8 +162,9 @@ impl PortChecker {
         ensures port { self.new.port ≡ self.old.port }
         ensures rounds { self.new.rounds ≡ self.old.rounds + 1 }
         ensures same_fault { self.new.fault ≡ self.old.fault }
-        ensures fault { result ≡ kept_fault self.old.port.bus (kept_of self.old) r.now }
-        ensures kept { IfNone result (kept_of self.new ≡ kept_after_round (kept_of self.old) r.now) }
+        ensures fault { result ≡ kept_fault self.old.port (kept_of self.old) r.now }
+        ensures kept { IfNone result
+            (kept_of self.new ≡ kept_after_round self.old.port.lite (kept_of self.old) r.now) }
         ensures writes { result ≢ None → (kept_of self.new).writes ≡ (kept_of self.old).writes }
         ensures reads { result ≢ None → (kept_of self.new).reads ≡ (kept_of self.old).reads }
     {
@@ -145,12 +197,12 @@ impl PortChecker {
 
         // Each answer says what the history breaks first.
         ensures legal { IsOk result → (h : List Round) → StandsFor self.old h →
-            axi4_history_fault (checked_port self.old).bus (h ++ r.now ∷ []) ≡ None }
+            history_fault (checked_port self.old) (h ++ r.now ∷ []) ≡ None }
         ensures broken { (rule channel : ℕ) → result ≡ Err (RuleFault.Broken rule channel) →
             (h : List Round) → StandsFor self.old h →
-            axi4_history_fault (checked_port self.old).bus (h ++ r.now ∷ []) ≡ Some (channel, rule) }
+            history_fault (checked_port self.old) (h ++ r.now ∷ []) ≡ Some (channel, rule) }
         ensures stays { (rule channel : ℕ) (h : List Round) → StandsFor self.old h →
-            axi4_history_fault (checked_port self.old).bus h ≡ Some (channel, rule) →
+            history_fault (checked_port self.old) h ≡ Some (channel, rule) →
             result ≡ Err (RuleFault.Broken rule channel) }
     {
         if let Some((channel, rule)) = self.fault {
@@ -171,13 +223,14 @@ impl PortChecker {
 
     /// How many writes and how many reads are unanswered: the AWs less the Bs that were transferred
     /// and the ARs less the R beats with `last`, in the rounds before the first broken one. By rule
-    /// 11 these rounds have no more answers than requests, so the differences are exact; and as a
-    /// round transfers at most one request of each kind, they fit. It takes no memory.
+    /// 11, on AXI4-Lite by rule 6, these rounds have no more answers than requests, so the
+    /// differences are exact; and as a round transfers at most one request of each kind, they fit.
+    /// It takes no memory.
     pub fn unanswered(&self) -> (u32, u32)
         ensures writes { (h : List Round) → StandsFor self.now h →
-            result.0 ≡ unanswered_writes (checked_port self.now).bus h }
+            result.0 ≡ unanswered_writes (checked_port self.now) h }
         ensures reads { (h : List Round) → StandsFor self.now h →
-            result.1 ≡ unanswered_reads (checked_port self.now).bus h }
+            result.1 ≡ unanswered_reads (checked_port self.now) h }
     {
         (self.writes.unanswered(), self.reads.unanswered())
     }

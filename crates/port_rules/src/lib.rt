@@ -1,10 +1,10 @@
-//! The checker of an AXI4 port: it is given the rounds of a port one by one, and tells the first
-//! rule that they break.
+//! The checker of an AXI4 or AXI4-Lite port: it is given the rounds of a port one by one, and tells the
+//! first rule that they break.
 //!
-//! The rules are numbered from 1 to 12. They are definitions over whole histories in `axi_history`,
-//! and `docs/PORT_RULES.md` lists them with their sections of Arm IHI 0022. The checker keeps what is
-//! outstanding alone: the beats that wait, data without address, addresses without data, and requests
-//! without answer.
+//! The rules are numbered from 1 to 12 on AXI4, and from 1 to 6 on AXI4-Lite. They are definitions over
+//! whole histories in `axi_history` and `lite_rules`, and `docs/PORT_RULES.md` lists them with their
+//! sections of Arm IHI 0022. The checker keeps what is outstanding alone: the beats that wait, data
+//! without address, addresses without data, and requests without answer.
 #![tactic(auto)]
 
 pub use rule_laws::laws;
@@ -13,6 +13,7 @@ pub use state::{PortChecker, RuleFault};
 mod address;
 mod bursts;
 mod checker;
+mod lite;
 mod offer;
 mod outstanding;
 mod payload;

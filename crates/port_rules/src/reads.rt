@@ -1,6 +1,7 @@
-//! Reads that aren't answered in full, for rules 11 and 12. (Arm IHI 0022, read data channel and
-//! transaction identifiers.)
+//! Reads that aren't answered in full, for rules 11 and 12, and for rule 6 of AXI4-Lite. (Arm IHI 0022,
+//! read data channel and transaction identifiers.)
 ghost use Rattle.std.specs.Prelude.{◌≡◌, ◌+◌, ◌<◌, ◌≤◌, ◌^◌, ◌∷◌, ◌++◌, [], ◌==◌, length, position, Option, None, OnOk, vec_len, vec_capacity};
+ghost use Rattle.port_rules.specs.KeptFaults.{lite_read_fault};
 ghost use Rattle.port_rules.specs.OpenReads.{beats_lacking, new_read, read_fault, with_beat_of};
 
 use axi_beats::NoMemory;
@@ -50,6 +51,21 @@ impl Reads {
             None => Some(11),
             Some(left) if r.last != (left == 1) => Some(12),
             Some(_) => None,
+        }
+    }
+
+    /// The least of rules 4, 5 and 6 that a read beat on an AXI4-Lite port breaks.
+    pub(crate) fn lite_fault(&self, r: &RawR) -> Option<u8>
+        ensures { result ≡ lite_read_fault self.now.reads.items r.now }
+    {
+        if r.id != 0 || !r.last {
+            Some(4)
+        } else if r.resp == 1 {
+            Some(5)
+        } else if self.reads.is_empty() {
+            Some(6)
+        } else {
+            None
         }
     }
 

@@ -15,7 +15,7 @@ use std::collections::VecDeque;
 #[derive(Clone, Copy, Debug, PartialEq, Eq)]
 pub enum RuleFault {
     /// The rounds break a rule: the least channel (1 AW, 2 W, 3 B, 4 AR, 5 R) and its least rule, from
-    /// 1 to 12.
+    /// 1 to 12, on AXI4-Lite from 1 to 6.
     Broken { rule: u8, channel: u8 },
     /// There was no memory for the round, which wasn't added.
     NoMemory,
@@ -48,6 +48,7 @@ pub struct PortChecker {
     /// The channel and the rule that were broken first. The fields below change no more from then on.
     pub(crate) fault: Option<(u8, u8)>,
     pub(crate) waits: Waits,
+    /// Empty on an AXI4-Lite port, where no rule asks for both an address and its data.
     pub(crate) bursts: Bursts,
     pub(crate) writes: Writes,
     pub(crate) reads: Reads,

@@ -10,6 +10,8 @@ const PORT: PortKind = PortKind {
     bus: 4,
 };
 
+const LITE: PortKind = PortKind { lite: true, bus: 4 };
+
 /// A round in which no channel offers anything.
 fn quiet() -> PortRound {
     PortRound {
@@ -135,6 +137,30 @@ fn counts_what_is_unanswered(rt: HostRuntime) {
     assert_eq!(rt; counts(r(taken(read(1, true)))), (1, 0));
     assert_eq!(rt; counts(ar(taken(words(3, 4092, 2)))), (1, 0));
     assert_eq!(rt; counts(ar(taken(words(3, 0, 1)))), (1, 0));
+}
+
+/// On AXI4-Lite data may come before its address, and two beats break a rule.
+#[test]
+fn counts_what_is_unanswered_on_axi4_lite(rt: HostRuntime) {
+    let mut checker = PortChecker::new(rt.alloc(), LITE);
+    let mut counts = |round: PortRound| {
+        let _answer = give(
+            &rt,
+            &mut checker,
+            &PortRound {
+                kind: LITE,
+                ..round
+            },
+        );
+        checker.unanswered()
+    };
+    assert_eq!(rt; counts(w(taken(data(0, true)))), (0, 0));
+    assert_eq!(rt; counts(aw(taken(words(0, 2, 1)))), (1, 0));
+    assert_eq!(rt; counts(ar(taken(words(0, 0, 1)))), (1, 1));
+    assert_eq!(rt; counts(b(taken(response(0, 2)))), (0, 1));
+    assert_eq!(rt; counts(r(taken(read(0, true)))), (0, 0));
+    assert_eq!(rt; counts(ar(taken(words(0, 0, 2)))), (0, 0));
+    assert_eq!(rt; counts(ar(taken(words(0, 0, 1)))), (0, 0));
 }
 
 /// A hundred thousand rounds, with little outstanding, take seconds.

@@ -1,7 +1,9 @@
-//! Writes whose address or whose last W beat was transferred, and that have no response, for rule 11.
+//! Writes whose address or whose last W beat was transferred, and that have no response, for rule 11,
+//! and for rule 6 of AXI4-Lite, where all IDs are 0 and each W beat is a last one.
 //! (Arm IHI 0022, dependencies between channel handshake signals.)
 ghost use Rattle.std.specs.Prelude.{◌≡◌, ◌+◌, ◌-◌, ◌<◌, ◌≤◌, ◌^◌, ◌∷◌, ◌++◌, [], ◌==◌, length, Option, None, OnOk, if◌then◌else◌, vec_len, vec_capacity, nat_lt, take, drop, position};
 ghost use Rattle.std.specs.VecDeque.{deque_len, deque_capacity};
+ghost use Rattle.port_rules.specs.KeptFaults.{lite_response_fault};
 ghost use Rattle.port_rules.specs.OpenWrites.{response_fault, without_first};
 
 use axi_beats::NoMemory;
@@ -59,6 +61,21 @@ impl Writes {
             Some(8)
         } else if self.place(b.id).is_none() {
             Some(11)
+        } else {
+            None
+        }
+    }
+
+    /// The least of rules 4, 5 and 6 that a response on an AXI4-Lite port breaks.
+    pub(crate) fn lite_fault(&self, b: &RawB) -> Option<u8>
+        ensures { result ≡ lite_response_fault self.now.whole.items b.now }
+    {
+        if b.id != 0 {
+            Some(4)
+        } else if b.resp == 1 {
+            Some(5)
+        } else if self.whole.is_empty() {
+            Some(6)
         } else {
             None
         }

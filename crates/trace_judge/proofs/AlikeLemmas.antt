@@ -1,5 +1,5 @@
--- Rounds that are judged alike, and rows of rounds in which nothing is offered.
-use Rattle.std.proofs.Common.{◌≡◌, ℕ, ◌∷◌, [], ◌++◌, Bool, List, Option, Some, None, refl, sym, ap, ◌∙◌, append_assoc}
+-- Rounds of an AXI4 port that are judged alike, and rounds in which nothing is offered.
+use Rattle.std.proofs.Common.{◌≡◌, ℕ, ◌∷◌, [], ◌++◌, Bool, List, Option, Some, None, refl, sym, ap, ◌∙◌}
 use Rattle.std.specs.Prelude.{zip, length, take, sum, count_by, nat_lt}
 use Rattle.std.specs.Bool.{beq}
 use Rattle.std.specs.Option.{option_to_list}
@@ -11,10 +11,9 @@ use Rattle.axi_history.specs.declared.port.RawB.{RawB}
 use Rattle.axi_history.specs.declared.port.RawR.{RawR}
 use Rattle.axi_history.specs.declared.port.Seen.{Seen}
 use Rattle.axi_history.specs.PortHistory.{offer_of, transfer_of, wait_of, transferred, waiting, offered, bursts, whole_writes, ends_a_request, on_aw, on_w, on_b, on_ar, on_r}
-use Rattle.axi_history.specs.PortRules.{same_address, same_data, same_response, same_read, handshake_rules, least_broken, or_else, on_channel, rules_of_offer, address_rules, has_last_where_due, has_strobes_on_valid_lanes, each_addressed_beat, addressed_bursts, last_is_on_the_last_beat, strobes_are_on_valid_lanes, is_not_exokay, writes_of, responses_of, read_beats_of, reads_of, response_rules, read_beat_rules, write_address_rules, write_data_rules, write_response_rules, read_address_rules, read_data_rules, axi4_fault, first_fault, axi4_history_fault}
-use Rattle.axi_history.proofs.HistoryLemmas.{else_parts, least_append, channel_kept, channels_kept, transferred_more, waiting_more, first_append, fault_stays, fault_anew}
+use Rattle.axi_history.specs.PortRules.{same_address, same_data, same_response, same_read, handshake_rules, least_broken, or_else, on_channel, rules_of_offer, address_rules, has_last_where_due, has_strobes_on_valid_lanes, each_addressed_beat, addressed_bursts, last_is_on_the_last_beat, strobes_are_on_valid_lanes, is_not_exokay, writes_of, responses_of, read_beats_of, reads_of, response_rules, read_beat_rules, write_address_rules, write_data_rules, write_response_rules, read_address_rules, read_data_rules, axi4_fault}
+use Rattle.axi_history.proofs.HistoryLemmas.{else_parts, least_append, channel_kept, channels_kept, transferred_more, waiting_more}
 use Rattle.trace_judge.specs.Alike.{Alike, SameOffers, IsQuiet}
-use Rattle.trace_judge.specs.QuietRounds.{QuietRoundsAreOne}
 
 -- ---- what is alike
 
@@ -56,6 +55,9 @@ alike_more h g r s a o = record {
   ar_moved = moved_more on_ar h g r s o.ar a.ar_moved;
   r_moved = moved_more on_r h g r s o.r a.r_moved;
 }
+
+pub same_refl : (r : PortRound) → SameOffers r r
+same_refl r = record { aw = refl; w = refl; b = refl; ar = refl; r = refl }
 
 -- ---- what is alike is judged alike
 
@@ -106,17 +108,17 @@ read_alike : (h g : List PortRound) → Alike h g → (o : Option RawR) → rule
 read_alike h g a None = refl
 read_alike h g a (Some r) = ap (read_told r (transferred on_ar h)) a.r_moved ∙ ap (λ (xs : List RawAddr). read_told r xs (transferred on_r g)) a.ar_moved
 
-answer_alike : {X : Type 0} (same : X → X → Bool) (waits waits' : Option X) (o o' : Option (Seen X)) (rules rules' : X → List (ℕ × Bool)) → waits ≡ waits' → o ≡ o' → ((v : Option X) → rules_of_offer v rules ≡ rules_of_offer v rules') →
+pub answer_alike : {X : Type 0} (same : X → X → Bool) (waits waits' : Option X) (o o' : Option (Seen X)) (rules rules' : X → List (ℕ × Bool)) → waits ≡ waits' → o ≡ o' → ((v : Option X) → rules_of_offer v rules ≡ rules_of_offer v rules') →
     handshake_rules same waits (offer_of o) ++ rules_of_offer (offer_of o) rules ≡ handshake_rules same waits' (offer_of o') ++ rules_of_offer (offer_of o') rules'
 answer_alike {X} same waits waits' o o' rules rules' e f t =
     ap (λ (v : Option X). handshake_rules same v (offer_of o) ++ rules_of_offer (offer_of o) rules) e
     ∙ ap (λ (v : List (ℕ × Bool)). handshake_rules same waits' (offer_of o) ++ v) (t (offer_of o))
     ∙ ap (λ (v : Option (Seen X)). handshake_rules same waits' (offer_of v) ++ rules_of_offer (offer_of v) rules') f
 
-abbrev by_channel : List (ℕ × Bool) → List (ℕ × Bool) → List (ℕ × Bool) → List (ℕ × Bool) → List (ℕ × Bool) → Option (ℕ × ℕ)
+abbrev pub by_channel : List (ℕ × Bool) → List (ℕ × Bool) → List (ℕ × Bool) → List (ℕ × Bool) → List (ℕ × Bool) → Option (ℕ × ℕ)
 by_channel aw w b ar r = or_else (on_channel 1 aw) (or_else (on_channel 2 w) (or_else (on_channel 3 b) (or_else (on_channel 4 ar) (on_channel 5 r))))
 
-channels_alike : (aw aw' w w' b b' ar ar' r r' : List (ℕ × Bool)) → aw ≡ aw' → w ≡ w' → b ≡ b' → ar ≡ ar' → r ≡ r' → by_channel aw w b ar r ≡ by_channel aw' w' b' ar' r'
+pub channels_alike : (aw aw' w w' b b' ar ar' r r' : List (ℕ × Bool)) → aw ≡ aw' → w ≡ w' → b ≡ b' → ar ≡ ar' → r ≡ r' → by_channel aw w b ar r ≡ by_channel aw' w' b' ar' r'
 channels_alike aw aw' w w' b b' ar ar' r r' e1 e2 e3 e4 e5 =
     ap (λ (v : List (ℕ × Bool)). by_channel v w b ar r) e1
     ∙ ap (λ (v : List (ℕ × Bool)). by_channel aw' v b ar r) e2
@@ -124,8 +126,8 @@ channels_alike aw aw' w w' b b' ar ar' r r' e1 e2 e3 e4 e5 =
     ∙ ap (λ (v : List (ℕ × Bool)). by_channel aw' w' b' v r) e4
     ∙ ap (λ (v : List (ℕ × Bool)). by_channel aw' w' b' ar' v) e5
 
-pub judged_alike : (bus : ℕ) (h g : List PortRound) (r s : PortRound) → Alike h g → SameOffers r s → axi4_fault bus h r ≡ axi4_fault bus g s
-judged_alike bus h g r s a o =
+pub axi4_alike : (bus : ℕ) (h g : List PortRound) (r s : PortRound) → Alike h g → SameOffers r s → axi4_fault bus h r ≡ axi4_fault bus g s
+axi4_alike bus h g r s a o =
     let more : Alike (h ++ r ∷ []) (g ++ s ∷ []) = alike_more h g r s a o in
     channels_alike
     (write_address_rules bus h r) (write_address_rules bus g s)
@@ -161,7 +163,7 @@ alike_quiet h q r a o = record {
   r_moved = unmoved on_r (h ++ q ∷ []) r o.r;
 }
 
-quiet_rules : {X : Type 0} (same : X → X → Bool) (waits : Option X) (o : Option (Seen X)) (rules : X → List (ℕ × Bool)) → waits ≡ None → o ≡ None → least_broken (handshake_rules same waits (offer_of o) ++ rules_of_offer (offer_of o) rules) ≡ None
+pub quiet_rules : {X : Type 0} (same : X → X → Bool) (waits : Option X) (o : Option (Seen X)) (rules : X → List (ℕ × Bool)) → waits ≡ None → o ≡ None → least_broken (handshake_rules same waits (offer_of o) ++ rules_of_offer (offer_of o) rules) ≡ None
 quiet_rules {X} same waits o rules e f =
     ap (λ (v : Option X). least_broken (handshake_rules same v (offer_of o) ++ rules_of_offer (offer_of o) rules)) e
     ∙ ap (λ (v : Option (Seen X)). least_broken (handshake_rules same None (offer_of v) ++ rules_of_offer (offer_of v) rules)) f
@@ -179,8 +181,8 @@ data_kept aw w b ar r e =
     channel_kept 2 w after.0
 
 -- a round in which nothing is offered breaks nothing after another such round that breaks nothing
-pub quiet_again : (bus : ℕ) (h : List PortRound) (q r : PortRound) → IsQuiet q → IsQuiet r → axi4_fault bus h q ≡ None → axi4_fault bus (h ++ q ∷ []) r ≡ None
-quiet_again bus h q r a o kept =
+pub axi4_quiet : (bus : ℕ) (h : List PortRound) (q r : PortRound) → IsQuiet q → IsQuiet r → axi4_fault bus h q ≡ None → axi4_fault bus (h ++ q ∷ []) r ≡ None
+axi4_quiet bus h q r a o kept =
     let g : List PortRound = h ++ q ∷ [] in
     let same : Alike (g ++ r ∷ []) g = alike_quiet h q r a o in
     let of_data : least_broken (write_data_rules bus h q) ≡ None = data_kept (write_address_rules bus h q) (write_data_rules bus h q) (write_response_rules h q) (read_address_rules bus h q) (read_data_rules h q) kept in
@@ -195,40 +197,3 @@ quiet_again bus h q r a o kept =
     (quiet_rules same_response (waiting on_b g) r.b (response_rules g) (waiting_more on_b h q ∙ ap wait_of a.b) o.b)
     (quiet_rules same_address (waiting on_ar g) r.ar (address_rules bus) (waiting_more on_ar h q ∙ ap wait_of a.ar) o.ar)
     (quiet_rules same_read (waiting on_r g) r.r (read_beat_rules g) (waiting_more on_r h q ∙ ap wait_of a.r) o.r)
-
--- ---- rows of such rounds
-
-pub same_refl : (r : PortRound) → SameOffers r r
-same_refl r = record { aw = refl; w = refl; b = refl; ar = refl; r = refl }
-
--- what is broken up to there
-pub again_same : (bus : ℕ) (h : List PortRound) (q r : PortRound) → IsQuiet q → IsQuiet r → axi4_history_fault bus ((h ++ q ∷ []) ++ r ∷ []) ≡ axi4_history_fault bus (h ++ q ∷ [])
-again_same bus h q r a o = go (axi4_history_fault bus (h ++ q ∷ [])) refl
-  where
-    legal : (f : Option (ℕ × ℕ)) → axi4_history_fault bus h ≡ f → axi4_history_fault bus (h ++ q ∷ []) ≡ None → axi4_fault bus h q ≡ None
-    legal None e kept = sym (fault_anew bus h q e) ∙ kept
-    legal (Some f) e kept = let bad : Some f ≡ None = sym (fault_stays bus h q f e) ∙ kept in absurd cc
-
-    go : (f : Option (ℕ × ℕ)) → axi4_history_fault bus (h ++ q ∷ []) ≡ f → axi4_history_fault bus ((h ++ q ∷ []) ++ r ∷ []) ≡ axi4_history_fault bus (h ++ q ∷ [])
-    go (Some f) e = fault_stays bus (h ++ q ∷ []) r f e ∙ sym e
-    go None e = fault_anew bus (h ++ q ∷ []) r e ∙ quiet_again bus h q r a o (legal (axi4_history_fault bus h) refl e) ∙ sym e
-
-first_alike : (bus : ℕ) (h g later : List PortRound) → Alike h g → first_fault (axi4_fault bus) h later ≡ first_fault (axi4_fault bus) g later
-first_alike bus h g [] a = refl
-first_alike bus h g (r ∷ later) a =
-    ap (λ (o : Option (ℕ × ℕ)). or_else o (first_fault (axi4_fault bus) (h ++ r ∷ []) later)) (judged_alike bus h g r r a (same_refl r))
-    ∙ ap (λ (o : Option (ℕ × ℕ)). or_else (axi4_fault bus g r) o) (first_alike bus (h ++ r ∷ []) (g ++ r ∷ []) later (alike_more h g r r a (same_refl r)))
-
-twice : (bus : ℕ) (h : List PortRound) (q r : PortRound) (later : List PortRound) → IsQuiet q → IsQuiet r → axi4_history_fault bus (((h ++ q ∷ []) ++ r ∷ []) ++ later) ≡ axi4_history_fault bus ((h ++ q ∷ []) ++ later)
-twice bus h q r later a o =
-    first_append (axi4_fault bus) [] ((h ++ q ∷ []) ++ r ∷ []) later
-    ∙ ap (λ (v : Option (ℕ × ℕ)). or_else v (first_fault (axi4_fault bus) ((h ++ q ∷ []) ++ r ∷ []) later)) (again_same bus h q r a o)
-    ∙ ap (λ (v : Option (ℕ × ℕ)). or_else (axi4_history_fault bus (h ++ q ∷ [])) v) (first_alike bus ((h ++ q ∷ []) ++ r ∷ []) (h ++ q ∷ []) later (alike_quiet h q r a o))
-    ∙ sym (first_append (axi4_fault bus) [] (h ++ q ∷ []) later)
-
-pub quiet_are_one : QuietRoundsAreOne
-quiet_are_one bus h q [] later a all = ap (λ (v : List PortRound). axi4_history_fault bus (v ++ later)) (append-nil (h ++ q ∷ []))
-quiet_are_one bus h q (r ∷ more) later a all =
-    ap (λ (v : List PortRound). axi4_history_fault bus (v ++ later)) (sym (append_assoc (h ++ q ∷ []) (r ∷ []) more))
-    ∙ quiet_are_one bus (h ++ q ∷ []) r more later all.0 all.1
-    ∙ twice bus h q r later a all.0

@@ -1,7 +1,6 @@
 -- The first fault of a trace, link by link.
 use Rattle.std.proofs.Common.{◌≡◌, ℕ, ◌+◌, ◌-◌, ◌<◌, ◌≤◌, ◌∷◌, [], Bool, true, false, List, Option, Some, None, refl, sym, ap, subst, ◌∙◌, arith, length, suc, zero, get_or, add-one}
 use Rattle.std.specs.Prelude.{if◌then◌else◌, nat_lt, nat_le, Result, Ok, Err, IfOk}
-use Rattle.std.specs.List.{find}
 use Rattle.std.specs.Option.{option_map}
 use Rattle.std.proofs.lemmas.Bool.{lt-ltb, le-ltb, le-leb, lt-leb}
 use Rattle.axi_history.specs.declared.port.PortKind.{PortKind}
@@ -11,32 +10,14 @@ use Rattle.axi_history.proofs.HistoryLemmas.{else_none}
 use Rattle.trace_judge.specs.Entries.{EntryStands, LinkStands}
 use Rattle.trace_judge.specs.Faults.{EntryServes, IsFaultOf, broken_by, earlier_of, fault_on, with_link}
 use Rattle.trace_judge.specs.Follows.{TellsOf}
-use Rattle.trace_judge.specs.Histories.{broken_at, fault_of_link, fault_of_port, greatest_round, is_of_link, first_answer, line_number_at, first_line_with}
+use Rattle.trace_judge.specs.Histories.{broken_at, fault_of_link, fault_of_port, greatest_round, first_answer, line_number_at}
 use Rattle.trace_judge.specs.Judged.{fault_by}
-use Rattle.trace_judge.specs.Table.{link_entry, is_lite}
+use Rattle.trace_judge.specs.Table.{link_entry}
 use Rattle.trace_judge.specs.declared.link_judge.LinkFault.{LinkFault}
 use Rattle.trace_judge.specs.declared.link_state.LinkState.{LinkState}
 use Rattle.trace_judge.specs.declared.verdict.TraceFault.{TraceFault}
-use Rattle.trace_judge.proofs.TableLemmas.{first_of}
 
 -- ---- one link
-
--- where no line is of AXI4-Lite, no port of a link is
-not_lite : (p : PortRound → Bool) (xs : List PortRound) (x : PortRound) → find p xs ≡ Some x → first_line_with is_lite xs ≡ None → x.kind.lite ≡ false
-not_lite p [] x e none = absurd cc
-not_lite p (y ∷ xs) x e none = go (p y) (y.kind.lite) refl (not_lite p xs x) e none
-  where
-    rest_none : (o : Option ℕ) → option_map (λ n. n + 1) o ≡ None → o ≡ None
-    rest_none None e = refl
-    rest_none (Some n) e = absurd cc
-
-    go : (b lite : Bool) → y.kind.lite ≡ lite → (find p xs ≡ Some x → first_line_with is_lite xs ≡ None → x.kind.lite ≡ false) → (if b then Some y else find p xs) ≡ Some x → (if lite then Some 1 else option_map (λ n. n + 1) (first_line_with is_lite xs)) ≡ None → x.kind.lite ≡ false
-    go b true is h e none = absurd cc
-    go true false is h e none = let same : x ≡ y = cc in ap (λ (r : PortRound). r.kind.lite) same ∙ is
-    go false false is h e none = h e (rest_none (first_line_with is_lite xs) none)
-
-pub state_not_lite : (s : LinkState) (xs : List PortRound) (link : ℕ) → LinkStands s xs link → first_line_with is_lite xs ≡ None → s.port.lite ≡ false
-state_not_lite s xs link e none = let f = first_of xs link s.port e.port in ap (λ (k : PortKind). k.lite) (sym f.2) ∙ not_lite (is_of_link link) xs f.0 f.1 none
 
 placed_fault : (lines : List PortRound) (link : ℕ) (fault : Option LinkFault) (n : ℕ) →
     option_map (λ (f : ℕ × ℕ). let v : TraceFault = record { line = line_number_at lines link n; round = n; link = link; channel = f.0; rule = f.1 } in v) (fault_by fault n) ≡ broken_by lines link fault n

@@ -4,10 +4,10 @@ use Rattle.std.specs.List.{find}
 use Rattle.std.specs.Prelude.{IfSome}
 use Rattle.axi_history.specs.declared.port.PortKind.{PortKind}
 use Rattle.axi_history.specs.declared.port.PortRound.{PortRound}
-use Rattle.axi_history.specs.PortRules.{axi4_history_fault}
+use Rattle.lite_rules.specs.PortFaults.{history_fault}
 use Rattle.port_rules.specs.StandsFor.{checked_port, rounds_of}
 use Rattle.trace_judge.specs.Alike.{IsQuiet, SameOffers}
-use Rattle.trace_judge.specs.Follows.{FollowsLink, TellsOf}
+use Rattle.trace_judge.specs.Follows.{Follows, TellsOf}
 use Rattle.trace_judge.specs.Histories.{is_line_of, is_of_link, shown_in, quiet_round, line_number_at, greatest_round, history}
 use Rattle.trace_judge.specs.Judged.{IsJudged}
 use Rattle.trace_judge.specs.declared.link_judge.LinkFault.{LinkFault}
@@ -24,7 +24,7 @@ pub no_line_is_quiet : (xs : List PortRound) (kind : PortKind) (link round : ℕ
 no_line_is_quiet xs kind link round e = (subst IsQuiet (sym (shown_none xs kind link round e)) (quiet_round_is kind link round), numbered_none xs link round e)
 
 -- before the first line
-pub follows_none : (j : LinkJudge) (kind : PortKind) (xs : List PortRound) (link : ℕ) → checked_port j.checker ≡ kind → rounds_of j.checker ≡ 0 → j.rounds ≡ 0 → ((shown : ℕ → PortRound) (number : ℕ → ℕ) → IsJudged j.checker j.fault j.rounds shown number) → find (is_of_link link) xs ≡ None → FollowsLink j kind xs link
+pub follows_none : (j : LinkJudge) (kind : PortKind) (xs : List PortRound) (link : ℕ) → checked_port j.checker ≡ kind → rounds_of j.checker ≡ 0 → j.rounds ≡ 0 → ((shown : ℕ → PortRound) (number : ℕ → ℕ) → IsJudged j.checker j.fault j.rounds shown number) → find (is_of_link link) xs ≡ None → Follows j kind xs link
 follows_none j kind xs link port few rounds judged none = record {
   port = port;
   judged = judged (shown_in xs kind link) (line_number_at xs link);
@@ -34,7 +34,7 @@ follows_none j kind xs link port few rounds judged none = record {
 }
 
 -- the judge's rounds, seen with one more line
-judged_with : (j : LinkJudge) (kind : PortKind) (xs : List PortRound) (r : PortRound) → j.rounds < r.round → FollowsLink j kind xs r.link → IsJudged j.checker j.fault j.rounds (shown_in (xs ++ r ∷ []) kind r.link) (line_number_at (xs ++ r ∷ []) r.link)
+judged_with : (j : LinkJudge) (kind : PortKind) (xs : List PortRound) (r : PortRound) → j.rounds < r.round → Follows j kind xs r.link → IsJudged j.checker j.fault j.rounds (shown_in (xs ++ r ∷ []) kind r.link) (line_number_at (xs ++ r ∷ []) r.link)
 judged_with j kind xs r h f =
     judged_same j.checker j.fault j.rounds (shown_in xs kind r.link) (shown_in (xs ++ r ∷ []) kind r.link) (line_number_at xs r.link) (line_number_at (xs ++ r ∷ []) r.link)
     (λ m le. let ne : r.round ≢ m = omega arith in sym (shown_other xs r kind r.link m (is_not_in r m r.link ne)))
@@ -42,12 +42,12 @@ judged_with j kind xs r h f =
     f.judged
 
 -- Over one more line of the link: `passed` is what the row of rounds before it leaves, and `after` what the line leaves.
-pub follows_line : (j passed after : LinkJudge) (kind : PortKind) (xs : List PortRound) (r : PortRound) (line : ℕ) → line ≡ length xs + 1 → 1 ≤ r.round → j.rounds < r.round → FollowsLink j kind xs r.link →
+pub follows_line : (j passed after : LinkJudge) (kind : PortKind) (xs : List PortRound) (r : PortRound) (line : ℕ) → line ≡ length xs + 1 → 1 ≤ r.round → j.rounds < r.round → Follows j kind xs r.link →
     checked_port passed.checker ≡ checked_port j.checker → rounds_of passed.checker ≤ rounds_of j.checker + 1 → passed.rounds ≡ max j.rounds (r.round - 1) →
     ((shown : ℕ → PortRound) (number : ℕ → ℕ) → ((n : ℕ) → j.rounds < n → n ≤ r.round - 1 → IsQuiet (shown n) × (number n ≡ 0)) → IsJudged j.checker j.fault j.rounds shown number → IsJudged passed.checker passed.fault passed.rounds shown number) →
     checked_port after.checker ≡ checked_port passed.checker → rounds_of after.checker ≤ rounds_of passed.checker + 1 → after.rounds ≡ r.round →
     ((shown : ℕ → PortRound) (number : ℕ → ℕ) → r.round ≡ passed.rounds + 1 → SameOffers (shown r.round) r → number r.round ≡ line → IsJudged passed.checker passed.fault passed.rounds shown number → IsJudged after.checker after.fault after.rounds shown number) →
-    FollowsLink after kind (xs ++ r ∷ []) r.link
+    Follows after kind (xs ++ r ∷ []) r.link
 follows_line j passed after kind xs r line is_next one h f port1 few1 rounds1 judged1 port2 few2 rounds2 judged2 =
     let shown : ℕ → PortRound = shown_in (xs ++ r ∷ []) kind r.link in
     let number : ℕ → ℕ = line_number_at (xs ++ r ∷ []) r.link in
@@ -67,7 +67,7 @@ follows_line j passed after kind xs r line is_next one h f port1 few1 rounds1 ju
     }
 
 -- over the rounds after its last line, up to the greatest of the trace
-pub tells_rest : (j after : LinkJudge) (kind : PortKind) (xs : List PortRound) (link last : ℕ) → greatest_round xs ≡ last → FollowsLink j kind xs link →
+pub tells_rest : (j after : LinkJudge) (kind : PortKind) (xs : List PortRound) (link last : ℕ) → greatest_round xs ≡ last → Follows j kind xs link →
     checked_port after.checker ≡ checked_port j.checker → after.rounds ≡ max j.rounds last →
     ((shown : ℕ → PortRound) (number : ℕ → ℕ) → ((n : ℕ) → j.rounds < n → n ≤ last → IsQuiet (shown n) × (number n ≡ 0)) → IsJudged j.checker j.fault j.rounds shown number → IsJudged after.checker after.fault after.rounds shown number) →
     TellsOf after.fault kind xs link
@@ -77,6 +77,6 @@ tells_rest j after kind xs link last greatest f port rounds judged =
     let inside : j.rounds ≤ greatest_round xs = f.within in
     let same : after.rounds ≡ greatest_round xs = omega arith in
     record {
-      told = λ n h. ap (λ (p : PortKind). axi4_history_fault p.bus (history (shown_in xs kind link) n)) (sym (port ∙ f.port)) ∙ all.told n (omega arith);
+      told = λ n h. ap (λ (p : PortKind). history_fault p (history (shown_in xs kind link) n)) (sym (port ∙ f.port)) ∙ all.told n (omega arith);
       within = subst (λ (m : ℕ). IfSome after.fault (λ (g : LinkFault). (g.round ≤ m) × (g.line ≡ line_number_at xs link g.round))) same all.within;
     }

@@ -6,15 +6,16 @@ use Rattle.std.proofs.lemmas.Bool.{lt-ltb, le-ltb}
 use Rattle.std.proofs.lemmas.Bool.Decides.{eqb_tells}
 use Rattle.axi_history.specs.declared.port.PortKind.{PortKind}
 use Rattle.axi_history.specs.declared.port.PortRound.{PortRound}
-use Rattle.axi_history.specs.PortRules.{axi4_fault, axi4_history_fault}
-use Rattle.axi_history.proofs.HistoryLemmas.{fault_stays, fault_anew}
+use Rattle.lite_rules.specs.PortFaults.{round_fault, history_fault}
+use Rattle.lite_rules.proofs.PortFaultLemmas.{port_fault_stays, port_fault_anew}
 use Rattle.port_rules.specs.declared.state.PortChecker.{PortChecker}
 use Rattle.port_rules.specs.StandsFor.{StandsFor, checked_port}
 use Rattle.trace_judge.specs.Alike.{SameOffers, IsQuiet}
 use Rattle.trace_judge.specs.Histories.{history}
 use Rattle.trace_judge.specs.Judged.{fault_by, IsChecked, IsJudged}
 use Rattle.trace_judge.specs.declared.link_judge.LinkFault.{LinkFault}
-use Rattle.trace_judge.proofs.AlikeLemmas.{alike_more, alike_trans, alike_quiet, judged_alike, again_same}
+use Rattle.trace_judge.proofs.AlikeLemmas.{alike_more, alike_trans, alike_quiet}
+use Rattle.trace_judge.proofs.QuietLemmas.{judged_alike, again_same}
 
 -- the channel and the rule of a fault
 abbrev pub told_by : Option LinkFault → Option (ℕ × ℕ)
@@ -43,27 +44,27 @@ fault_within (Some f) line n number e at = (omega (arith, at.1), at.0 ∙ sym e 
 
 module _ (c c' : PortChecker) (fault : Option LinkFault) (line k : ℕ) (r : PortRound) (shown : ℕ → PortRound) (number : ℕ → ℕ) (port : checked_port c' ≡ checked_port c)
     (added : (h : List PortRound) → StandsFor c h → StandsFor c' (h ++ r ∷ []))
-    (told : (h : List PortRound) → StandsFor c h → axi4_history_fault (checked_port c).bus (h ++ r ∷ []) ≡ told_by fault) where
+    (told : (h : List PortRound) → StandsFor c h → history_fault (checked_port c) (h ++ r ∷ []) ≡ told_by fault) where
   judged_suc : SameOffers (shown (suc k)) r → number (suc k) ≡ line → IsAt fault line (suc k) → IsJudged c None k shown number → IsJudged c' fault (suc k) shown number
   judged_suc same is at j =
-      let bus : ℕ = (checked_port c).bus in
+      let kind : PortKind = checked_port c in
       let old : IsChecked c (history shown k) = j.checked refl in
-      let legal : axi4_history_fault bus (history shown k) ≡ None = j.told k (omega arith) in
-      let now : axi4_fault bus old.given r ≡ told_by fault = sym (fault_anew bus old.given r old.legal) ∙ told old.given old.stands in
-      let here : axi4_history_fault bus (history shown (suc k)) ≡ told_by fault = fault_anew bus (history shown k) (shown (suc k)) legal ∙ judged_alike bus (history shown k) old.given (shown (suc k)) r old.alike same ∙ now in
-      let all : (m : ℕ) → m ≤ suc k → axi4_history_fault bus (history shown m) ≡ fault_by fault m =
+      let legal : history_fault kind (history shown k) ≡ None = j.told k (omega arith) in
+      let now : round_fault kind old.given r ≡ told_by fault = sym (port_fault_anew kind old.given r old.legal) ∙ told old.given old.stands in
+      let here : history_fault kind (history shown (suc k)) ≡ told_by fault = port_fault_anew kind (history shown k) (shown (suc k)) legal ∙ judged_alike kind (history shown k) old.given (shown (suc k)) r old.alike same ∙ now in
+      let all : (m : ℕ) → m ≤ suc k → history_fault kind (history shown m) ≡ fault_by fault m =
       λ m h. elim (at_most m k h) [
         | inl le ↦ (let lt : m < suc k = omega arith in j.told m le ∙ sym (fault_before fault line (suc k) m at lt))
-        | inr e ↦ ap (λ (n : ℕ). axi4_history_fault bus (history shown n)) e ∙ here ∙ sym (fault_at fault line (suc k) at) ∙ ap (fault_by fault) (sym e)
+        | inr e ↦ ap (λ (n : ℕ). history_fault kind (history shown n)) e ∙ here ∙ sym (fault_at fault line (suc k) at) ∙ ap (fault_by fault) (sym e)
       ] in
       record {
-        told = λ m h. ap (λ (p : PortKind). axi4_history_fault p.bus (history shown m)) port ∙ all m h;
+        told = λ m h. ap (λ (p : PortKind). history_fault p (history shown m)) port ∙ all m h;
         within = fault_within fault line (suc k) number is at;
         checked = λ none. record {
           given = old.given ++ r ∷ [];
           stands = added old.given old.stands;
           alike = alike_more (history shown k) old.given (shown (suc k)) r old.alike same;
-          legal = ap (λ (p : PortKind). axi4_history_fault p.bus (old.given ++ r ∷ [])) port ∙ told old.given old.stands ∙ ap told_by none;
+          legal = ap (λ (p : PortKind). history_fault p (old.given ++ r ∷ [])) port ∙ told old.given old.stands ∙ ap told_by none;
         };
       }
 
@@ -79,14 +80,14 @@ fault_later f n h = ap (λ b. if b then None else Some (f.channel, f.rule)) (le-
 
 broken_suc : (c : PortChecker) (f : LinkFault) (k : ℕ) (shown : ℕ → PortRound) (number : ℕ → ℕ) → IsJudged c (Some f) k shown number → IsJudged c (Some f) (suc k) shown number
 broken_suc c f k shown number j =
-    let bus : ℕ = (checked_port c).bus in
+    let kind : PortKind = checked_port c in
     let within : f.round ≤ k = j.within.0 in
-    let was : axi4_history_fault bus (history shown k) ≡ Some (f.channel, f.rule) = j.told k (omega arith) ∙ fault_later f k within in
-    let here : axi4_history_fault bus (history shown (suc k)) ≡ Some (f.channel, f.rule) = fault_stays bus (history shown k) (shown (suc k)) (f.channel, f.rule) was in
+    let was : history_fault kind (history shown k) ≡ Some (f.channel, f.rule) = j.told k (omega arith) ∙ fault_later f k within in
+    let here : history_fault kind (history shown (suc k)) ≡ Some (f.channel, f.rule) = port_fault_stays kind (history shown k) (shown (suc k)) (f.channel, f.rule) was in
     record {
       told = λ m h. elim (at_most m k h) [
         | inl le ↦ j.told m le
-        | inr e ↦ ap (λ (n : ℕ). axi4_history_fault bus (history shown n)) e ∙ here ∙ sym (fault_later f (suc k) (omega arith)) ∙ ap (fault_by (Some f)) (sym e)
+        | inr e ↦ ap (λ (n : ℕ). history_fault kind (history shown n)) e ∙ here ∙ sym (fault_later f (suc k) (omega arith)) ∙ ap (fault_by (Some f)) (sym e)
       ];
       within = (omega arith, j.within.1);
       checked = λ none. absurd cc;
@@ -100,14 +101,14 @@ broken_next c f k n shown number e j = subst (λ (m : ℕ). IsJudged c (Some f) 
 quiet_suc : (c : PortChecker) (fault : Option LinkFault) (k : ℕ) (shown : ℕ → PortRound) (number : ℕ → ℕ) → IsQuiet (shown (suc k)) → IsQuiet (shown (suc (suc k))) → IsJudged c fault (suc k) shown number → IsJudged c fault (suc (suc k)) shown number
 quiet_suc c (Some f) k shown number q q' j = broken_suc c f (suc k) shown number j
 quiet_suc c None k shown number q q' j =
-    let bus : ℕ = (checked_port c).bus in
+    let kind : PortKind = checked_port c in
     let old : IsChecked c (history shown (suc k)) = j.checked refl in
-    let legal : axi4_history_fault bus (history shown (suc k)) ≡ None = j.told (suc k) (omega arith) in
-    let here : axi4_history_fault bus (history shown (suc (suc k))) ≡ None = again_same bus (history shown k) (shown (suc k)) (shown (suc (suc k))) q q' ∙ legal in
+    let legal : history_fault kind (history shown (suc k)) ≡ None = j.told (suc k) (omega arith) in
+    let here : history_fault kind (history shown (suc (suc k))) ≡ None = again_same kind (history shown k) (shown (suc k)) (shown (suc (suc k))) q q' ∙ legal in
     record {
       told = λ m h. elim (at_most m (suc k) h) [
         | inl le ↦ j.told m le
-        | inr e ↦ ap (λ (n : ℕ). axi4_history_fault bus (history shown n)) e ∙ here
+        | inr e ↦ ap (λ (n : ℕ). history_fault kind (history shown n)) e ∙ here
       ];
       within = tt;
       checked = λ none. record {
@@ -152,7 +153,7 @@ within_same (Some f) rounds number number' same w = (w.0, w.1 ∙ same f.round w
 pub judged_same : (c : PortChecker) (fault : Option LinkFault) (rounds : ℕ) (shown shown' : ℕ → PortRound) (number number' : ℕ → ℕ) → ((m : ℕ) → m ≤ rounds → shown m ≡ shown' m) → ((m : ℕ) → m ≤ rounds → number m ≡ number' m) →
     IsJudged c fault rounds shown number → IsJudged c fault rounds shown' number'
 judged_same c fault rounds shown shown' number number' same numbered j = record {
-  told = λ m h. ap (axi4_history_fault (checked_port c).bus) (sym (history_same shown shown' m (λ n l. same n (omega arith)))) ∙ j.told m h;
+  told = λ m h. ap (history_fault (checked_port c)) (sym (history_same shown shown' m (λ n l. same n (omega arith)))) ∙ j.told m h;
   within = within_same fault rounds number number' numbered j.within;
   checked = λ none.
       let old : IsChecked c (history shown rounds) = j.checked none in

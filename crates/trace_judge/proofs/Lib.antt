@@ -1,5 +1,7 @@
 pub mod KnownVerdictsLemmas
 pub mod AlikeLemmas
+pub mod LiteAlike
+pub mod QuietLemmas
 pub mod JudgeLemmas
 pub mod LineLemmas
 pub mod FollowLemmas

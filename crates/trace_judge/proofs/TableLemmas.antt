@@ -10,18 +10,17 @@ use Rattle.std.proofs.lemmas.Bool.Decides.{eqb_tells}
 use Rattle.std.proofs.lemmas.List.Folds.{list_all-append}
 use Rattle.axi_history.specs.declared.port.PortKind.{PortKind}
 use Rattle.axi_history.specs.declared.port.PortRound.{PortRound}
-use Rattle.axi_history.specs.PortRules.{or_else}
 use Rattle.port_rules.specs.StandsFor.{rounds_of}
 use Rattle.trace_judge.specs.Entries.{EntryFollows, EntryStands, EntryTakes, IsPassedBy, LinkStands}
 use Rattle.trace_judge.specs.Follows.{CanGoOn, Follows, HasJudgedTo, HasNotJudged}
-use Rattle.trace_judge.specs.Histories.{is_line_of, is_of_link, port_of_link, quiet_round, first_line_with, line_number_at, shown_in, greatest_round, link_count}
+use Rattle.trace_judge.specs.Histories.{is_line_of, is_of_link, port_of_link, quiet_round, line_number_at, shown_in, greatest_round, link_count}
 use Rattle.trace_judge.specs.Lines.{agrees_with, comes_after, is_before, is_same_port, may_follow}
-use Rattle.trace_judge.specs.Table.{TableStands, link_entry, is_lite, line_place, round_of}
+use Rattle.trace_judge.specs.Table.{TableStands, link_entry, line_place, round_of}
 use Rattle.trace_judge.specs.declared.link_judge.LinkJudge.{LinkJudge}
 use Rattle.trace_judge.specs.declared.link_state.LinkState.{LinkState}
 use Rattle.trace_judge.specs.declared.table.TraceTable.{TraceTable}
 use Rattle.trace_judge.proofs.JudgeLemmas.{judged_same}
-use Rattle.trace_judge.proofs.LineLemmas.{find_other, find_here, find_stays, number_more, is_not_on, shown_other, numbered_other, greatest_more, count_more}
+use Rattle.trace_judge.proofs.LineLemmas.{find_other, find_here, find_stays, is_not_on, shown_other, numbered_other, greatest_more, count_more}
 
 -- ---- what comes after what
 
@@ -43,21 +42,18 @@ last_more o [] r = refl
 last_more o (x ∷ xs) r = last_more (Some x) xs r
 
 -- what was passed is still passed by what comes after the line that is added
-passed_more : (judge : Option LinkJudge) (link : ℕ) (xs : List PortRound) (r s : PortRound) → IsPassedBy judge link r → comes_after (last_or None (xs ++ r ∷ [])) s ≡ true → IsPassedBy judge link s
-passed_more None link xs r s p after = tt
-passed_more (Some j) link xs r s p after =
+passed_more : (j : LinkJudge) (link : ℕ) (xs : List PortRound) (r s : PortRound) → IsPassedBy j link r → comes_after (last_or None (xs ++ r ∷ [])) s ≡ true → IsPassedBy j link s
+passed_more j link xs r s p after =
     let b = before_parts r s (ap (λ (o : Option PortRound). comes_after o s) (sym (last_more None xs r)) ∙ after) in
     (omega (arith, p.0, b.0), λ same. (let le : j.rounds ≤ r.round = p.0 in let le' : r.round ≤ s.round = b.0 in let one : j.rounds ≡ r.round = omega arith in let two : r.round ≡ s.round = omega arith in let l : link < r.link = p.1 one in let l' : r.link < s.link = b.1 two in omega arith))
 
-passed_here : (judge : Option LinkJudge) (xs : List PortRound) (r s : PortRound) → HasJudgedTo judge r.round → comes_after (last_or None (xs ++ r ∷ [])) s ≡ true → IsPassedBy judge r.link s
-passed_here None xs r s to after = tt
-passed_here (Some j) xs r s to after =
+passed_here : (j : LinkJudge) (xs : List PortRound) (r s : PortRound) → HasJudgedTo j r.round → comes_after (last_or None (xs ++ r ∷ [])) s ≡ true → IsPassedBy j r.link s
+passed_here j xs r s to after =
     let b = before_parts r s (ap (λ (o : Option PortRound). comes_after o s) (sym (last_more None xs r)) ∙ after) in
     (omega (arith, to, b.0), λ same. b.1 (sym to ∙ same))
 
-pub not_judged : (judge : Option LinkJudge) (r : PortRound) → IsPassedBy judge r.link r → HasNotJudged judge r.round
-not_judged None r p = tt
-not_judged (Some j) r p =
+pub not_judged : (j : LinkJudge) (r : PortRound) → IsPassedBy j r.link r → HasNotJudged j r.round
+not_judged j r p =
     let le : j.rounds ≤ r.round = p.0 in
     elim (eqb_tells j.rounds r.round) [
       | inl e ↦ (let l : r.link < r.link = p.1 e.1 in absurd (omega arith))
@@ -129,9 +125,8 @@ agree_at xs r x e all = go (is_same_port x.kind r.kind) refl
 state_port : (s : LinkState) (xs : List PortRound) (r : PortRound) → LinkStands s xs r.link → list_all (agrees_with r) xs ≡ true → s.port ≡ r.kind
 state_port s xs r e all = let f = first_of xs r.link s.port e.port in sym f.2 ∙ agree_at xs r f.0 f.1 all
 
-few_on : (judge : Option LinkJudge) (kind : PortKind) (xs : List PortRound) (link : ℕ) → Follows judge kind xs link → length xs < 2 ^ 25 → CanGoOn judge kind
-few_on None kind xs link f few = tt
-few_on (Some j) kind xs link f few = (f.port, (let h : rounds_of j.checker ≤ 2 * length xs = f.few in omega arith))
+few_on : (j : LinkJudge) (kind : PortKind) (xs : List PortRound) (link : ℕ) → Follows j kind xs link → length xs < 2 ^ 25 → CanGoOn j kind
+few_on j kind xs link f few = (f.port, (let h : rounds_of j.checker ≤ 2 * length xs = f.few in omega arith))
 
 -- what a line that may follow finds at the place of its link
 pub entry_takes : (entry : Option LinkState) (xs : List PortRound) (r : PortRound) → EntryStands entry xs r.link → may_follow xs r ≡ true → length xs < 2 ^ 25 → EntryTakes entry r.kind
@@ -179,9 +174,8 @@ entry_here entry xs r state e may port to follows =
 
 -- ---- the places of other links
 
-follows_other : (judge : Option LinkJudge) (kind : PortKind) (xs : List PortRound) (r : PortRound) (link : ℕ) → r.link ≢ link → Follows judge kind xs link → Follows judge kind (xs ++ r ∷ []) link
-follows_other None kind xs r link ne f = f
-follows_other (Some j) kind xs r link ne f =
+follows_other : (j : LinkJudge) (kind : PortKind) (xs : List PortRound) (r : PortRound) (link : ℕ) → r.link ≢ link → Follows j kind xs link → Follows j kind (xs ++ r ∷ []) link
+follows_other j kind xs r link ne f =
     let longer : length (xs ++ r ∷ []) ≡ length xs + 1 = length-append xs (r ∷ []) in
     let greater : greatest_round (xs ++ r ∷ []) ≡ max (greatest_round xs) r.round = greatest_more xs r in
     let old : rounds_of j.checker ≤ 2 * length xs = f.few in
@@ -217,12 +211,12 @@ order_told (Some before) last r is after =
     omega arith
 
 pub table_grows : (t after : TraceTable) (xs : List PortRound) (r : PortRound) → r.link < 4096 → TableStands t xs → may_follow xs r ≡ true →
-    after.lines ≡ t.lines + 1 → after.last ≡ Some (r.round, r.link) → after.lite ≡ or_else t.lite (if r.kind.lite then Some (t.lines + 1) else None) → length after.links.items ≡ max (length t.links.items) (r.link + 1) →
+    after.lines ≡ t.lines + 1 → after.last ≡ Some (r.round, r.link) → length after.links.items ≡ max (length t.links.items) (r.link + 1) →
     ((k : ℕ) → k ≢ r.link → link_entry after.links.items k ≡ link_entry t.links.items k) →
     (state : LinkState) → link_entry after.links.items r.link ≡ Some state → state.port ≡ r.kind → HasJudgedTo state.judge r.round →
     ((lines : List PortRound) → t.lines + 1 ≡ length lines + 1 → EntryFollows (link_entry t.links.items r.link) lines r → Follows state.judge r.kind (lines ++ r ∷ []) r.link) →
     TableStands after (xs ++ r ∷ [])
-table_grows t after xs r small s may lines last lite size others state is port to follows =
+table_grows t after xs r small s may lines last size others state is port to follows =
     let p = and_parts (comes_after (last_or None xs) r) (list_all (agrees_with r) xs) may in
     let longer : length (xs ++ r ∷ []) ≡ length xs + 1 = length-append xs (r ∷ []) in
     let greater : greatest_round (xs ++ r ∷ []) ≡ max (greatest_round xs) r.round = greatest_more xs r in
@@ -239,7 +233,6 @@ table_grows t after xs r small s may lines last lite size others state is port t
       count = lines ∙ ap (λ m. m + 1) n ∙ sym longer;
       last = last ∙ sym (ap (option_map line_place) (last_more None xs r));
       greatest = omega arith;
-      lite = lite ∙ ap (λ (o : Option ℕ). or_else o (if r.kind.lite then Some (t.lines + 1) else None)) s.lite ∙ ap (λ m. or_else (first_line_with is_lite xs) (if r.kind.lite then Some (m + 1) else None)) n ∙ sym (number_more is_lite xs r);
       size = omega arith;
       few = omega arith;
       links = λ link. elim (eqb_tells link r.link) [

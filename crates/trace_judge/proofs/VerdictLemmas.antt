@@ -7,13 +7,13 @@ use Rattle.std.proofs.lemmas.Bool.{ne_eqb, ltb-true, ltb-false}
 use Rattle.std.proofs.lemmas.Bool.Decides.{eqb_tells}
 use Rattle.axi_history.specs.declared.port.PortKind.{PortKind}
 use Rattle.axi_history.specs.declared.port.PortRound.{PortRound}
-use Rattle.axi_history.specs.PortRules.{or_else, axi4_history_fault}
+use Rattle.axi_history.specs.PortRules.{or_else}
+use Rattle.lite_rules.specs.PortFaults.{history_fault}
 use Rattle.axi_history.proofs.HistoryLemmas.{else_parts}
-use Rattle.trace_judge.specs.Histories.{broken_at, broken_in, fault_of_link, fault_of_port, first_broken, greatest_round, history, is_of_link, first_answer, link_count, line_number_at, first_line_with, port_of_link, shown_in}
+use Rattle.trace_judge.specs.Histories.{broken_at, broken_in, fault_of_link, fault_of_port, first_broken, greatest_round, history, is_of_link, first_answer, link_count, line_number_at, port_of_link, shown_in}
 use Rattle.trace_judge.specs.Lines.{judged_lines, shown_by}
-use Rattle.trace_judge.specs.Table.{is_lite}
 use Rattle.trace_judge.specs.VerdictLaws.{BrokenTracesTellTheFirst, IsFirstFault, KeepsRules, LegalTracesKeepTheRules, Shows}
-use Rattle.trace_judge.specs.Verdicts.{verdict_of_lines, verdict_of_ports, verdict_of_rules}
+use Rattle.trace_judge.specs.Verdicts.{verdict_of_lines, verdict_of_rules}
 use Rattle.trace_judge.specs.declared.verdict.TraceFault.{TraceFault}
 use Rattle.trace_judge.specs.declared.verdict.Verdict.TheVariants.{Broken, Legal}
 
@@ -84,7 +84,7 @@ all_keep lines e link round h = keeps_round lines round (least_none (broken_in l
 pub record IsPlaced (lines : List PortRound) (round link : ℕ) (fault : TraceFault) : Type 0 where
   pub port : PortKind
   pub is_port : port_of_link lines link ≡ Some port
-  pub broken : axi4_history_fault port.bus (history (shown_in lines port link) round) ≡ Some (fault.channel, fault.rule)
+  pub broken : history_fault port (history (shown_in lines port link) round) ≡ Some (fault.channel, fault.rule)
   pub round_is : fault.round ≡ round
   pub link_is : fault.link ≡ link
   pub line_is : fault.line ≡ line_number_at lines link round
@@ -92,7 +92,7 @@ pub record IsPlaced (lines : List PortRound) (round link : ℕ) (fault : TraceFa
 is_placed : (lines : List PortRound) (round link : ℕ) (fault : TraceFault) → broken_at lines round link ≡ Some fault → IsPlaced lines round link fault
 is_placed lines round link fault e = go (port_of_link lines link) refl e
   where
-    at : (port : PortKind) → port_of_link lines link ≡ Some port → (f : Option (ℕ × ℕ)) → axi4_history_fault port.bus (history (shown_in lines port link) round) ≡ f → placed lines round link f ≡ Some fault → IsPlaced lines round link fault
+    at : (port : PortKind) → port_of_link lines link ≡ Some port → (f : Option (ℕ × ℕ)) → history_fault port (history (shown_in lines port link) round) ≡ f → placed lines round link f ≡ Some fault → IsPlaced lines round link fault
     at port is None told e = absurd cc
     at port is (Some f) told e =
         let v : TraceFault = record { line = line_number_at lines link round; round = round; link = link; channel = f.0; rule = f.1 } in
@@ -108,7 +108,7 @@ is_placed lines round link fault e = go (port_of_link lines link) refl e
 
     go : (o : Option PortKind) → port_of_link lines link ≡ o → placed lines round link (fault_of_port lines link round o) ≡ Some fault → IsPlaced lines round link fault
     go None is e = absurd cc
-    go (Some port) is e = at port is (axi4_history_fault port.bus (history (shown_in lines port link) round)) refl e
+    go (Some port) is e = at port is (history_fault port (history (shown_in lines port link) round)) refl e
 
 first_is : (lines : List PortRound) (fault : TraceFault) → first_broken lines ≡ Some fault → IsFirstFault lines fault
 first_is lines fault e =
@@ -120,7 +120,7 @@ first_is lines fault e =
     record {
       port = p.port;
       is_port = ap (port_of_link lines) p.link_is ∙ p.is_port;
-      broken = ap (λ (l : ℕ). axi4_history_fault p.port.bus (history (shown_in lines p.port l) fault.round)) p.link_is ∙ ap (λ (n : ℕ). axi4_history_fault p.port.bus (history (shown_in lines p.port on_link.place) n)) p.round_is ∙ p.broken;
+      broken = ap (λ (l : ℕ). history_fault p.port (history (shown_in lines p.port l) fault.round)) p.link_is ∙ ap (λ (n : ℕ). history_fault p.port (history (shown_in lines p.port on_link.place) n)) p.round_is ∙ p.broken;
       round = omega arith;
       line = p.line_is ∙ ap (λ (l : ℕ). line_number_at lines l in_round.place) (sym p.link_is) ∙ ap (line_number_at lines fault.link) (sym p.round_is);
       earlier = λ link n h. keeps_round lines n (in_round.before n (omega arith)) link;
@@ -137,13 +137,9 @@ legal_means text count e = go (shown_by (judged_lines text)) refl e
     rules lines shows (Some f) is e = absurd cc
     rules lines shows None is e = let n : length lines ≡ count = cc in (lines, shows, n, all_keep lines is)
 
-    ports : (lines : List PortRound) → Shows text lines → (lite : Option ℕ) → verdict_of_ports lines lite ≡ Legal count → (xs : List PortRound) × Shows text xs × (length xs ≡ count) × ((link round : ℕ) → round ≤ greatest_round xs → KeepsRules xs link round)
-    ports lines shows (Some n) e = absurd cc
-    ports lines shows None e = rules lines shows (first_broken lines) refl e
-
     go : (r : Result (List PortRound) ℕ) → shown_by (judged_lines text) ≡ r → verdict_of_lines r ≡ Legal count → (xs : List PortRound) × Shows text xs × (length xs ≡ count) × ((link round : ℕ) → round ≤ greatest_round xs → KeepsRules xs link round)
     go (Err n) is e = absurd cc
-    go (Ok lines) is e = ports lines is (first_line_with is_lite lines) e
+    go (Ok lines) is e = rules lines is (first_broken lines) refl e
 
 pub broken_means : BrokenTracesTellTheFirst
 broken_means text fault e = go (shown_by (judged_lines text)) refl e
@@ -152,10 +148,6 @@ broken_means text fault e = go (shown_by (judged_lines text)) refl e
     rules lines shows (Some f) is e = let same : f ≡ fault = cc in (lines, shows, first_is lines fault (is ∙ ap (λ (x : TraceFault). Some x) same))
     rules lines shows None is e = absurd cc
 
-    ports : (lines : List PortRound) → Shows text lines → (lite : Option ℕ) → verdict_of_ports lines lite ≡ Broken fault → (xs : List PortRound) × Shows text xs × IsFirstFault xs fault
-    ports lines shows (Some n) e = absurd cc
-    ports lines shows None e = rules lines shows (first_broken lines) refl e
-
     go : (r : Result (List PortRound) ℕ) → shown_by (judged_lines text) ≡ r → verdict_of_lines r ≡ Broken fault → (xs : List PortRound) × Shows text xs × IsFirstFault xs fault
     go (Err n) is e = absurd cc
-    go (Ok lines) is e = ports lines is (first_line_with is_lite lines) e
+    go (Ok lines) is e = rules lines is (first_broken lines) refl e

@@ -10,9 +10,8 @@ use Rattle.trace_judge.specs.declared.link_judge.LinkJudge.{LinkJudge}
 use Rattle.trace_judge.specs.declared.link_state.LinkState.{LinkState}
 
 -- the rounds that were judged come before what a line shows, by round and then by link
-abbrev pub IsPassedBy : Option LinkJudge → ℕ → PortRound → Type 0
-IsPassedBy None link r = Unit {0}
-IsPassedBy (Some judge) link r = (judge.rounds ≤ r.round) × (judge.rounds ≡ r.round → link < r.link)
+abbrev pub IsPassedBy : LinkJudge → ℕ → PortRound → Type 0
+IsPassedBy judge link r = (judge.rounds ≤ r.round) × (judge.rounds ≡ r.round → link < r.link)
 
 -- what is kept of a link that has lines
 pub record LinkStands (state : LinkState) (lines : List PortRound) (link : ℕ) : Type 0 where

@@ -5,7 +5,8 @@ use Rattle.std.specs.Option.{option_map, unwrap_or}
 use Rattle.std.proofs.Common.{suc, zero}
 use Rattle.axi_history.specs.declared.port.PortKind.{PortKind}
 use Rattle.axi_history.specs.declared.port.PortRound.{PortRound}
-use Rattle.axi_history.specs.PortRules.{or_else, axi4_history_fault}
+use Rattle.axi_history.specs.PortRules.{or_else}
+use Rattle.lite_rules.specs.PortFaults.{history_fault}
 use Rattle.trace_judge.specs.declared.verdict.TraceFault.{TraceFault}
 
 -- ---- What a link shows
@@ -37,10 +38,9 @@ history shown (suc n) = history shown n ++ shown (suc n) ∷ []
 -- ---- What is broken
 
 -- The channel and the rule that a link breaks first in the rounds from 1 to `round`. None where no line is of the link.
--- (The rules of AXI4-Lite ports will have their place here.)
 abbrev pub fault_of_port : List PortRound → ℕ → ℕ → Option PortKind → Option (ℕ × ℕ)
 fault_of_port lines link round None = None
-fault_of_port lines link round (Some port) = axi4_history_fault port.bus (history (shown_in lines port link) round)
+fault_of_port lines link round (Some port) = history_fault port (history (shown_in lines port link) round)
 
 abbrev pub fault_of_link : List PortRound → ℕ → ℕ → Option (ℕ × ℕ)
 fault_of_link lines round link = fault_of_port lines link round (port_of_link lines link)

@@ -1,7 +1,7 @@
 -- What a judge of one link keeps of the link's rounds.
 use Rattle.std.specs.Prelude.{◌≡◌, ◌≤◌, ℕ, List, Option, Some, None, IfSome, nat_lt, if◌then◌else◌}
 use Rattle.axi_history.specs.declared.port.PortRound.{PortRound}
-use Rattle.axi_history.specs.PortRules.{axi4_history_fault}
+use Rattle.lite_rules.specs.PortFaults.{history_fault}
 use Rattle.port_rules.specs.declared.state.PortChecker.{PortChecker}
 use Rattle.port_rules.specs.StandsFor.{StandsFor, checked_port}
 use Rattle.trace_judge.specs.Alike.{Alike}
@@ -18,11 +18,11 @@ pub record IsChecked (checker : PortChecker) (rounds : List PortRound) : Type 0 
   pub given : List PortRound
   pub stands : StandsFor checker given
   pub alike : Alike rounds given
-  pub legal : axi4_history_fault (checked_port checker).bus given ≡ None
+  pub legal : history_fault (checked_port checker) given ≡ None
 
 -- Of a link that shows `shown` in each round, by the line with this number (0 for none): what is broken first in the
 -- rounds from 1 to `rounds` is kept, and as long as nothing is broken the checker serves for these rounds.
 pub record IsJudged (checker : PortChecker) (fault : Option LinkFault) (rounds : ℕ) (shown : ℕ → PortRound) (number : ℕ → ℕ) : Type 0 where
-  pub told : (n : ℕ) → n ≤ rounds → axi4_history_fault (checked_port checker).bus (history shown n) ≡ fault_by fault n
+  pub told : (n : ℕ) → n ≤ rounds → history_fault (checked_port checker) (history shown n) ≡ fault_by fault n
   pub within : IfSome fault (λ f. (f.round ≤ rounds) × (f.line ≡ number f.round))
   pub checked : fault ≡ None → IsChecked checker (history shown rounds)

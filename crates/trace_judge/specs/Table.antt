@@ -4,7 +4,7 @@ use Rattle.std.specs.List.{last_or}
 use Rattle.std.specs.Option.{option_map}
 use Rattle.axi_history.specs.declared.port.PortRound.{PortRound}
 use Rattle.trace_judge.specs.Entries.{EntryStands}
-use Rattle.trace_judge.specs.Histories.{greatest_round, link_count, first_line_with}
+use Rattle.trace_judge.specs.Histories.{greatest_round, link_count}
 use Rattle.trace_judge.specs.declared.link_state.LinkState.{LinkState}
 use Rattle.trace_judge.specs.declared.table.TraceTable.{TraceTable}
 
@@ -16,9 +16,6 @@ abbrev pub round_of : Option (ℕ × ℕ) → ℕ
 round_of None = 0
 round_of (Some place) = place.0
 
-abbrev pub is_lite : PortRound → Bool
-is_lite r = r.kind.lite
-
 -- what is kept at the place of a link
 abbrev pub link_entry : List (Option LinkState) → ℕ → Option LinkState
 link_entry links link = slice_index_or links link None
@@ -27,7 +24,6 @@ pub record TableStands (table : TraceTable) (lines : List PortRound) : Type 0 wh
   pub count : table.lines ≡ length lines
   pub last : table.last ≡ option_map line_place (last_or None lines)
   pub greatest : round_of table.last ≡ greatest_round lines
-  pub lite : table.lite ≡ first_line_with is_lite lines
   pub size : length table.links.items ≡ link_count lines
   pub few : length table.links.items ≤ 4096
   pub links : (link : ℕ) → EntryStands (link_entry table.links.items link) lines link

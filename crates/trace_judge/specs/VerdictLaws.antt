@@ -2,7 +2,7 @@
 use Rattle.std.specs.Prelude.{◌≡◌, ◌<◌, ◌≤◌, ℕ, List, Some, None, Ok, length}
 use Rattle.axi_history.specs.declared.port.PortKind.{PortKind}
 use Rattle.axi_history.specs.declared.port.PortRound.{PortRound}
-use Rattle.axi_history.specs.PortRules.{axi4_history_fault}
+use Rattle.lite_rules.specs.PortFaults.{history_fault}
 use Rattle.trace_judge.specs.Histories.{greatest_round, history, line_number_at, port_of_link, shown_in}
 use Rattle.trace_judge.specs.Lines.{judged_lines, shown_by}
 use Rattle.trace_judge.specs.Verdicts.{verdict_of}
@@ -12,13 +12,13 @@ use Rattle.trace_judge.specs.declared.verdict.Verdict.TheVariants.{Broken, Legal
 -- the rounds of a link break no rule up to this one
 abbrev pub KeepsRules : List PortRound → ℕ → ℕ → Type 0
 KeepsRules lines link round =
-    (port : PortKind) → port_of_link lines link ≡ Some port → axi4_history_fault port.bus (history (shown_in lines port link) round) ≡ None
+    (port : PortKind) → port_of_link lines link ≡ Some port → history_fault port (history (shown_in lines port link) round) ≡ None
 
 -- a fault is that of its link up to its round; no link breaks a rule in an earlier round, and no lesser link in that one
 pub record IsFirstFault (lines : List PortRound) (fault : TraceFault) : Type 0 where
   pub port : PortKind
   pub is_port : port_of_link lines fault.link ≡ Some port
-  pub broken : axi4_history_fault port.bus (history (shown_in lines port fault.link) fault.round) ≡ Some (fault.channel, fault.rule)
+  pub broken : history_fault port (history (shown_in lines port fault.link) fault.round) ≡ Some (fault.channel, fault.rule)
   pub round : fault.round ≤ greatest_round lines
   pub line : fault.line ≡ line_number_at lines fault.link fault.round
   pub earlier : (link round : ℕ) → round < fault.round → KeepsRules lines link round

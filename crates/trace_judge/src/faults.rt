@@ -3,8 +3,8 @@ ghost use Rattle.std.specs.Prelude.{◌≡◌, ◌≤◌, ◌<◌, ℕ, List, No
 ghost use Rattle.axi_history.specs.declared.port.PortRound.{PortRound as Round};
 ghost use Rattle.trace_judge.specs.Entries.{EntryStands};
 ghost use Rattle.trace_judge.specs.Faults.{EntryServes, IsFaultOf, with_link};
-ghost use Rattle.trace_judge.specs.Histories.{first_broken, greatest_round, link_count, first_line_with};
-ghost use Rattle.trace_judge.specs.Table.{link_entry, is_lite};
+ghost use Rattle.trace_judge.specs.Histories.{first_broken, greatest_round, link_count};
+ghost use Rattle.trace_judge.specs.Table.{link_entry};
 
 use crate::link_judge::LinkFault;
 use crate::link_state::LinkState;
@@ -20,7 +20,7 @@ pub(crate) fn first_fault(
     requires size { length links.items ≤ 4096 }
     requires serves { (link : ℕ) → EntryServes (link_entry links.items link) }
     ensures first { IfOk result (λ first. (lines : List Round) → greatest_round lines ≡ last →
-        length links.items ≡ link_count lines → first_line_with is_lite lines ≡ None →
+        length links.items ≡ link_count lines →
         ((link : ℕ) → EntryStands (link_entry links.items link) lines link) → first ≡ first_broken lines) }
 {
     let mut first = None;
@@ -37,7 +37,6 @@ pub(crate) fn first_fault(
 fn fault_of(entry: Option<LinkState>, last: u64) -> Result<Option<LinkFault>, NoMemory>
     requires serves { EntryServes entry }
     ensures fault { IfOk result (λ fault. (lines : List Round) (link : ℕ) → greatest_round lines ≡ last →
-        first_line_with is_lite lines ≡ None →
         EntryStands entry lines link → IsFaultOf fault lines link) }
 {
     match entry {

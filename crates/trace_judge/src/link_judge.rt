@@ -2,10 +2,10 @@
 //!
 //! Rounds in which nothing is offered come in rows that may be very long. A row is given to the checker as one round,
 //! its first one: the others break no rule that this one doesn't.
-ghost use Rattle.std.specs.Prelude.{◌≡◌, ◌+◌, ◌<◌, ◌≤◌, ◌^◌, ◌∷◌, ◌++◌, [], ℕ, false, List, max, option_map, IfOk, OnOk, IfSome};
+ghost use Rattle.std.specs.Prelude.{◌≡◌, ◌+◌, ◌<◌, ◌≤◌, ◌^◌, ◌∷◌, ◌++◌, [], ℕ, List, max, option_map, IfOk, OnOk, IfSome};
 ghost use Rattle.axi_beats.specs.Bus.{IsBusWidth};
-ghost use Rattle.axi_history.specs.PortRules.{axi4_history_fault};
 ghost use Rattle.axi_history.specs.declared.port.PortRound.{PortRound as Round};
+ghost use Rattle.lite_rules.specs.PortFaults.{history_fault};
 ghost use Rattle.port_rules.specs.StandsFor.{HasSmallAddresses, StandsFor, checked_port, rounds_of};
 ghost use Rattle.trace_judge.specs.Alike.{IsQuiet, SameOffers};
 ghost use Rattle.trace_judge.specs.Judged.{IsJudged};
@@ -24,7 +24,7 @@ pub(crate) struct LinkFault {
     pub(crate) round: u64,
     /// 1 AW, 2 W, 3 B, 4 AR, 5 R.
     pub(crate) channel: u8,
-    /// The rule, from 1 to 12.
+    /// The rule, from 1 to 12, on AXI4-Lite from 1 to 6.
     pub(crate) rule: u8,
 }
 
@@ -38,9 +38,8 @@ pub(crate) struct LinkJudge {
 }
 
 impl LinkJudge {
-    /// A judge of an AXI4 port, before its first round.
+    /// A judge of a port of this kind, before its first round.
     pub(crate) fn new(alloc: Global, port: PortKind) -> LinkJudge
-        requires kind { port.lite ≡ false }
         requires bus { IsBusWidth port.bus }
         ensures port { checked_port result.checker ≡ port }
         ensures given { rounds_of result.checker ≡ 0 }
@@ -121,7 +120,7 @@ fn fault_in(
     ensures given { rounds_of checker.new ≤ rounds_of checker.old + 1 }
     ensures added { OnOk result ((h : List Round) → StandsFor checker.old h → StandsFor checker.new (h ++ r.now ∷ [])) }
     ensures told { IfOk result (λ fault. (h : List Round) → StandsFor checker.old h →
-        axi4_history_fault (checked_port checker.old).bus (h ++ r.now ∷ []) ≡ option_map (λ (f : _). (f.channel, f.rule)) fault) }
+        history_fault (checked_port checker.old) (h ++ r.now ∷ []) ≡ option_map (λ (f : _). (f.channel, f.rule)) fault) }
     ensures place { IfOk result (λ fault. IfSome fault (λ f. (f.line ≡ line) × (f.round ≡ r.now.round))) }
 {
     match checker.round(r) {

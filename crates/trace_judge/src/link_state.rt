@@ -1,5 +1,5 @@
-//! What is kept of one link of a trace: its port, and its judge where the rules of the port are written.
-ghost use Rattle.std.specs.Prelude.{◌≡◌, ◌<◌, ◌≤◌, ◌+◌, ◌∷◌, ◌++◌, [], ℕ, false, List, None, length, IfOk};
+//! What is kept of one link of a trace: its port, and its judge.
+ghost use Rattle.std.specs.Prelude.{◌≡◌, ◌<◌, ◌≤◌, ◌+◌, ◌∷◌, ◌++◌, [], ℕ, List, None, length, IfOk};
 ghost use Rattle.std.specs.List.{find};
 ghost use Rattle.axi_beats.specs.Bus.{IsBusWidth};
 ghost use Rattle.axi_history.specs.declared.port.PortRound.{PortRound as Round};
@@ -12,11 +12,11 @@ use axi_beats::NoMemory;
 use axi_history::{PortKind, PortRound};
 use std::alloc::Global;
 
-/// A link of a trace. A port of AXI4-Lite has no judge: its rules aren't written yet.
+/// A link of a trace.
 #[derive(Drop)]
 pub(crate) struct LinkState {
     pub(crate) port: PortKind,
-    pub(crate) judge: Option<LinkJudge>,
+    pub(crate) judge: LinkJudge,
 }
 
 impl LinkState {
@@ -29,12 +29,10 @@ impl LinkState {
         ensures follows { (lines : List Round) (link : ℕ) → find (is_of_link link) lines ≡ None →
             Follows result.judge port lines link }
     {
-        let judge = if port.lite {
-            None
-        } else {
-            Some(LinkJudge::new(alloc, port))
-        };
-        LinkState { port, judge }
+        LinkState {
+            port,
+            judge: LinkJudge::new(alloc, port),
+        }
     }
 
     /// The link with its next line, of this number. The checker is given at most two rounds for it: the row of rounds
@@ -50,34 +48,20 @@ impl LinkState {
             HasNotJudged self.judge r.now.round →
             Follows self.judge self.port lines r.now.link → Follows after.judge self.port (lines ++ r.now ∷ []) r.now.link) }
     {
-        let LinkState { port, judge } = self;
-        match judge {
-            Some(mut judge) => {
-                judge.pass(port, r.round - 1)?;
-                judge.next(r, line)?;
-                Ok(LinkState {
-                    port,
-                    judge: Some(judge),
-                })
-            }
-            None => Ok(LinkState { port, judge: None }),
-        }
+        let LinkState { port, mut judge } = self;
+        judge.pass(port, r.round - 1)?;
+        judge.next(r, line)?;
+        Ok(LinkState { port, judge })
     }
 
     /// What the link breaks first up to the last round of the trace.
     pub(crate) fn fault(self, last: u64) -> Result<Option<LinkFault>, NoMemory>
         requires serves { CanGoOn self.judge self.port }
         ensures tells { IfOk result (λ fault. (lines : List Round) (link : ℕ) → greatest_round lines ≡ last →
-            self.port.lite ≡ false →
             Follows self.judge self.port lines link → TellsOf fault self.port lines link) }
     {
-        let LinkState { port, judge } = self;
-        match judge {
-            Some(mut judge) => {
-                judge.pass(port, last)?;
-                Ok(judge.fault)
-            }
-            None => Ok(None),
-        }
+        let LinkState { port, mut judge } = self;
+        judge.pass(port, last)?;
+        Ok(judge.fault)
     }
 }

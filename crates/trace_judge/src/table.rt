@@ -1,9 +1,8 @@
 //! What is kept of a trace while its lines are read: a place for each link up to the greatest one, and the last line.
-ghost use Rattle.std.specs.Prelude.{◌≡◌, ◌<◌, ◌+◌, ◌∷◌, ◌++◌, ◌^◌, [], true, List, Some, None, option_map, if◌then◌else◌, IfOk, OnOk};
+ghost use Rattle.std.specs.Prelude.{◌≡◌, ◌<◌, ◌+◌, ◌∷◌, ◌++◌, ◌^◌, [], true, List, Some, option_map, if◌then◌else◌, IfOk, OnOk};
 ghost use Rattle.std.specs.List.{list_all};
 ghost use Rattle.axi_history.specs.declared.port.PortKind.{PortKind as Kind};
 ghost use Rattle.axi_history.specs.declared.port.PortRound.{PortRound as Round};
-ghost use Rattle.axi_history.specs.PortRules.{or_else};
 ghost use Rattle.trace_text.specs.Ranges.{IsTraceRound};
 ghost use Rattle.trace_text.specs.Reading.{trace_round_of};
 ghost use Rattle.trace_judge.specs.Lines.{agrees_with, comes_after, is_same_port, may_follow, taken_after};
@@ -25,8 +24,6 @@ pub(crate) struct TraceTable {
     pub(crate) lines: u32,
     /// The round and the link of the last one.
     pub(crate) last: Option<(u64, u32)>,
-    /// The number of the first line of an AXI4-Lite port.
-    pub(crate) lite: Option<u32>,
 }
 
 impl TraceTable {
@@ -38,7 +35,6 @@ impl TraceTable {
             links: Vec::new(alloc),
             lines: 0,
             last: None,
-            lite: None,
         }
     }
 
@@ -102,7 +98,6 @@ impl TraceTable {
         let line = self.lines + 1;
         grow(&mut self.links, r.link)?;
         add_to_link(&mut self.links, alloc, r, line)?;
-        self.lite = first_lite(self.lite, r.kind.lite, line);
         self.last = Some((r.round, r.link));
         self.lines = line;
         Ok(())
@@ -124,15 +119,4 @@ fn is_same_port(a: PortKind, b: PortKind) -> bool
     ensures { result ≡ is_same_port a b }
 {
     a.lite == b.lite && a.bus == b.bus
-}
-
-/// The number of the first line of an AXI4-Lite port, with one more line.
-fn first_lite(first: Option<u32>, lite: bool, line: u32) -> Option<u32>
-    ensures { result ≡ or_else first (if lite then Some line else None) }
-{
-    match first {
-        Some(first) => Some(first),
-        None if lite => Some(line),
-        None => None,
-    }
 }

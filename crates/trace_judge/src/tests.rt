@@ -2,11 +2,13 @@
 
 use super::*;
 use answer_rows::{ANSWERS, DATA};
+use lite_rows::{LITE_BEATS, LITE_HANDSHAKES};
 use rule_rows::{ADDRESSES, HANDSHAKES, RuleRow};
 use std::process::Abort;
 use std::test::Fail;
 
 mod answer_rows;
+mod lite_rows;
 mod rule_rows;
 
 /// A trace and the verdict on it.
@@ -79,10 +81,18 @@ fn a_round_that_is_too_great() -> Row {
     }
 }
 
-fn a_port_of_another_kind() -> Row {
+/// ID 1 breaks a rule on AXI4-Lite alone; of two broken rules that of the lesser link is told.
+fn ports_of_both_kinds() -> Row {
     Row {
-        trace: "1 0 axi 4 +0,0,0,2,3,0,1:0:0 - - - -\n1 1 lite 4 - - - - -\n",
-        verdict: Verdict::NotBuilt { line: 2 },
+        trace: "1 0 axi 4 +1,0,0,2,1,0,1:0:0 - - - -\n1 1 lite 4 +1,0,0,2,1,0,1:0:3 - - - -\n1 2 axi 4 +0,0,255,2,2,0,1:0:0 - - - -\n",
+        verdict: broken(2, 1, 1, 1, 3),
+    }
+}
+
+fn a_link_of_another_kind() -> Row {
+    Row {
+        trace: "1 0 axi 4 - - - - -\n2 0 lite 4 - - - - -\n",
+        verdict: Verdict::BadTraceLine { line: 2 },
     }
 }
 
@@ -148,6 +158,18 @@ fn each_rule_is_told(rt: HostRuntime) -> Result<(), Fail> {
 }
 
 #[test]
+fn each_rule_of_axi4_lite_is_told(rt: HostRuntime) -> Result<(), Fail> {
+    for rows in [&LITE_HANDSHAKES[..], &LITE_BEATS[..]] {
+        for row in rows {
+            let trace = row.trace;
+            let verdict = verdict_on(row);
+            compare(&rt, &Row { trace, verdict })?;
+        }
+    }
+    Ok(())
+}
+
+#[test]
 fn rounds_without_a_line_are_judged(rt: HostRuntime) -> Result<(), Fail> {
     compare(&rt, &an_offer_withdrawn_in_a_round_without_a_line())?;
     compare(&rt, &an_offer_withdrawn_on_a_link_that_has_no_more_lines())
@@ -160,7 +182,8 @@ fn traces_of_several_links_are_judged(rt: HostRuntime) -> Result<(), Fail> {
     compare(&rt, &a_refused_line_is_told_before_a_broken_rule())?;
     compare(&rt, &no_trace_line())?;
     compare(&rt, &a_round_that_is_too_great())?;
-    compare(&rt, &a_port_of_another_kind())
+    compare(&rt, &ports_of_both_kinds())?;
+    compare(&rt, &a_link_of_another_kind())
 }
 
 #[test]

@@ -1,11 +1,11 @@
 //! The judge of a whole trace.
 ghost use Rattle.std.specs.Prelude.{◌≡◌, ◌≤◌, ◌<◌, ◌^◌, [], List, length, IfOk, OnOk};
 ghost use Rattle.axi_history.specs.declared.port.PortRound.{PortRound as Round};
-ghost use Rattle.trace_judge.specs.Histories.{first_line_with};
+ghost use Rattle.trace_judge.specs.Histories.{first_broken};
 ghost use Rattle.trace_judge.specs.Lines.{judged_lines, shown_by};
 ghost use Rattle.trace_judge.specs.Reading.{IsRead};
-ghost use Rattle.trace_judge.specs.Table.{TableStands, is_lite, round_of};
-ghost use Rattle.trace_judge.specs.Verdicts.{verdict_of, verdict_of_ports};
+ghost use Rattle.trace_judge.specs.Table.{TableStands, round_of};
+ghost use Rattle.trace_judge.specs.Verdicts.{verdict_of, verdict_of_rules};
 
 use crate::faults::first_fault;
 use crate::table::TraceTable;
@@ -53,17 +53,9 @@ fn verdict_on(table: TraceTable) -> Result<Verdict, NoMemory>
     requires stands { (lines : List Round) × TableStands table lines }
     requires few { table.lines < 2 ^ 25 }
     ensures verdict { IfOk result (λ verdict. (lines : List Round) → TableStands table lines →
-        verdict ≡ verdict_of_ports lines (first_line_with is_lite lines)) }
+        verdict ≡ verdict_of_rules (length lines) (first_broken lines)) }
 {
-    let TraceTable {
-        links,
-        lines,
-        last,
-        lite,
-    } = table;
-    if let Some(line) = lite {
-        return Ok(Verdict::NotBuilt { line });
-    }
+    let TraceTable { links, lines, last } = table;
     match first_fault(links, last_round(last))? {
         Some(fault) => Ok(Verdict::Broken(fault)),
         None => Ok(Verdict::Legal { lines }),

@@ -11,7 +11,7 @@ pub struct TraceFault {
     pub link: u32,
     /// The least channel on which a rule is broken: 1 AW, 2 W, 3 B, 4 AR, 5 R.
     pub channel: u8,
-    /// The least rule that is broken there, from 1 to 12.
+    /// The least rule that is broken there, from 1 to 12, on an AXI4-Lite port from 1 to 6.
     pub rule: u8,
 }
 
@@ -25,6 +25,4 @@ pub enum Verdict {
     /// The least line that is refused: it is no trace line, doesn't come after the line before, or shows another port
     /// than an earlier line of its link.
     BadTraceLine { line: u32 },
-    /// No line is refused, and this is the least line of an AXI4-Lite port, whose rules aren't written yet.
-    NotBuilt { line: u32 },
 }

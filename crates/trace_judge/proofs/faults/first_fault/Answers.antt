@@ -7,7 +7,7 @@ use Rattle.trace_judge.proofs.FaultLemmas.{below_none, below_next, serves_at, st
 use Rattle.trace_judge.proofs.faults.first_fault.Goals as goal
 
 pub loop-entry-init : goal.loop-entry-init
-loop-entry-init c = record { can = tt; finite = tt; count = refl; first = λ lines greatest none stands. sym (below_none lines) }
+loop-entry-init c = record { can = tt; finite = tt; count = refl; first = λ lines greatest stands. sym (below_none lines) }
 
 pub fault_of-requires : goal.fault_of-requires
 fault_of-requires c =
@@ -23,7 +23,7 @@ loop-entry-preserved c =
       can = tt;
       finite = tt;
       count = ap (λ n. n + 1) c.loop-entry.invariant.count ∙ sym (length_push c.loop-entry.yielded c.in-Some.entry);
-      first = λ lines greatest none stands.
-          below_next lines c.loop-entry.link c.loop-entry.first c.in_ok-fault.fault c.with_link-first.result (c.loop-entry.invariant.first lines greatest none stands) c.with_link-first.ensures
-          (c.in_ok-fault.ensures.fault lines c.loop-entry.link greatest none (stands_at c.args.links.items _ c.loop-entry.link c.in-Some.entry lines c.loop-entry.invariant.count t stands));
+      first = λ lines greatest stands.
+          below_next lines c.loop-entry.link c.loop-entry.first c.in_ok-fault.fault c.with_link-first.result (c.loop-entry.invariant.first lines greatest stands) c.with_link-first.ensures
+          (c.in_ok-fault.ensures.fault lines c.loop-entry.link greatest (stands_at c.args.links.items _ c.loop-entry.link c.in-Some.entry lines c.loop-entry.invariant.count t stands));
     }

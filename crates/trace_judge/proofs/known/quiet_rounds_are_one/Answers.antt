@@ -1,4 +1,4 @@
-use Rattle.trace_judge.proofs.AlikeLemmas.{quiet_are_one}
+use Rattle.trace_judge.proofs.QuietLemmas.{quiet_are_one}
 use Rattle.trace_judge.proofs.known.quiet_rounds_are_one.Goals as goal
 
 pub returns : goal.returns

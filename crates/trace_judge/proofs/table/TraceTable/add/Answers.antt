@@ -20,10 +20,10 @@ add_to_link-requires-clause-takes c =
 pub returns-clause-stands : goal.returns-clause-stands
 returns-clause-stands c = λ lines s may.
     let r : PortRound = c.args.r.now in
-    let after : TraceTable = record { links = c.add_to_link.new.links; lines = c.args.self.now.lines + 1; last = Some (r.round, r.link); lite = c.first_lite-self.result } in
+    let after : TraceTable = record { links = c.add_to_link.new.links; lines = c.args.self.now.lines + 1; last = Some (r.round, r.link) } in
     let new = c.in_ok-add_to_link.ensures.entry in
     let same = c.in_ok-grow.ensures.entries r.link in
-    table_grows c.args.self.now after lines r c.requires.ranges.link s may refl refl c.first_lite-self.ensures
+    table_grows c.args.self.now after lines r c.requires.ranges.link s may refl refl
     (c.in_ok-add_to_link.ensures.size ∙ c.in_ok-grow.ensures.size)
     (λ k ne. c.in_ok-add_to_link.ensures.others k ne ∙ c.in_ok-grow.ensures.entries k)
     new.0 new.1 new.2 new.3

@@ -1,0 +1,10 @@
+pub mod AnswerLemmas
+pub mod AskLemmas
+pub mod IdleLemmas
+pub mod LiteHolds
+pub mod LocalLemmas
+pub mod OrderLemmas
+pub mod TableLemmas
+pub mod TrailLemmas
+pub mod WayLemmas
+pub mod WordLemmas

@@ -1,0 +1,5 @@
+pub mod LiteInside
+pub mod LiteLaws
+pub mod LiteState
+pub mod LiteTable
+pub mod LiteTrail

@@ -1,0 +1,4 @@
+pub mod LawLemmas
+pub mod LiteTraceLemmas
+pub mod PortFaultLemmas
+pub mod WordLemmas

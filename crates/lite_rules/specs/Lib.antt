@@ -1,0 +1,4 @@
+pub mod KnownLiteTraces
+pub mod LiteLaws
+pub mod LiteRules
+pub mod PortFaults
