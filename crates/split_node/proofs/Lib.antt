@@ -1,0 +1,12 @@
+pub mod AnswerLemmas
+pub mod AskLemmas
+pub mod IdleLemmas
+pub mod LocalLemmas
+pub mod RoundLemmas
+pub mod RowLemmas
+pub mod SplitHolds
+pub mod StepLemmas
+pub mod TableLemmas
+pub mod TrailLemmas
+pub mod WayLemmas
+pub mod WorstLemmas
