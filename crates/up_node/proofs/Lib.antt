@@ -1,0 +1,17 @@
+pub mod ActLemmas
+pub mod ByteLemmas
+pub mod CutLemmas
+pub mod DataSteps
+pub mod EntryLemmas
+pub mod IdleLemmas
+pub mod LaneLemmas
+pub mod LocalLemmas
+pub mod MovedLemmas
+pub mod OwnLemmas
+pub mod ReadSteps
+pub mod ShiftLemmas
+pub mod StepLemmas
+pub mod TableLemmas
+pub mod TrailLemmas
+pub mod UpHolds
+pub mod WayLemmas
