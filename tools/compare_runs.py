@@ -5,10 +5,10 @@
 
 OTHER is a program with the same words and texts; PROGRAM is the one that is built in this tree,
 where none is named. A third of the COUNT documents are good and bad traffic on the smallest network,
-the others random networks of managers, slices, muxes, demuxes, crossbars and memories with legal
-traffic, some of them with something wrong in the topology. The status and the text of `run` are
-compared, and for a third those of `run --trace=all`. It prints how many inputs OTHER accepts, how
-many it refuses for which cause, and how many runs agreed, and ends with 1 where any differs. Without
+the others random networks of managers, slices, muxes, demuxes, crossbars, remappers and memories, with
+legal traffic, some of them with something wrong in the topology. The status and the text of `run` and
+of `plan` are compared, and for a third those of `run --trace=all`. It prints how many inputs OTHER accepts, how
+many it refuses for which cause, and how many calls agreed, and ends with 1 where any differs. Without
 OTHER nothing is done; before the program is built, OTHER's answers are counted.
 """
 import collections
@@ -354,13 +354,13 @@ def shown(answer):
 
 
 def compare(program, other, count, seed):
-    """Compares the runs of `count` inputs; answers the causes, how many runs agreed, and how many differ."""
+    """Compares the runs of `count` inputs; answers the causes, how many calls agreed, and how many differ."""
     causes = collections.Counter()
     agreed = differing = 0
     for number in range(count):
         r = random.Random(seed * 1000003 + number)
         mine = document(r)
-        runs = [['run']] + ([['run', '--trace=all']] if r.random() < 1 / 3 else [])
+        runs = [['run'], ['plan']] + ([['run', '--trace=all']] if r.random() < 1 / 3 else [])
         for words in runs:
             theirs = call(other, words, mine)
             if words == ['run']:

@@ -5,7 +5,8 @@
 
 OTHER is a program with the same words and texts. For each of COUNT seeds the traced run of random
 bursts is compared, on the smallest network and on a random one, and then the verdicts on traces of
-random bursts and on traces in which lines were changed, dropped, doubled or swapped. The last line
+random bursts, on random traces of AXI4-Lite ports, and on traces in which lines were changed, dropped,
+doubled or swapped. The last line
 says how many agreed. Without OTHER, or before the program is built, nothing is compared.
 """
 import os
@@ -58,6 +59,65 @@ def network_document(r):
     """Bursts on a random network."""
     found = random_networks.network(r)
     return (random_networks.text(found) + '%%\n' + ''.join(line + '\n' for line in random_networks.traffic(r, found))).encode()
+
+
+class LitePort:
+    """A port of AXI4-Lite that keeps the rules: what waits on each channel, and what is not answered."""
+
+    def __init__(self, r, link):
+        self.r, self.link, self.bus = r, link, r.choice([4, 8])
+        self.waits, self.counts = {}, dict.fromkeys(('aw', 'w', 'ar'), 0)
+
+    def lanes(self):
+        return ''.join('%02x' % self.r.choice([0, self.r.randrange(256)]) for _ in range(self.bus))
+
+    def beat(self, channel):
+        """A new beat of a channel, or none where nothing is to be answered, or by chance."""
+        r, tag = self.r, '%d:0:%d' % (self.r.randrange(3), self.bus - 1)
+        due = {'b': min(self.counts['aw'], self.counts['w']), 'r': self.counts['ar']}.get(channel, 1)
+        if not due or r.random() < 0.5:
+            return None
+        if channel in ('aw', 'ar'):
+            return '0,%x,0,%d,1,0,%s' % (r.randrange(64), 2 if self.bus == 4 else 3, tag)
+        if channel == 'w':
+            return '%s,%x,1,%s' % (self.lanes(), r.randrange(1 << self.bus), tag)
+        return '0,%s%d,%s%s' % (self.lanes() + ',' if channel == 'r' else '', r.choice([0, 0, 2, 3]), '1,' if channel == 'r' else '', tag)
+
+    def line(self, number):
+        """The line of a round; what it transfers is known after it."""
+        words, moved = [], []
+        for channel in ('aw', 'w', 'b', 'ar', 'r'):
+            beat = self.waits.pop(channel, None) or self.beat(channel)
+            taken = self.r.random() < 0.6
+            words.append('-' if beat is None else ('+' if taken else '=') + beat)
+            if beat is not None and taken:
+                moved.append(channel)
+            elif beat is not None:
+                self.waits[channel] = beat
+        for channel in moved:
+            for counted, step in {'b': [('aw', -1), ('w', -1)], 'r': [('ar', -1)]}.get(channel, [(channel, 1)]):
+                self.counts[counted] += step
+        return '%d %d lite %d %s' % (number, self.link, self.bus, ' '.join(words))
+
+
+def lite_trace(r):
+    """A legal trace of one or two AXI4-Lite ports."""
+    ports = [LitePort(r, link) for link in range(r.randint(1, 2))]
+    lines = [port.line(number) for number in range(1, r.randint(2, 25)) for port in ports]
+    return ''.join(line + '\n' for line in lines).encode()
+
+
+def with_a_wrong_field(r, trace):
+    """A trace in which a field of one beat, but not its tag, has another value."""
+    lines = [line.split(b' ') for line in trace.split(b'\n')]
+    beats = [(words, place) for words in lines for place in range(4, len(words)) if words[place] != b'-']
+    if beats:
+        words, place = r.choice(beats)
+        fields = words[place].split(b',')
+        field = r.randrange(len(fields) - 1)
+        fields[field] = (fields[field][:1] if field == 0 else b'') + r.choice([b'0', b'1', b'2', b'3'])
+        words[place] = b','.join(fields)
+    return b'\n'.join(b' '.join(words) for words in lines)
 
 
 def changed(r, trace):
@@ -113,6 +173,11 @@ def main():
             compare('check', ['check'], trace)
             for _ in range(4):
                 compare('check', ['check'], changed(r, trace))
+        for trace in (lite_trace(r), lite_trace(r)):
+            compare('check', ['check'], trace)
+            for _ in range(6):
+                compare('check', ['check'], changed(r, trace))
+                compare('check', ['check'], with_a_wrong_field(r, trace))
     print('%d agreed, %d differ' % (agreed, differing))
     return 1 if differing else 0
 

@@ -26,6 +26,14 @@ PORT_RULES = {
     11: "an answer to no request, or too early: it may come one cycle after the last beat of its request was taken",
     12: "RLAST is on the wrong beat, or two reads of one ID are answered in the wrong order",
 }
+LITE_RULES = {
+    1: PORT_RULES[1],
+    2: PORT_RULES[2],
+    3: "no access of AXI4-Lite: it has ID 0, one INCR beat as wide as the bus, and no lock",
+    4: "WLAST and RLAST are always high on AXI4-Lite, and BID and RID are 0",
+    5: "a response of AXI4-Lite is never EXOKAY",
+    6: "an answer to no request, or too early: it may come one cycle after its address, for a write its data too, was taken",
+}
 BURST_RULES = {
     1: "the size is more than the bus has: take a smaller size and more beats",
     2: "this number of beats isn't allowed: fixed has 1 to 16, incr 1 to 256, wrap 2, 4, 8 or 16",
@@ -116,7 +124,9 @@ def explain_refusal(words, lines):
 
 def explain_rule(words, lines):
     _, line, round_number, link, channel, rule = words
-    what = f"rule {rule}, channel {channel}, link {link}: {PORT_RULES[int(rule)]}"
+    kinds = [shown[2] for shown in map(str.split, lines) if len(shown) > 2 and shown[1] == link]
+    rules = LITE_RULES if kinds[:1] == ["lite"] else PORT_RULES
+    what = f"rule {rule}, channel {channel}, link {link}: {rules[int(rule)]}"
     if line == "0":
         return 0, f"{what} (in round {round_number}, which has no line of this link)"
     return int(line) - 1, what

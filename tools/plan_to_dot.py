@@ -1,5 +1,5 @@
 #!/usr/bin/env python3
-"""Draws a plan for Graphviz: managers at the top, memories at the bottom, each link with its number, bus and IDs.
+"""Draws a plan for Graphviz: managers at the top, memories at the bottom, each link with its number, protocol, bus and IDs.
 
     axinet plan < X | tools/plan_to_dot.py | dot -Tsvg > X.svg
 
@@ -59,7 +59,7 @@ def rank_line(nodes, part, rank):
 def link_lines(nodes, links):
     parts = {node["number"]: node["part"] for node in nodes}
     for link in links:
-        label = f'{link["number"]}: {link["bus"]} bytes, depth {link["depth"]}'
+        label = f'{link["number"]}: {link["kind"]}, {link["bus"]} bytes, depth {link["depth"]}'
         if link["kind"] == "axi":
             label += f', ID {link["id_width"]} bits'
         looks = ["style=dashed"] if link["kind"] == "lite" else []

@@ -1,7 +1,7 @@
 """Random documents for the scripts that compare axinet with another simulator.
 
 `one_memory` is the text of the smallest network; `network` makes a random one of managers, slices, muxes, demuxes,
-crossbars and memories; `traffic` makes legal traffic on it; `spoilt` makes a topology that is mostly refused.
+crossbars, remappers and memories; `traffic` makes legal traffic on it; `spoilt` makes a topology that is mostly refused.
 """
 import collections
 
@@ -68,7 +68,9 @@ def manager(r, bus, below):
 
 def between(r, later, bases):
     """A node between managers and memories, which leads to some of the later nodes."""
-    kind = r.choice(['slice', 'slice', 'mux', 'demux', 'crossbar'])
+    kind = r.choice(['slice', 'slice', 'mux', 'demux', 'crossbar', 'remap'])
+    if kind == 'remap':
+        return Node(kind, [r.choice(later)], deep(r, {'id_width': r.choice([0, 0, 1, 2, 4])}))
     if kind in ('slice', 'mux'):
         return Node(kind, [r.choice(later)], deep(r, {}))
     chosen = r.sample(bases, r.randint(1, len(bases)))

@@ -13,9 +13,10 @@ import sys
 
 TOP = pathlib.Path(__file__).resolve().parent.parent
 EXAMPLES, STORED = TOP / "examples", TOP / "examples" / "tools"
-CROSSBAR = (STORED / "crossbar.plan").read_bytes()
+# The plan of a network with nodes of all kinds, those too that don't run yet.
+ALL_KINDS = (STORED / "small_system.plan").read_bytes()
 REFUSED = [("run", "refused_line.txt"), ("run", "crossed_page.txt"), ("check", "early_response.trace"),
-           ("check", "rtl_short_read.trace"), ("check", "unreadable_line.trace"), ("check", "withdrawn_offer.trace")]
+           ("check", "lite_second_response.trace"), ("check", "rtl_short_read.trace"), ("check", "unreadable_line.trace"), ("check", "withdrawn_offer.trace")]
 
 
 def script(name, *words, text=b""):
@@ -43,8 +44,10 @@ def outputs(program):
     yield "waits.trace.json", script("to_json.py", "trace", text=traced)
     yield "waits.svg", script("answers_to_svg.py", text=traced)
     yield "waits.vcd", script("trace_to_vcd.py", text=traced)
-    yield "crossbar.json", script("to_json.py", "plan", text=CROSSBAR)
-    yield "crossbar.dot", script("plan_to_dot.py", text=CROSSBAR)
+    planned = written(program, "plan", "crossbar.txt")
+    yield "crossbar.json", script("to_json.py", "plan", text=planned)
+    yield "crossbar.dot", script("plan_to_dot.py", text=planned)
+    yield "small_system.dot", script("plan_to_dot.py", text=ALL_KINDS)
     explained = [script("explain.py", f"examples/{name}", text=written(program, command, name)) for command, name in REFUSED]
     yield "explained.txt", b"".join(explained)
 

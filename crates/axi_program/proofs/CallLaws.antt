@@ -6,14 +6,14 @@ use Rattle.std.specs.Io.KnownBytes.{Appends}
 use Rattle.std.specs.Str.{is_utf8}
 use Rattle.command_words.specs.declared.choice.Choice.{Choice}
 use Rattle.command_words.specs.declared.choice.Task.{Task}
-use Rattle.command_words.specs.declared.choice.Task.TheVariants.{Check, Run}
-use Rattle.document.specs.Document.{Asked, document_of, input_limit}
+use Rattle.command_words.specs.declared.choice.Task.TheVariants.{Check, Plan, Run}
+use Rattle.document.specs.Document.{Asked, Planned, document_of, input_limit, planned_of}
 use Rattle.refusals.specs.Refusal.{refused_for}
 use Rattle.refusals.specs.declared.cause.Cause.TheVariants.{InputTooLong, NotText}
 use Rattle.refusals.specs.declared.refusal.Refusal.{Refusal}
 use Rattle.axi_program.specs.Call.{Came, IsComplete, IsCutOff, ReadsWhole, Tells}
 use Rattle.axi_program.specs.DeviceBytes.{AppendsPrefix, IsOver, IsWhole}
-use Rattle.axi_program.specs.Outcome.{Outcome, Refuses, check_outcome, document_outcome, ending_of, input_outcome, outcome_by, outcome_of, run_outcome, status_of, task_outcome, text_of}
+use Rattle.axi_program.specs.Outcome.{Outcome, Refuses, check_outcome, document_outcome, ending_of, input_outcome, outcome_by, outcome_of, plan_outcome, planned_outcome, run_outcome, status_of, task_outcome, text_of}
 use Rattle.axi_program.specs.Preparation.{IsPrepared, IsReadWhole}
 use Rattle.axi_program.specs.Status.{status_of_ending}
 use Rattle.axi_program.specs.Work.{IsWorkOf}
@@ -26,6 +26,10 @@ use Rattle.trace_judge.specs.Verdicts.{verdict_of}
 pub outcome-of : (trace : Bool) (input : List ℕ) (read : Result Asked Refusal) → document_of input ≡ read → outcome_by trace read ≡ document_outcome trace input
 unfolding document_outcome
 outcome-of trace input read is = sym (ap (outcome_by trace) is)
+
+pub planned-outcome : (input : List ℕ) (read : Result Planned Refusal) → planned_of input ≡ read → planned_outcome read ≡ plan_outcome input
+unfolding plan_outcome
+planned-outcome input read is = sym (ap planned_outcome is)
 
 -- what a choice comes to, by its task
 pub outcome-task : (choice : Choice) (input : List ℕ) (task : Task) → choice.task ≡ task → task_outcome task choice.trace input ≡ input_outcome choice input
@@ -43,9 +47,10 @@ check-refuses input within no_text = rw (le-ltb input_limit (length input) withi
 
 -- an input over the size is refused for it
 task-over : (task : Task) (trace : Bool) (input : List ℕ) → input_limit < length input → Refuses (refused_for InputTooLong) ≡ task_outcome task trace input
-unfolding document_outcome check_outcome
+unfolding document_outcome check_outcome plan_outcome
 task-over Run trace input over = rw (lt-ltb input_limit (length input) over) refl
 task-over Check trace input over = rw (lt-ltb input_limit (length input) over) refl
+task-over Plan trace input over = rw (lt-ltb input_limit (length input) over) refl
 
 pub outcome-over : (choice : Choice) (input : List ℕ) → input_limit < length input → Refuses (refused_for InputTooLong) ≡ input_outcome choice input
 unfolding input_outcome

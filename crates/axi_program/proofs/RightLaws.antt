@@ -1,5 +1,6 @@
 -- The run of every document that is accepted is right.
-use Rattle.std.proofs.Common.{ℕ, sym, ◌∙◌}
+use Rattle.std.proofs.Common.{ℕ, Ok, Some, sym, ◌∙◌}
+use Rattle.document.proofs.PlanLemmas.{plans-follow_documents}
 use Rattle.document.proofs.RunnableLemmas.{accepted-are_runnable}
 use Rattle.document.specs.Document.{Asked}
 use Rattle.document.specs.Runnable.{IsRunnable}
@@ -14,7 +15,9 @@ use Rattle.net_plan.specs.PlanLaws.{CanRun}
 use Rattle.net_ranges.proofs.PlanLemmas.{plan-fits, plans-show_lines}
 use Rattle.net_ways.proofs.SoundLemmas.{sound-ports_are_legal}
 use Rattle.net_ways.specs.Sound.{IsSound}
+use Rattle.axi_program.proofs.CallLaws.{planned-outcome}
 use Rattle.axi_program.proofs.LeastLemmas.{run_length-is}
+use Rattle.axi_program.specs.Planning.{PlansTellBounds}
 use Rattle.axi_program.specs.Right.{DocumentsRunRight, PortsLegal, RunIsRight}
 use Rattle.axi_program.specs.Run.{bound, opened_network, run_rounds}
 
@@ -46,3 +49,8 @@ run-is-right asked runnable =
 
 pub documents-run-right : DocumentsRunRight
 documents-run-right input asked accepted = run-is-right asked (accepted-are_runnable input asked accepted)
+
+-- the plan of every such document tells the bound of its run
+pub plans-tell-bounds : PlansTellBounds
+plans-tell-bounds input asked accepted =
+    sym (planned-outcome input (Ok (record { nodes = asked.nodes; bound = Some (bound asked) })) (plans-follow_documents.accepted input asked accepted))

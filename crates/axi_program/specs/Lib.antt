@@ -13,3 +13,4 @@ pub mod Report
 pub mod Preparation
 pub mod Call
 pub mod Right
+pub mod Planning

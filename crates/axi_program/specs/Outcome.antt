@@ -2,10 +2,11 @@
 use Rattle.std.specs.Prelude.{◌++◌, ℕ, List, Bool, Result, Ok, Err, length, nat_lt, not, if◌then◌else◌}
 use Rattle.command_words.specs.declared.choice.Choice.{Choice}
 use Rattle.command_words.specs.declared.choice.Task.{Task}
-use Rattle.command_words.specs.declared.choice.Task.TheVariants.{Check, Run}
-use Rattle.document.specs.Document.{Asked, document_of, input_limit}
+use Rattle.command_words.specs.declared.choice.Task.TheVariants.{Check, Plan, Run}
+use Rattle.document.specs.Document.{Asked, Planned, document_of, input_limit, planned_of}
+use Rattle.plan_text.specs.PlanText.{plan_text}
 use Rattle.refusals.specs.Refusal.{refused_at, refused_for}
-use Rattle.refusals.specs.declared.cause.Cause.TheVariants.{BadTraceLine as CauseBadTraceLine, InputTooLong, NotBuilt as CauseNotBuilt, NotText}
+use Rattle.refusals.specs.declared.cause.Cause.TheVariants.{BadTraceLine as CauseBadTraceLine, InputTooLong, NotText}
 use Rattle.refusals.specs.declared.refusal.Refusal.{Refusal}
 use Rattle.std.specs.Str.{is_utf8}
 use Rattle.axi_program.specs.Run.{opened_network, run_end, run_rounds}
@@ -18,7 +19,7 @@ use Rattle.axi_program.specs.declared.status.Ending.TheVariants.{Broken as EndsB
 use Rattle.trace_judge.specs.Verdicts.{verdict_of}
 use Rattle.trace_judge.specs.declared.verdict.TraceFault.{TraceFault}
 use Rattle.trace_judge.specs.declared.verdict.Verdict.{Verdict}
-use Rattle.trace_judge.specs.declared.verdict.Verdict.TheVariants.{BadTraceLine, Broken, Legal, NotBuilt}
+use Rattle.trace_judge.specs.declared.verdict.Verdict.TheVariants.{BadTraceLine, Broken, Legal}
 
 -- An input is refused; or what is asked is done, and has a text; or a trace breaks a rule.
 pub data Outcome : Type 0 where
@@ -43,7 +44,6 @@ abbrev pub outcome_of : Verdict → Outcome
 outcome_of (Legal lines) = Answers (legal_line lines)
 outcome_of (Broken fault) = Breaks fault
 outcome_of (BadTraceLine line) = Refuses (refused_at CauseBadTraceLine line)
-outcome_of (NotBuilt line) = Refuses (refused_at CauseNotBuilt line)
 
 -- what an input comes to that is to be judged as a trace
 unfoldable pub check_outcome : List ℕ → Outcome
@@ -56,10 +56,20 @@ check_outcome input =
 unfoldable pub document_outcome : Bool → List ℕ → Outcome
 document_outcome trace input = outcome_by trace (document_of input)
 
+-- what is planned comes to its text
+abbrev pub planned_outcome : Result Planned Refusal → Outcome
+planned_outcome (Err refusal) = Refuses refusal
+planned_outcome (Ok planned) = Answers (plan_text planned.nodes planned.bound)
+
+-- what an input comes to that is to be planned
+unfoldable pub plan_outcome : List ℕ → Outcome
+plan_outcome input = planned_outcome (planned_of input)
+
 -- what an input comes to, by the task
 abbrev pub task_outcome : Task → Bool → List ℕ → Outcome
 task_outcome Run trace input = document_outcome trace input
 task_outcome Check trace input = check_outcome input
+task_outcome Plan trace input = plan_outcome input
 
 unfoldable pub input_outcome : Choice → List ℕ → Outcome
 input_outcome choice input = task_outcome choice.task choice.trace input

@@ -3,15 +3,18 @@ use Rattle.std.specs.Prelude.{◌≡◌, ℕ, List, Option, Result, IfOk, OnErr,
 use Rattle.std.specs.Io.KnownBytes.{Appends}
 use Rattle.axi_program.specs.DeviceBytes.{AppendsPrefix}
 use Rattle.axi_program.specs.Opening.{IsOpening, asked_by}
-use Rattle.axi_program.specs.Outcome.{Outcome, ending_of, run_outcome, text_of}
+use Rattle.axi_program.specs.Outcome.{Answers, Outcome, ending_of, run_outcome, text_of}
 use Rattle.axi_program.specs.declared.status.Ending.{Ending}
 use Rattle.document.specs.Document.{Asked}
 use Rattle.axi_program.specs.declared.work.Work.{Work}
-use Rattle.axi_program.specs.declared.work.Work.TheVariants.{Run, Say}
+use Rattle.axi_program.specs.declared.work.Work.TheVariants.{Plan, Run, Say}
+use Rattle.plan_text.specs.PlanText.{plan_text}
 
--- the work that an outcome asks for: the line is its text, or the network is the one whose run it is
+-- the work that an outcome asks for: the line is its text, or the plan and the bound are those whose text it is, or the network
+-- is the one whose run it is
 abbrev pub IsWorkOf : Outcome → Work → Type 0
 IsWorkOf outcome (Say line ending) = (line ≡ text_of outcome) × (ending ≡ ending_of outcome)
+IsWorkOf outcome (Plan plan bound line) = outcome ≡ Answers (plan_text plan bound)
 IsWorkOf outcome (Run net line trace) = IsOpening net × (outcome ≡ run_outcome trace (asked_by net))
 
 -- some outcome asks for it

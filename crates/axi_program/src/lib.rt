@@ -5,28 +5,19 @@
 //! one of each never fails. `status` has the answers of the top call.
 //!
 //! `preparation` reads the words and the input, and takes all memory for the `work` that is left then: one line, which
-//! `report` makes of a refusal or of the verdict on a trace, or a `run` of a network, with the lines of its `trace` where
-//! they are asked for. `texts` makes the lines that the program says. `top` puts them together.
+//! `report` makes of a refusal or of the verdict on a trace, the text of a `plan`, or a `run` of a network, with the lines of
+//! its `trace` where they are asked for. `texts` makes the lines that the program says. `top` puts them together.
 #![tactic(auto)]
 
-#[cfg(test)]
-mod device_tests;
-#[cfg(test)]
-mod network_tests;
 mod outside;
+mod plan;
 mod preparation;
 mod report;
 mod run;
 mod status;
-#[cfg(test)]
-mod test_rows;
-#[cfg(test)]
-mod tests;
 mod texts;
 mod top;
 mod trace;
-#[cfg(test)]
-mod trace_tests;
 mod work;
 
 pub use outside::gate::{Gate, OpenGate};

@@ -1,7 +1,7 @@
 //! What the words and the input come to, before anything is written.
 
 ghost use Rattle.std.specs.Prelude.{◌≡◌, ◌≤◌, map, string_bytes, length, IfErr, IfOk};
-ghost use Rattle.axi_program.specs.Outcome.{check_outcome, document_outcome, input_outcome, run_outcome};
+ghost use Rattle.axi_program.specs.Outcome.{check_outcome, document_outcome, input_outcome, plan_outcome, run_outcome};
 ghost use Rattle.axi_program.specs.Preparation.{IsPrepared, Stops};
 ghost use Rattle.axi_program.specs.Work.{IsWorkOf};
 ghost use Rattle.document.specs.Runnable.{IsRunnable};
@@ -13,7 +13,7 @@ use crate::status::Stop;
 use crate::work::Work;
 use axi_beats::NoMemory;
 use command_words::{Choice, Task, WordsFault, read_words};
-use document::{Document, INPUT_LIMIT, input_text, read_document};
+use document::{Document, INPUT_LIMIT, Planned, input_text, read_document, read_planned};
 use net_build::Net;
 use plain_text::line_buffer::LineBuffer;
 use refusals::{Cause, DocFault, Refusal};
@@ -54,6 +54,7 @@ fn work_of_input(alloc: Global, choice: &Choice, input: &[u8]) -> Result<Work, N
     match choice.task {
         Task::Run => work_of_document(alloc, choice.trace, input),
         Task::Check => work_of_trace(alloc, input),
+        Task::Plan => work_of_plan(alloc, input),
     }
 }
 
@@ -77,6 +78,20 @@ fn work_of_run(alloc: Global, document: Document, trace: bool) -> Result<Work, N
     let line = LineBuffer::new(alloc)?;
     let net = Net::build(alloc, document.plan, document.traffic)?;
     Ok(Work::Run { net, line, trace })
+}
+
+// What an input comes to that is to be planned.
+fn work_of_plan(alloc: Global, input: &[u8]) -> Result<Work, NoMemory>
+    ensures { IfOk result (IsWorkOf (plan_outcome input.now)) }
+{
+    match read_planned(alloc, input) {
+        Ok(Planned { plan, bound }) => {
+            let line = LineBuffer::new(alloc)?;
+            Ok(Work::Plan { plan, bound, line })
+        }
+        Err(DocFault::Refused(refusal)) => say(alloc, Report::Refused(refusal)),
+        Err(DocFault::NoMemory) => Err(NoMemory),
+    }
 }
 
 // What an input comes to that is to be judged as a trace.

@@ -37,7 +37,6 @@ impl Report {
                 Cause::BadTraceLine,
                 line,
             )),
-            Verdict::NotBuilt { line } => Report::Refused(Refusal::at(Cause::NotBuilt, line)),
         }
     }
 

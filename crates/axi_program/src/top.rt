@@ -3,6 +3,7 @@
 ghost use Rattle.std.specs.Prelude.{◌≤◌, map, string_bytes};
 ghost use Rattle.axi_program.specs.Call.{IsComplete, ReadsWhole, Tells};
 ghost use Rattle.axi_program.specs.Faults.{Rose};
+ghost use Rattle.axi_program.specs.Planning.{PlansTellBounds};
 ghost use Rattle.axi_program.specs.Right.{DocumentsRunRight};
 
 use crate::outside::gate::Gate;
@@ -16,13 +17,14 @@ use std::alloc::Global;
 ///
 /// The words are the program's name and a task with options, as [`command_words::read_words`] reads them. `run` reads a
 /// document, runs its network and writes the answers, with the trace of the links before them where `--trace=all` is
-/// given. `check` reads a trace and judges its ports. The gate is for the parts of a phase, which are done one after the
+/// given. `check` reads a trace and judges its ports. `plan` reads a document, and writes the nodes and links of its plan and
+/// the bound on the rounds of its run. The gate is for the parts of a phase, which are done one after the
 /// other today.
 ///
 /// The order of causes: the words, reading, the refusals in their order, writing. Want of memory may come in place of
 /// any, and only before the run and the first write: all memory is taken by [`prepare`], and what is left to do then has
 /// no answer for want of it. Of the refusals of a document the codes 1, 2, 3 come first, then 4 to 16, 23, and 17 to 21;
-/// of those of a trace 1, 2, 22 and 23.
+/// of those of a trace 1, 2 and 22. For `plan` a document is refused with the codes up to 16 and 23 alone.
 pub fn axinet<S: Source, K: Sink, G: Gate>(
     alloc: Global,
     words: &[String],
@@ -45,6 +47,9 @@ pub fn axinet<S: Source, K: Sink, G: Gate>(
     // all is answered, which is within its bound, and what a port shows in a round of it is within the
     // ranges of a trace line. `tells` says that what is written is the text of that run.
     ensures right { DocumentsRunRight }
+
+    // The bound that `plan` writes of a document that isn't refused is the one that its run keeps.
+    ensures planned { PlansTellBounds }
 
     // Where no count of faults rises, the status is that of the outcome of words and input, or memory was wanting.
     ensures complete { ¬ Rose (S.faults source.old) (S.faults source.new) → ¬ Rose (K.faults sink.old) (K.faults sink.new) →

@@ -7,8 +7,10 @@ ghost use Rattle.axi_program.specs.Work.{Concludes, IsReady, IsWorkOf};
 use crate::outside::sink::Sink;
 use crate::outside::source::Failed;
 use crate::outside::write_all::write_piece;
+use crate::plan::write_plan;
 use crate::run::run;
 use crate::status::Ending;
+use elaborate::Plan;
 use net_build::Net;
 use plain_text::line_buffer::LineBuffer;
 
@@ -21,6 +23,15 @@ pub enum Work {
         line: LineBuffer,
         /// How the program ends once it is written.
         ending: Ending,
+    },
+    /// The text of a plan is written.
+    Plan {
+        /// The plan.
+        plan: Plan,
+        /// By how many rounds the run of its traffic is finished at the latest, where that isn't refused.
+        bound: Option<u64>,
+        /// Room for a line.
+        line: LineBuffer,
     },
     /// A network is run, and the text of its run written.
     Run {
@@ -49,6 +60,7 @@ impl Work {
                 write_piece(sink, line.bytes())?;
                 Ok(ending)
             }
+            Work::Plan { plan, bound, line } => write_plan(&plan, bound, line, sink),
             Work::Run { net, line, trace } => run(net, line, trace, sink),
         }
     }

@@ -29,7 +29,7 @@ fn call(rt: &(impl Alloc<A = std::alloc::Global> + Env + Input + Print)) -> Stat
 /// The line that a status has on standard error, where it has one.
 fn complaint(status: &Status) -> Option<&'static str> {
     match status {
-        Status::Usage => Some("usage: axinet run|check [options]"),
+        Status::Usage => Some("usage: axinet run|check|plan [options]"),
         Status::ReadFault => Some("axinet: read failed"),
         Status::WriteFault => Some("axinet: write failed"),
         Status::NoMemory => Some("axinet: out of memory"),

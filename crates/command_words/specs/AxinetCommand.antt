@@ -14,7 +14,7 @@ abbrev pub Spell : PossibleValues → List (List ℕ) → Type 0
 Spell values texts = map (λ value. value.now) values.now ≡ texts
 
 abbrev pub task_names : List (List ℕ)
-task_names = codes "run" ∷ codes "check" ∷ []
+task_names = codes "run" ∷ codes "check" ∷ codes "plan" ∷ []
 
 abbrev pub trace_names : List (List ℕ)
 trace_names = codes "none" ∷ codes "all" ∷ []

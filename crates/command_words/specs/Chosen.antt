@@ -8,7 +8,7 @@ use Rattle.clap.specs.Walk.{Row, first_of}
 use Rattle.command_words.specs.AxinetCommand.{IsAxinet}
 use Rattle.command_words.specs.declared.choice.Choice.{Choice}
 use Rattle.command_words.specs.declared.choice.Task.{Task}
-use Rattle.command_words.specs.declared.choice.Task.TheVariants.{Check, Run}
+use Rattle.command_words.specs.declared.choice.Task.TheVariants.{Check, Plan, Run}
 
 -- the number that a text is, where it is one from `low` to `high`
 abbrev pub number_within : ℕ → ℕ → List ℕ → Option ℕ
@@ -23,7 +23,7 @@ abbrev pub has_text : List ℕ → Option (List ℕ) → Bool
 has_text name text = bytes_eq (unwrap_or text []) name
 
 abbrev pub task_of : Option (List ℕ) → Task
-task_of text = if has_text (codes "check") text then Check else Run
+task_of text = if has_text (codes "check") text then Check else if has_text (codes "plan") text then Plan else Run
 
 -- the choice in the values that `clap` found for the arguments
 abbrev pub choice_in : List Row → Choice

@@ -9,6 +9,8 @@ pub enum Task {
     Run,
     /// To judge every port of a trace.
     Check,
+    /// To tell the plan of a document.
+    Plan,
 }
 
 /// A task and its options. An option that the task doesn't use is there all the same.

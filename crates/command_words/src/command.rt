@@ -10,7 +10,7 @@ use clap::{Arg, Command};
 use std::alloc::{AllocError, Global};
 
 // The names of the tasks, and those of the traces that can be asked for.
-static TASKS: [&str; 2] = ["run", "check"];
+static TASKS: [&str; 3] = ["run", "check", "plan"];
 
 static TRACES: [&str; 2] = ["none", "all"];
 

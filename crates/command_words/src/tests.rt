@@ -24,6 +24,11 @@ fn options_and_defaults(rt: HostRuntime) {
         size: 100,
     };
     assert_eq!(rt; read(rt.alloc(), &["axinet", "run"]), Ok(bare));
+    let plan = Choice {
+        task: Task::Plan,
+        ..bare
+    };
+    assert_eq!(rt; read(rt.alloc(), &["axinet", "plan"]), Ok(plan));
     let full = Choice {
         task: Task::Check,
         workers: 64,

@@ -60,6 +60,8 @@ fn task_of(matches: &ArgMatches<'_>) -> Task
 {
     if has_text(matches, "command", "check") {
         Task::Check
+    } else if has_text(matches, "command", "plan") {
+        Task::Plan
     } else {
         Task::Run
     }

@@ -2,7 +2,7 @@
 use Rattle.std.proofs.Common.{◌≡◌, ℕ, Bool, true, false, cond, not, List, Option, Some, None, Ok, Err, nat_lt, length, refl, subst}
 use Rattle.std.specs.Prelude.{Result}
 use Rattle.std.specs.Str.{is_utf8}
-use Rattle.document.specs.Document.{Asked, built_with, document_of, input_limit, parted, traffic_on, wired_with}
+use Rattle.document.specs.Document.{Asked, NetworkText, asked_with, built_with, input_limit, network_in, parted, traffic_on, wired_with}
 use Rattle.document.specs.Runnable.{AcceptedAreRunnable, IsRunnable}
 use Rattle.elaborate.specs.Unbuilt.{unbuilt_at}
 use Rattle.plain_text.specs.Lines.{lines}
@@ -51,12 +51,52 @@ among-read (Ok found) nodes formed e = unrefused found nodes (fault_of found) (f
 topology-good : (text : List ℕ) (nodes : List DocumentNode) → topology_of text ≡ Ok nodes → AreGood nodes
 topology-good text nodes e = among-read (nodes_of_text text) nodes (λ found is. read-formed (parse_document text) found is) e
 
--- ---- what comes after it
+-- ---- the network of an input
+
+-- its nodes passed each test
+record IsGoodNetwork (text : NetworkText) : Type 0 where
+  good : AreGood text.nodes
+  built : unbuilt_at text.nodes ≡ None
+
+abbrev network_as : NetworkText → Result NetworkText Refusal
+network_as text = Ok text
+
+same-network : (a b : NetworkText) → network_as a ≡ network_as b → a ≡ b
+same-network a b e = cc
+
+when-built :
+    (nodes : List DocumentNode) (behind : List (List ℕ)) (place : Option ℕ) (text : NetworkText) → AreGood nodes → unbuilt_at nodes ≡ place →
+    built_with nodes behind place ≡ Ok text → IsGoodNetwork text
+when-built nodes behind (Some place) text good is e = absurd cc
+when-built nodes behind None text good is e = subst IsGoodNetwork (same-network (record { nodes = nodes; lines = behind }) text e) (record { good = good; built = is })
+
+when-wired :
+    (behind : List (List ℕ)) (read : Result (List DocumentNode) Refusal) (text : NetworkText) → ((nodes : List DocumentNode) → read ≡ Ok nodes → AreGood nodes) →
+    wired_with behind read ≡ Ok text → IsGoodNetwork text
+when-wired behind (Err refusal) text good e = absurd cc
+when-wired behind (Ok nodes) text good e = when-built nodes behind (unbuilt_at nodes) text (good nodes refl) refl e
+
+when-parted : (texts : Option (List ℕ × List ℕ)) (text : NetworkText) → parted texts ≡ Ok text → IsGoodNetwork text
+when-parted None text e = absurd cc
+when-parted (Some texts) text e = when-wired (lines texts.1) (topology_of texts.0) text (λ nodes is. topology-good texts.0 nodes is) e
+
+-- the tests before it
+passed :
+    (over utf8 : Bool) (read : Result NetworkText Refusal) (text : NetworkText) →
+    cond over (Err (refused_for InputTooLong)) (cond (not utf8) (Err (refused_for NotText)) read) ≡ Ok text → read ≡ Ok text
+passed true utf8 read text e = absurd cc
+passed false false read text e = absurd cc
+passed false true read text e = e
+
+network-good : (input : List ℕ) (text : NetworkText) → network_in input ≡ Ok text → IsGoodNetwork text
+network-good input text e = when-parted (cut input) text (passed (nat_lt input_limit (length input)) (is_utf8 input) (parted (cut input)) text e)
+
+-- ---- its traffic
 
 abbrev asked_as : Asked → Result Asked Refusal
 asked_as asked = Ok asked
 
-same-asked : (a b : Asked) → asked_as a ≡ asked_as b → a ≡ b
+pub same-asked : (a b : Asked) → asked_as a ≡ asked_as b → a ≡ b
 same-asked a b e = cc
 
 with-traffic :
@@ -67,34 +107,10 @@ with-traffic nodes text None asked good built is e =
     subst IsRunnable (same-asked (record { nodes = nodes; items = traffic_of nodes text }) asked e)
     (record { formed = good.formed; accepted = good.accepted; built = built; traffic = accepted_suits_all nodes text is })
 
-when-built :
-    (nodes : List DocumentNode) (text : List (List ℕ)) (place : Option ℕ) (asked : Asked) → AreGood nodes → unbuilt_at nodes ≡ place →
-    built_with nodes text place ≡ Ok asked → IsRunnable asked
-when-built nodes text (Some place) asked good is e = absurd cc
-when-built nodes text None asked good is e = with-traffic nodes text (traffic_refusal nodes text) asked good is refl e
-
-when-wired :
-    (text : List (List ℕ)) (read : Result (List DocumentNode) Refusal) (asked : Asked) → ((nodes : List DocumentNode) → read ≡ Ok nodes → AreGood nodes) →
-    wired_with text read ≡ Ok asked → IsRunnable asked
-when-wired text (Err refusal) asked good e = absurd cc
-when-wired text (Ok nodes) asked good e = when-built nodes text (unbuilt_at nodes) asked (good nodes refl) refl e
-
-pub wired-runnable : (text : List (List ℕ)) (topology : List ℕ) (asked : Asked) → wired_with text (topology_of topology) ≡ Ok asked → IsRunnable asked
-wired-runnable text topology asked e = when-wired text (topology_of topology) asked (λ nodes is. topology-good topology nodes is) e
-
-when-parted : (texts : Option (List ℕ × List ℕ)) (asked : Asked) → parted texts ≡ Ok asked → IsRunnable asked
-when-parted None asked e = absurd cc
-when-parted (Some texts) asked e = wired-runnable (lines texts.1) texts.0 asked e
-
--- ---- the tests before it
-
-passed :
-    (over text : Bool) (read : Result Asked Refusal) (asked : Asked) →
-    cond over (Err (refused_for InputTooLong)) (cond (not text) (Err (refused_for NotText)) read) ≡ Ok asked → read ≡ Ok asked
-passed true text read asked e = absurd cc
-passed false false read asked e = absurd cc
-passed false true read asked e = e
+when-asked : (read : Result NetworkText Refusal) (asked : Asked) → ((text : NetworkText) → read ≡ Ok text → IsGoodNetwork text) → asked_with read ≡ Ok asked → IsRunnable asked
+when-asked (Err refusal) asked good e = absurd cc
+when-asked (Ok text) asked good e =
+    with-traffic text.nodes text.lines (traffic_refusal text.nodes text.lines) asked (good text refl).good (good text refl).built refl e
 
 pub accepted-are_runnable : AcceptedAreRunnable
-accepted-are_runnable input asked e =
-    when-parted (cut input) asked (passed (nat_lt input_limit (length input)) (is_utf8 input) (parted (cut input)) asked e)
+accepted-are_runnable input asked e = when-asked (network_in input) asked (λ text is. network-good input text is) e

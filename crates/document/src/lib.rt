@@ -1,5 +1,6 @@
 //! A document: the topology of a network, a line `%%`, and the traffic on it. [`read_document`] reads one as
-//! a plan with its traffic, or answers the first cause for which it is refused.
+//! a plan with its traffic, or answers the first cause for which it is refused. [`read_planned`] reads the topology alone, and
+//! answers its plan with the bound on the rounds of the traffic.
 #![tactic(auto)]
 
 mod document;
@@ -7,5 +8,5 @@ mod laws;
 #[cfg(test)]
 mod tests;
 
-pub use document::{Document, INPUT_LIMIT, input_text, read_document};
-pub use laws::accepted_documents_are_runnable;
+pub use document::{Document, INPUT_LIMIT, Planned, input_text, read_document, read_planned};
+pub use laws::{accepted_documents_are_runnable, plans_follow_documents};

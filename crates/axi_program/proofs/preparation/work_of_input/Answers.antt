@@ -1,6 +1,6 @@
 use Rattle.std.proofs.Common.{subst}
 use Rattle.std.specs.Prelude.{IfOk}
-use Rattle.command_words.specs.declared.choice.Task.TheVariants.{Check, Run}
+use Rattle.command_words.specs.declared.choice.Task.TheVariants.{Check, Plan, Run}
 use Rattle.axi_program.proofs.CallLaws.{outcome-task}
 use Rattle.axi_program.specs.Outcome.{Outcome}
 use Rattle.axi_program.specs.Work.{IsWorkOf}
@@ -13,3 +13,7 @@ returns-in-Run c =
 pub returns-in-Check : goal.returns-in-Check
 returns-in-Check c =
     subst (λ (o : Outcome). IfOk c.work_of_trace.result (IsWorkOf o)) (outcome-task c.args.choice.now c.args.input.now Check c.in-Check.is) c.work_of_trace.ensures
+
+pub returns-in-Plan : goal.returns-in-Plan
+returns-in-Plan c =
+    subst (λ (o : Outcome). IfOk c.work_of_plan.result (IsWorkOf o)) (outcome-task c.args.choice.now c.args.input.now Plan c.in-Plan.is) c.work_of_plan.ensures

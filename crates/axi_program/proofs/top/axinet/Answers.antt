@@ -1,7 +1,7 @@
 use Rattle.std.proofs.Common.{sym, subst}
 use Rattle.std.specs.Prelude.{map, string_bytes}
 use Rattle.axi_program.proofs.CallLaws.{cut-off, done-complete, done-reads, done-tells}
-use Rattle.axi_program.proofs.RightLaws.{documents-run-right}
+use Rattle.axi_program.proofs.RightLaws.{documents-run-right, plans-tell-bounds}
 use Rattle.axi_program.specs.Call.{IsComplete, ReadsWhole, Tells}
 use Rattle.axi_program.specs.declared.status.Status.{Status}
 use Rattle.axi_program.proofs.top.axinet.Goals as goal
@@ -48,3 +48,12 @@ returns-in-Err-finish-clause-right g c = documents-run-right
 
 pub returns-in-Err-clause-right : goal.returns-in-Err-clause-right
 returns-in-Err-clause-right g c = documents-run-right
+
+pub returns-in-Ok-finish-clause-planned : goal.returns-in-Ok-finish-clause-planned
+returns-in-Ok-finish-clause-planned g c = plans-tell-bounds
+
+pub returns-in-Err-finish-clause-planned : goal.returns-in-Err-finish-clause-planned
+returns-in-Err-finish-clause-planned g c = plans-tell-bounds
+
+pub returns-in-Err-clause-planned : goal.returns-in-Err-clause-planned
+returns-in-Err-clause-planned g c = plans-tell-bounds

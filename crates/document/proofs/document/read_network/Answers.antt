@@ -1,6 +1,6 @@
 use Rattle.std.proofs.Common.{ap, arith, length, sym}
 use Rattle.document.proofs.TextLemmas.{cut-short}
-use Rattle.document.proofs.document.read_document.Goals as goal
+use Rattle.document.proofs.document.read_network.Goals as goal
 
 pub read_parts-requires : goal.read_parts-requires
 read_parts-requires c =

@@ -1,7 +1,7 @@
 //! Known documents: what the top call answers of each, and what it writes.
 
-use super::*;
 use crate::test_rows::{Row, compare, compare_end, joined, ran, words_of};
+use axi_program::{MemorySink, OpenGate, Status, SureSink, SureSource, axinet};
 use refusals::{Cause, Refusal};
 use std::alloc::Global;
 use std::process::Abort;

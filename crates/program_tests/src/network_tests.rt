@@ -1,7 +1,7 @@
 //! Known networks: what the top call answers of each, and what it writes.
 
-use super::*;
 use crate::test_rows::{Row, compare, joined, words_of};
+use axi_program::{MemorySink, MemorySource, OpenGate, Status, axinet};
 use refusals::{Cause, Refusal};
 use std::test::Fail;
 
@@ -80,6 +80,22 @@ fn crossed_writes_by_many_workers() -> Row {
     }
 }
 
+// One ID below a remapper: the second read waits until the first one is answered.
+fn one_id_below() -> Row {
+    of_network(
+        b"version = 1
+node = [
+ {name=\"m\", kind=\"manager\", bus=4, id_width=2, to=\"rm\"},
+ {name=\"rm\", kind=\"remap\", id_width=0, to=\"ram\"},
+ {name=\"ram\", kind=\"memory\", bus=4, base=0, size=4096},
+]
+",
+        b"%%\nread m 1 0x0 4 incr 1\nread m 2 0x4 4 incr 1\n",
+        Status::Done,
+        b"1 read m 1 6 okay:00000000\n2 read m 2 10 okay:00000000\nrounds 10\n",
+    )
+}
+
 // A slow memory and another one, behind a demux.
 const SLOW_AND_FAST: &[u8] = b"version = 1
 node = [
@@ -129,6 +145,7 @@ fn networks_are_run(rt: HostRuntime) -> Result<(), Fail> {
     compare(&rt, &crossed_writes_by_many_workers())?;
     compare(&rt, &one_id_at_two_memories())?;
     compare(&rt, &two_ids_at_two_memories())?;
+    compare(&rt, &one_id_below())?;
     compare(&rt, &a_read_only_range())
 }
 

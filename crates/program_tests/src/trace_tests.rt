@@ -1,7 +1,7 @@
 //! Traced runs and judged traces through the top call.
 
-use super::*;
 use crate::test_rows::{MEMORY, Row, compare, judged};
+use axi_program::Status;
 use refusals::{Cause, Refusal};
 use std::test::Fail;
 use trace_judge::TraceFault;
@@ -98,10 +98,17 @@ fn no_trace_line() -> Row {
 }
 
 fn a_lite_port() -> Row {
+    let fault = TraceFault {
+        line: 2,
+        round: 1,
+        link: 1,
+        channel: 1,
+        rule: 3,
+    };
     judged(
-        b"1 0 axi 4 +0,10,0,2,1,0,1:0:0 - - - -\n1 1 lite 4 - - - - -\n",
-        Status::Refused(Refusal::at(Cause::NotBuilt, 2)),
-        b"refused 23 NotBuilt 2\n",
+        b"1 0 axi 4 +1,10,0,2,1,0,1:0:0 - - - -\n1 1 lite 4 +1,10,0,2,1,0,1:0:3 - - - -\n",
+        Status::Broken(fault),
+        b"broken 2 1 1 aw 3\n",
     )
 }
 

@@ -1,6 +1,6 @@
 //! A row of the tests of the top call, and what compares the top call with one.
 
-use super::*;
+use axi_program::{MemorySink, MemorySource, OpenGate, Status, axinet};
 use std::alloc::Global;
 use std::process::Abort;
 use std::test::Fail;

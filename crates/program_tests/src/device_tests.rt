@@ -1,7 +1,7 @@
 //! A run over sources and sinks that fail, or that move one byte a call.
 
-use super::*;
 use crate::test_rows::{MEMORY, joined, words_of};
+use axi_program::{MemorySink, MemorySource, OpenGate, Status, axinet};
 use std::alloc::Global;
 use std::process::Abort;
 use std::test::Fail;
