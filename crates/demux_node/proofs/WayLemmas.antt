@@ -12,7 +12,7 @@ use Rattle.burst_address.specs.Legal.{page}
 use Rattle.demux_node.proofs.AnswerLemmas.{lower-at, lower-among, port_of_parts-within}
 use Rattle.demux_node.specs.DemuxState.{DemuxShape, DemuxState, IsDemuxShape, port_for}
 use Rattle.demux_node.specs.DemuxTrail.{GoByPort, demux_kind, lower_of_parts, port_of_parts}
-use Rattle.node_shape.proofs.FormLemmas.{bytes-alike, carried-alike}
+use Rattle.node_shape.proofs.FormLemmas.{bytes-alike, carried-alike, written-alike}
 use Rattle.node_shape.proofs.OneLinkLemmas.{is-one, of-one}
 use Rattle.node_shape.proofs.OneUpperLemmas.{ComesBy, StaysAway, chain-on, one-upper, share_on}
 use Rattle.node_shape.specs.Carries.{IsSameShare}
@@ -58,6 +58,7 @@ module _ (E : Type 0) where
         is = carried-alike (forms link) (forms next) alike write link next share carried;
         bytes = bytes-alike (forms link) (forms next) alike share.parts;
         lanes = refl;
+        written = λ writes. written-alike (forms link) (forms next) alike share;
       }
 
 -- addresses of one page have one port

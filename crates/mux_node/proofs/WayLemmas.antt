@@ -7,7 +7,7 @@ use Rattle.std.proofs.lemmas.Option.{slice_get_past}
 use Rattle.axi_trail.specs.Schedule.{SameChain, Share, no_share}
 use Rattle.mux_node.specs.MuxTable.{ids_of}
 use Rattle.mux_node.specs.MuxTrail.{Merges, mux_kind, share_at_input}
-use Rattle.node_shape.proofs.FormLemmas.{bytes-alike, carried-alike}
+use Rattle.node_shape.proofs.FormLemmas.{bytes-alike, carried-alike, written-alike}
 use Rattle.node_shape.proofs.OneLinkLemmas.{of-one, one-has}
 use Rattle.node_shape.proofs.OneUpperLemmas.{share_on}
 use Rattle.node_shape.specs.Carries.{IsSameShare}
@@ -45,6 +45,7 @@ module _ (E : Type 0) where
         is = carried-alike (forms link) (forms next) alike write link next share carried;
         bytes = bytes-alike (forms link) (forms next) alike share.parts;
         lanes = refl;
+        written = λ writes. written-alike (forms link) (forms next) alike share;
       }
 
 -- one direction of what the links around it carry

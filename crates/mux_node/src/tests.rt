@@ -97,3 +97,91 @@ fn two_inputs_share_a_link(rt: HostRuntime) -> Result<(), Fail> {
     bench.run(&[first, second, third])?;
     Ok(())
 }
+
+// Write and read addresses of inputs come while those below haven't left, and nothing moves.
+fn waits(round: u64, write: (u32, u32), read: (u32, u32)) -> Row {
+    Row {
+        round,
+        offered: Out {
+            aw_put: Some((write.0, request(write.1))),
+            ar_put: Some((read.0, request(read.1))),
+            ..Out::default()
+        },
+        moved: Out::default(),
+    }
+}
+
+// The addresses below leave, and in their place come those of these inputs, under these IDs.
+fn come(round: u64, write: (u32, u32), read: (u32, u32)) -> Row {
+    Row {
+        round,
+        offered: Out {
+            aw_take: Some(3),
+            ar_take: Some(3),
+            ..Out::default()
+        },
+        moved: Out {
+            aw_take: Some(write.0),
+            aw_put: Some((3, request(write.1))),
+            ar_take: Some(read.0),
+            ar_put: Some((3, request(read.1))),
+            ..Out::default()
+        },
+    }
+}
+
+/// Inputs 0, 1 and 2 have IDs of 2 bits, and link 3 below has room for one address. Input 2 has written and
+/// input 1 has read; where all inputs offer both, writes come from 0, 1, 2, and reads from 2, 0, 1.
+#[test]
+fn three_inputs_take_turns(rt: HostRuntime) -> Result<(), Fail> {
+    let mut bench = Bench::new(rt.alloc(), MuxNode::new(&[0, 1, 2], 3, 2), 4, 1)?;
+    let first = Row {
+        round: 1,
+        offered: Out {
+            aw_put: Some((2, request(1))),
+            ar_put: Some((1, request(1))),
+            ..Out::default()
+        },
+        moved: Out {
+            aw_take: Some(2),
+            aw_put: Some((3, request(9))),
+            ar_take: Some(1),
+            ar_put: Some((3, request(5))),
+            ..Out::default()
+        },
+    };
+    bench.run(&[
+        first,
+        waits(2, (0, 2), (0, 3)),
+        waits(3, (1, 3), (2, 0)),
+        waits(4, (2, 0), (1, 2)),
+        come(5, (0, 2), (2, 8)),
+        come(6, (1, 7), (0, 3)),
+        come(7, (2, 8), (1, 6)),
+    ])?;
+    Ok(())
+}
+
+/// IDs 12 and 13 would be those of a fourth input: such answers stay.
+#[test]
+fn an_answer_to_no_input_stays(rt: HostRuntime) -> Result<(), Fail> {
+    let mut bench = Bench::new(rt.alloc(), MuxNode::new(&[0, 1, 2], 3, 2), 4, 1)?;
+    let offered = Out {
+        b_put: Some((3, response(12))),
+        r_put: Some((3, read_data(13))),
+        ..Out::default()
+    };
+    bench.run(&[
+        Row {
+            round: 1,
+            offered,
+            moved: Out::default(),
+        },
+        Row {
+            round: 3,
+            offered: Out::default(),
+            moved: Out::default(),
+        },
+    ])?;
+    Ok(())
+}

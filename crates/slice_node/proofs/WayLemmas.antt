@@ -7,7 +7,7 @@ use Rattle.node_shape.specs.LinkForm.{IsAlike, LinkForm}
 use Rattle.node_shape.specs.Way.{Way, go_on_by}
 use Rattle.node_shape.specs.WayLaws.{CutsFit, GoesBelow, HasWay, OriginsFit, WaysSuit}
 use Rattle.node_shape.specs.WaysAround.{WaysThrough}
-use Rattle.node_shape.proofs.FormLemmas.{bytes-alike, carried-alike}
+use Rattle.node_shape.proofs.FormLemmas.{bytes-alike, carried-alike, written-alike}
 use Rattle.node_shape.proofs.OneLinkLemmas.{is-one, of-one, one-has}
 use Rattle.node_shape.proofs.OneUpperLemmas.{ComesBy, StaysAway, chains-on, one-upper, share_on}
 use Rattle.slice_node.specs.SliceState.{SliceState}
@@ -49,6 +49,7 @@ module _ (E : Type 0) where
         is = carried-alike (forms link) (forms next) alike write link next share carried;
         bytes = bytes-alike (forms link) (forms next) alike share.parts;
         lanes = refl;
+        written = λ writes. written-alike (forms link) (forms next) alike share;
       }
 
 -- one direction of what the links around it carry
