@@ -1,8 +1,14 @@
 -- The place of the first byte that passes a test, and the parts between such bytes.
-use Rattle.std.proofs.Common.{◌≡◌, ℕ, suc, ◌+◌, ◌<◌, ◌≤◌, Bool, true, false, cond, ltb, not, List, [], ◌∷◌, Some, None, length, take, drop, refl, subst, arith}
+use Rattle.std.proofs.Common.{◌≡◌, ℕ, suc, ◌+◌, ◌<◌, ◌≤◌, Bool, true, false, cond, ltb, not, List, [], ◌∷◌, Some, None, Option, length, take, drop, get_or, refl, subst, sym, ap, ◌∙◌, arith}
 use Rattle.std.specs.List.{position, position_or_len, slice_split, onto_first}
-use Rattle.std.proofs.lemmas.Bool.{ltb-true, ltb-false}
+use Rattle.std.proofs.lemmas.Bool.{le-ltb, lt-ltb, ltb-true, ltb-false}
+use Rattle.std.proofs.lemmas.List.Sums.{position_or_len_is}
+use Rattle.memchr.specs.Find.{IsFirstByte}
 use Rattle.std.proofs.lemmas.List.Splits.{slice_split_first}
+
+fails : (b : Bool) → (b ≡ true → ⊥) → b ≡ false
+fails true h = absurd (h refl)
+fails false h = refl
 
 -- a place that is answered where it is below a bound
 answered : (place bound i : ℕ) → cond (ltb place bound) (Some place) None ≡ Some i → (place ≡ i) × (place < bound)
@@ -39,3 +45,13 @@ pub slice_split_at_place : (p : ℕ → Bool) (xs : List ℕ) (i : ℕ) → posi
 slice_split_at_place p xs i h =
     let found = place_found p xs i h in
     subst (λ (n : ℕ). slice_split p xs ≡ take n xs ∷ slice_split p (drop (n + 1) xs)) found.0 (slice_split_first {X = ℕ} p xs 0 found.1)
+
+-- the place that a search for the first byte that passes gives
+pub first_is_position : (p : ℕ → Bool) (xs : List ℕ) (r : Option ℕ) → IsFirstByte p xs r → r ≡ position p xs
+first_is_position p xs None h =
+    let none : position_or_len p xs ≡ length xs = position_or_len_is p xs (length xs) 0 (omega arith) (λ k below. fails (p (get_or xs k 0)) (h k (omega arith) below)) (λ below. absurd (omega arith)) in
+    ap (λ b. cond b (Some (position_or_len p xs)) None) (sym (le-ltb (position_or_len p xs) (length xs) (omega arith)))
+first_is_position p xs (Some i) h =
+    let at : position_or_len p xs ≡ i = position_or_len_is p xs i 0 (omega (arith, h.0.high)) (λ k below. fails (p (get_or xs k 0)) (h.0.before k (omega arith) below)) (λ below. h.1) in
+    let within : position_or_len p xs < length xs = omega (arith, h.0.high) in
+    ap Some (sym at) ∙ ap (λ b. cond b (Some (position_or_len p xs)) None) (sym (lt-ltb (position_or_len p xs) (length xs) within))

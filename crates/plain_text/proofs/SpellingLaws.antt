@@ -1,15 +1,15 @@
 -- Numbers are read as they are written, and written as they are read.
-use Rattle.std.proofs.Common.{◌≡◌, ℕ, ◌^◌, ◌<◌, ◌≤◌, ◌&&◌, Bool, true, false, cond, ltb, List, [], ◌∷◌, Option, Some, None, length, get_or, refl, ap, sym, subst, ◌∙◌, arith, lit<, inl, inr}
+use Rattle.std.proofs.Common.{◌≡◌, ℕ, ◌+◌, ◌*◌, ◌^◌, ◌<◌, ◌≤◌, ◌&&◌, Bool, true, false, cond, ltb, List, [], ◌∷◌, Option, Some, None, length, get_or, refl, ap, sym, subst, ◌∙◌, arith, lit<, inl, inr}
 use Rattle.std.specs.Prelude.{nat_lt}
 use Rattle.std.specs.Char.{digit_value, is_digit}
 use Rattle.std.specs.Fmt.{decimal}
 use Rattle.std.specs.List.{list_all}
 use Rattle.std.specs.Str.Parse.{AllDigits, digits_value}
-use Rattle.std.proofs.lemmas.Bool.{ltb-true, ltb-false, lt-ltb, ne_eqb, cases_lt}
+use Rattle.std.proofs.lemmas.Bool.{ltb-true, ltb-false, lt-ltb, le-ltb, ne_eqb, cases_lt}
 use Rattle.std.proofs.lemmas.Fmt.{decimal-digits_value, decimal_is_IsNumeral, decimal_digit, first_decimal}
 use Rattle.std.proofs.lemmas.Str.Parse.{IsNumeralModel, numerals_by_value, tells_digits}
 use Rattle.plain_text.specs.Exact.{IsExact}
-use Rattle.plain_text.specs.Numbers.{is_numeral, is_plain, number_in, read_plain_decimal}
+use Rattle.plain_text.specs.Numbers.{is_numeral, is_plain, number_in, read_byte_pair, read_plain_decimal}
 use Rattle.plain_text.proofs.FieldLaws.{Avoids}
 
 -- ---- tests of digits
@@ -59,6 +59,33 @@ is_plain_parts ds e zero_first = by (ltb (length ds) 2) refl
     by : (b : Bool) → ltb (length ds) 2 ≡ b → length ds < 2
     by true h = ltb-true (length ds) 2 h
     by false h = absurd (let f : false ≡ true = sym (rw (h, zero_first) refl) ∙ e in cc)
+
+-- ---- pairs of hexadecimal digits
+
+pub pair_is : (high low : ℕ) → digit_value high < 16 → digit_value low < 16 → number_in (high ∷ low ∷ []) 16 256 ≡ Some (16 * digit_value high + digit_value low)
+pair_is high low h l =
+    let value : digits_value 16 (high ∷ low ∷ []) ≡ 16 * digit_value high + digit_value low = omega arith in
+    number_in-numeral (high ∷ low ∷ []) 16 256 (16 * digit_value high + digit_value low) (omega arith) (h, (l, tt)) value (omega arith)
+
+pub pair_without_high : (high low : ℕ) → (digit_value high < 16 → ⊥) → number_in (high ∷ low ∷ []) 16 256 ≡ None
+unfolding number_in
+pair_without_high high low none = rw (le-ltb (digit_value high) 16 (omega (arith, none))) refl
+
+pub pair_without_low : (high low : ℕ) → digit_value high < 16 → (digit_value low < 16 → ⊥) → number_in (high ∷ low ∷ []) 16 256 ≡ None
+unfolding number_in
+pair_without_low high low h none = rw (lt-ltb (digit_value high) 16 h, le-ltb (digit_value low) 16 (omega (arith, none))) refl
+
+-- a word of two digits, and one of another length
+pub pair_word : (word : List ℕ) → length word ≡ 2 → read_byte_pair word ≡ number_in (get_or word 0 0 ∷ get_or word 1 0 ∷ []) 16 256
+unfolding read_byte_pair
+pair_word (high ∷ low ∷ []) is = refl
+pair_word [] is = absurd (omega arith)
+pair_word (high ∷ []) is = absurd (omega arith)
+pair_word (high ∷ low ∷ more ∷ rest) is = absurd (omega arith)
+
+pub no_pair : (word : List ℕ) → (length word ≡ 2 → ⊥) → read_byte_pair word ≡ None
+unfolding read_byte_pair
+no_pair word other = rw (ne_eqb (length word) 2 other) refl
 
 -- ---- decimals
 

@@ -1,7 +1,7 @@
 //! A buffer in which a line is written piece by piece. Its room is reserved once, so that writing
 //! never wants memory. Contracts see it as its bytes.
 
-ghost use Rattle.std.specs.Prelude.{◌≡◌, ◌+◌, ◌*◌, ◌<◌, ◌≤◌, ◌++◌, [], false, length, drop, IfOk};
+ghost use Rattle.std.specs.Prelude.{◌≡◌, ◌+◌, ◌*◌, ◌<◌, ◌≤◌, ◌++◌, [], false, length, drop, take, IfOk};
 ghost use Rattle.std.specs.Fmt.{decimal, digit_glyph};
 ghost use Rattle.plain_text.specs.Printing.{hexadecimal, pairs};
 
@@ -9,20 +9,23 @@ use std::alloc::{AllocError, Global};
 use std::marker::Model;
 
 /// The bytes of a line, and room for `LineBuffer::ROOM` bytes, which is reserved once.
+///
+/// All the room is there from the start, and the line is its front, so that a piece is copied to its
+/// place and nothing has to grow.
 #[derive(Drop)]
 pub struct LineBuffer {
-    bytes: Vec<u8>,
+    room: Vec<u8>,
+    end: usize,
 }
 
 impl Model for LineBuffer {
-    ghost use Rattle.std.specs.Prelude.{ℕ, ◌≤◌, List};
-    ghost use Rattle.std.specs.Vec.{vec_capacity};
+    ghost use Rattle.std.specs.Prelude.{◌≡◌, ℕ, ◌≤◌, List, length, take};
 
     ghost Value = { List ℕ };
 
-    ghost view = { λ line. line.bytes.items };
+    ghost view = { λ line. take line.end line.room.items };
 
-    ghost invariant = { λ line. 16384 ≤ vec_capacity line.bytes };
+    ghost invariant = { λ line. (line.end ≤ 16384) × (length line.room.items ≡ 16384) };
 }
 
 impl LineBuffer {
@@ -33,22 +36,23 @@ impl LineBuffer {
     pub fn new(alloc: Global) -> Result<LineBuffer, AllocError>
         ensures { IfOk result (λ line. line ≡ []) }
     {
-        let bytes = Vec::with_capacity(alloc, Self::ROOM)?;
-        Ok(LineBuffer { bytes })
+        let mut room = Vec::new(alloc);
+        room.resize(Self::ROOM, 0)?;
+        Ok(LineBuffer { room, end: 0 })
     }
 
     /// The bytes that have been written.
     pub fn bytes(&self) -> &[u8]
         ensures { result.now ≡ self.now }
     {
-        self.bytes.as_slice()
+        &self.room[..self.end]
     }
 
     /// Drops all bytes and keeps the room.
     pub fn clear(&mut self)
         ensures { self.new ≡ [] }
     {
-        self.bytes.clear();
+        self.end = 0;
     }
 
     /// Writes a text behind the bytes that are there. There has to be room for it.
@@ -57,7 +61,8 @@ impl LineBuffer {
         ensures text { self.new ≡ self.old ++ text.now }
         ensures room { length self.new ≡ length self.old + length text.now }
     {
-        self.bytes.extend_from_slice(text).unwrap();
+        write_at(&mut self.room, self.end, text);
+        self.end += text.len();
     }
 
     /// Writes a number in decimal, in at most 20 digits.
@@ -66,6 +71,9 @@ impl LineBuffer {
         ensures text { self.new ≡ self.old ++ decimal number }
         ensures room { length self.new ≤ length self.old + 20 }
     {
+        if number < 10 {
+            return self.push(&[b'0' + number as u8]);
+        }
         let mut buffer = itoa::Buffer::new();
         self.push(buffer.format(number).as_bytes());
     }
@@ -93,6 +101,15 @@ impl LineBuffer {
             self.push(&[glyph(*byte / 16), glyph(*byte % 16)]);
         }
     }
+}
+
+// Writes a text over the bytes from a place on.
+fn write_at(room: &mut [u8], place: usize, text: &[u8])
+    requires { place + length text.now ≤ length room.old }
+    ensures written { take (place + length text.now) room.new ≡ take place room.old ++ text.now }
+    ensures len { length room.new ≡ length room.old }
+{
+    room[place..place + text.len()].copy_from_slice(text);
 }
 
 // Writes the digits of a number to the end of the array, and answers where they begin.

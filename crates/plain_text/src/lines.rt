@@ -4,6 +4,8 @@ ghost use Rattle.std.specs.Prelude.{◌≡◌, ◌<◌, ◌∷◌, length};
 ghost use Rattle.std.specs.List.{position};
 ghost use Rattle.plain_text.specs.Lines.{after_first_line, is_feed, lines, strip_carriage_return};
 
+use memchr::memchr;
+
 /// The first line of a text that isn't empty, and all that follows its line feed.
 ///
 /// A line ends at a line feed or at the end of the text. One carriage return before the line feed
@@ -24,7 +26,7 @@ pub fn next_line(text: &[u8]) -> (&[u8], &[u8])
 fn first_feed(text: &[u8]) -> Option<usize>
     ensures { result ≡ position is_feed text.now }
 {
-    text.iter().position(|byte| *byte == b'\n')
+    memchr(b'\n', text)
 }
 
 // The bytes without the one carriage return at their end, if they have one.

@@ -1,7 +1,9 @@
 //! The numbers that words spell. Each call answers `None` where the word is spelled otherwise, and
 //! where the number isn't below the limit.
 
-ghost use Rattle.std.specs.Prelude.{◌≡◌, ◌<◌, ◌≤◌, IfSome};
+ghost use Rattle.std.specs.Prelude.{◌≡◌, ◌<◌, ◌≤◌, ◌+◌, ◌*◌, [], ◌∷◌, IfSome};
+ghost use Rattle.std.specs.Char.{digit_value};
+ghost use Rattle.std.specs.Option.{SomeIff};
 ghost use Rattle.plain_text.specs.Numbers.{number_in, read_byte_pair, read_decimal, read_hexadecimal, read_plain_decimal};
 
 /// The number that the digits spell in the base, where each byte is a digit of the base in either
@@ -18,13 +20,19 @@ pub fn number_in(digits: &[u8], base: u32, limit: u64) -> Option<u64>
     let mut value: u64 = 0;
     for byte in digits {
         let digit = (*byte as char).to_digit(base)?;
-        let next = value as u128 * base as u128 + digit as u128;
-        if next >= limit as u128 {
-            return None;
-        }
-        value = next as u64;
+        value = with_digit(value, digit, base, limit)?;
     }
     Some(value)
+}
+
+// The number with one digit more at its end, where it is below the limit.
+fn with_digit(value: u64, digit: u32, base: u32, limit: u64) -> Option<u64>
+    ensures { SomeIff result (value * base + digit < limit) (value * base + digit) }
+{
+    let next = value
+        .checked_mul(u64::from(base))?
+        .checked_add(u64::from(digit))?;
+    (next < limit).then_some(next)
 }
 
 /// The number below the limit that 1 to 10 decimal digits spell. Zeros may stand at the front.
@@ -67,14 +75,33 @@ pub fn read_hexadecimal(word: &[u8], limit: u64) -> Option<u64>
 }
 
 /// The byte that exactly two hexadecimal digits in either case spell, the upper digit first.
-#[tactic(auto, unfolding(crate::specs::Numbers::read_byte_pair))]
 pub fn read_byte_pair(pair: &[u8]) -> Option<u8>
     ensures { result ≡ read_byte_pair pair.now }
 {
-    if pair.len() == 2 {
-        let value = number_in(pair, 16, 256)?;
-        Some(value as u8)
-    } else {
-        None
+    match pair {
+        [high, low] => byte_of_pair(*high, *low),
+        _ => None,
+    }
+}
+
+// The byte that two hexadecimal digits spell.
+fn byte_of_pair(high: u8, low: u8) -> Option<u8>
+    ensures { result ≡ number_in (high ∷ low ∷ []) 16 256 }
+{
+    let upper = hexadecimal_digit(high)?;
+    let lower = hexadecimal_digit(low)?;
+    Some(16 * upper + lower)
+}
+
+// The value of a hexadecimal digit in either case.
+fn hexadecimal_digit(byte: u8) -> Option<u8>
+    ensures value { SomeIff result (digit_value byte < 16) (digit_value byte) }
+    ensures small { IfSome result (λ value. value < 16) }
+{
+    match byte {
+        b'0'..=b'9' => Some(byte - b'0'),
+        b'a'..=b'f' => Some(byte - b'a' + 10),
+        b'A'..=b'F' => Some(byte - b'A' + 10),
+        _ => None,
     }
 }

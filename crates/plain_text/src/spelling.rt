@@ -9,6 +9,8 @@ ghost use Rattle.plain_text.specs.Numbers.{number_in};
 ghost use Rattle.std.specs.List.{list_all};
 ghost use Rattle.plain_text.specs.Spelling.{is_lower};
 
+use crate::numbers::number_in;
+
 /// The number of at most `most` that hexadecimal digits in lower case without needless zeros at the
 /// front spell.
 ///
@@ -41,11 +43,11 @@ fn read_glyph(byte: u8) -> Option<u8>
     ensures value { result ≡ read_glyph byte }
     ensures small { IfSome result (λ value. value < 16) }
 {
-    if !is_lower(byte) {
-        return None;
+    match byte {
+        b'0'..=b'9' => Some(byte - b'0'),
+        b'a'..=b'f' => Some(byte - b'a' + 10),
+        _ => None,
     }
-    let value = (byte as char).to_digit(16)?;
-    Some(value as u8)
 }
 
 // Whether none of the bytes is one of `A` to `Z`.
@@ -62,8 +64,22 @@ fn is_lower(byte: u8) -> bool
     !(b'A' <= byte && byte <= b'Z')
 }
 
-// The number of at most `most` that hexadecimal digits in either case spell.
+// The number of at most `most` that hexadecimal digits in either case spell: by steps of 64 bits where
+// the number fits.
 fn hexadecimal_up_to(digits: &[u8], most: u128) -> Option<u128>
+    ensures number { result ≡ number_in digits.now 16 (most + 1) }
+    ensures within { IfSome result (λ n. n ≤ most) }
+{
+    if most < u128::from(u64::MAX) {
+        let number = number_in(digits, 16, most as u64 + 1)?;
+        Some(u128::from(number))
+    } else {
+        wide_hexadecimal(digits, most)
+    }
+}
+
+// The same, by steps of 128 bits.
+fn wide_hexadecimal(digits: &[u8], most: u128) -> Option<u128>
     ensures number { result ≡ number_in digits.now 16 (most + 1) }
     ensures within { IfSome result (λ n. n ≤ most) }
 {
@@ -73,13 +89,13 @@ fn hexadecimal_up_to(digits: &[u8], most: u128) -> Option<u128>
     let mut value: u128 = 0;
     for byte in digits {
         let digit = (*byte as char).to_digit(16)?;
-        value = with_digit(value, digit, most)?;
+        value = with_hexadecimal(value, digit, most)?;
     }
     Some(value)
 }
 
 // The number with one hexadecimal digit more behind it, where it is at most `most`.
-fn with_digit(value: u128, digit: u32, most: u128) -> Option<u128>
+fn with_hexadecimal(value: u128, digit: u32, most: u128) -> Option<u128>
     ensures { SomeIff result (value * 16 + digit ≤ most) (value * 16 + digit) }
 {
     let next = value.checked_mul(16)?.checked_add(u128::from(digit))?;

@@ -1,7 +1,7 @@
 -- Orders that are turned into transactions one by one.
 use Rattle.std.proofs.Common.{◌≡◌, ℕ, ◌+◌, ◌<◌, ◌≤◌, ◌==◌, true, false, cond, List, [], ◌∷◌, ◌++◌, Option, Some, None, length, get_or, set, inl, inr, refl, sym, ◌∙◌, ap, subst, append_assoc, arith}
 use Rattle.std.specs.Prelude.{All, IfSome, fold}
-use Rattle.std.specs.List.{AllByRecursion, cons_option}
+use Rattle.std.specs.List.{cons_option}
 use Rattle.std.proofs.lemmas.Bool.{cases_eq, cond-true, cond-false, eq-eqb, ne_eqb}
 use Rattle.std.proofs.lemmas.List.{append-nil, get_or-set_other, get_or-replicate, length-append, length-replicate, length-set}
 use Rattle.std.proofs.Math.ListN.{replicate}
@@ -85,13 +85,11 @@ pub record IsBuilt (nodes : List DocumentNode) (text : List ℕ) (items : List T
   number : length items ≡ length (issued before)
   pub as_many : length counts ≡ length nodes
   counts_are : (k : ℕ) → k < length counts → get_or counts k none_yet ≡ count_after k before
-  fits : AllByRecursion (IsFitting (length counts)) (orders_of nodes (lines rest))
   pub left : length items + length rest ≤ length text
 
 -- at the start
-pub built-first : (nodes : List DocumentNode) (text : List ℕ) (counts : List Count) → counts ≡ replicate (length nodes) none_yet
-    → AllByRecursion (IsFitting (length nodes)) (orders_of nodes (lines text)) → IsBuilt nodes text [] counts text
-built-first nodes text counts is fits =
+pub built-first : (nodes : List DocumentNode) (text : List ℕ) (counts : List Count) → counts ≡ replicate (length nodes) none_yet → IsBuilt nodes text [] counts text
+built-first nodes text counts is =
     let many : length counts ≡ length nodes = ap length is ∙ length-replicate (length nodes) none_yet in
     record {
       before = [];
@@ -99,16 +97,15 @@ built-first nodes text counts is fits =
       number = refl;
       as_many = many;
       counts_are = λ k within. ap (λ c. get_or c k none_yet) is ∙ get_or-replicate (length nodes) k none_yet none_yet (omega arith);
-      fits = subst (λ (n : ℕ). AllByRecursion (IsFitting n) (orders_of nodes (lines text))) (sym many) fits;
       left = omega arith;
     }
 
 -- a line that asks for something or for nothing, before further orders
 step-by : (nodes : List DocumentNode) (text : List ℕ) (items : List TrafficItem) (counts : List Count) (rest more : List ℕ)
     → (o : Option Order) → orders_of nodes (lines rest) ≡ cons_option o (orders_of nodes (lines more)) → length more < length rest
-    → IsBuilt nodes text items counts rest
+    → IfSome o (IsFitting (length counts)) → IsBuilt nodes text items counts rest
     → IsBuilt nodes text (items ++ items_by counts (length items + 1) o) (counts_by counts o) more
-step-by nodes text items counts rest more None is shorter b =
+step-by nodes text items counts rest more None is shorter fits b =
     let same : items ++ [] ≡ items = append-nil items in
     let left : length items + length rest ≤ length text = b.left in
     subst (λ (t : List TrafficItem). IsBuilt nodes text t counts more) (sym same) (record {
@@ -117,11 +114,9 @@ step-by nodes text items counts rest more None is shorter b =
       number = b.number;
       as_many = b.as_many;
       counts_are = b.counts_are;
-      fits = subst (λ (os : List Order). AllByRecursion (IsFitting (length counts)) os) is b.fits;
       left = omega arith;
     })
-step-by nodes text items counts rest more (Some order) is shorter b =
-    let all : AllByRecursion (IsFitting (length counts)) (order ∷ orders_of nodes (lines more)) = subst (λ (os : List Order). AllByRecursion (IsFitting (length counts)) os) is b.fits in
+step-by nodes text items counts rest more (Some order) is shorter fits b =
     let long : length (counts_after counts order) ≡ length counts = counts-length counts order in
     let left : length items + length rest ≤ length text = b.left in
     let few : length (items_of counts (length items + 1) order) ≤ 1 = items-short counts (length items + 1) order in
@@ -130,13 +125,12 @@ step-by nodes text items counts rest more (Some order) is shorter b =
       before = b.before ++ order ∷ [];
       made =
           append_assoc items (items_of counts (length items + 1) order) (items_after (b.before ++ order ∷ []) (orders_of nodes (lines more)))
-          ∙ ap (λ t. items ++ t) (items-step counts (length items) b.before (orders_of nodes (lines more)) order all.0 b.number b.counts_are)
+          ∙ ap (λ t. items ++ t) (items-step counts (length items) b.before (orders_of nodes (lines more)) order fits b.number b.counts_are)
           ∙ ap (λ os. items ++ items_after b.before os) (sym is)
           ∙ b.made;
       number = sum ∙ ap (λ n. n + length (items_of counts (length items + 1) order)) b.number ∙ sym (number-step counts (length items + 1) b.before order);
       as_many = long ∙ b.as_many;
-      counts_are = λ k within. counts-step counts b.before order all.0 b.counts_are k (omega arith);
-      fits = subst (λ (n : ℕ). AllByRecursion (IsFitting n) (orders_of nodes (lines more))) (sym long) all.1;
+      counts_are = λ k within. counts-step counts b.before order fits b.counts_are k (omega arith);
       left = omega arith;
     }
 
@@ -144,23 +138,13 @@ step-by nodes text items counts rest more (Some order) is shorter b =
 pub built-line : (nodes : List DocumentNode) (text : List ℕ) (items after : List TrafficItem) (counts later : List Count) (line rest more : List ℕ)
     → lines rest ≡ line ∷ lines more → length more < length rest
     → after ≡ items ++ items_by counts (length items + 1) (order_said nodes line) → later ≡ counts_by counts (order_said nodes line)
-    → IsBuilt nodes text items counts rest → IsBuilt nodes text after later more
-built-line nodes text items after counts later line rest more is shorter items_are counts_are b =
+    → IfSome (order_said nodes line) (IsFitting (length counts)) → IsBuilt nodes text items counts rest → IsBuilt nodes text after later more
+built-line nodes text items after counts later line rest more is shorter items_are counts_are fits b =
     subst (λ (t : List TrafficItem). IsBuilt nodes text t later more) (sym items_are)
     (subst (λ (c : List Count). IsBuilt nodes text (items ++ items_by counts (length items + 1) (order_said nodes line)) c more) (sym counts_are)
-    (step-by nodes text items counts rest more (order_said nodes line) (ap (λ ls. orders_of nodes ls) is) shorter b))
+    (step-by nodes text items counts rest more (order_said nodes line) (ap (λ ls. orders_of nodes ls) is) shorter fits b))
 
 -- what the next line needs
-fits-head : (n : ℕ) (o : Option Order) (more : List Order) → AllByRecursion (IsFitting n) (cons_option o more) → IfSome o (IsFitting n)
-fits-head n None more all = tt
-fits-head n (Some order) more all = all.0
-
-pub built-fits : (nodes : List DocumentNode) (text : List ℕ) (items : List TrafficItem) (counts : List Count) (line rest more : List ℕ)
-    → lines rest ≡ line ∷ lines more → IsBuilt nodes text items counts rest → IfSome (order_said nodes line) (IsFitting (length counts))
-built-fits nodes text items counts line rest more is b =
-    fits-head (length counts) (order_said nodes line) (orders_of nodes (lines more))
-    (subst (λ (ls : List (List ℕ)). AllByRecursion (IsFitting (length counts)) (orders_of nodes ls)) is b.fits)
-
 pub built-small : (nodes : List DocumentNode) (text : List ℕ) (items : List TrafficItem) (counts : List Count) (rest : List ℕ)
     → IsBuilt nodes text items counts rest → All (λ count. count.all ≤ length items) counts
 built-small nodes text items counts rest b =

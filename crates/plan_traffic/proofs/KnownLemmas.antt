@@ -147,7 +147,7 @@ in-order before (Issues place access ∷ more) items number tells =
 
 -- ---- how much it is
 
-items-length : (before orders : List Order) → length (items_after before orders) ≡ length (issued orders)
+pub items-length : (before orders : List Order) → length (items_after before orders) ≡ length (issued orders)
 items-length before [] = refl
 items-length before (Holds place ∷ more) = items-length (before ++ Holds place ∷ []) more
 items-length before (Issues place access ∷ more) = ap suc (items-length (before ++ Issues place access ∷ []) more)

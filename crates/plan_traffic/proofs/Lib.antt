@@ -5,6 +5,7 @@ pub mod FormLemmas
 pub mod BurstLemmas
 pub mod AcceptLemmas
 pub mod KnownLemmas
+pub mod ReadLemmas
 mod KnownValues
 pub mod LeastLemmas
 pub mod PortFacts

@@ -18,8 +18,6 @@ mod managers;
 mod order;
 mod read;
 mod refusal;
-#[cfg(test)]
-mod tests;
 mod transactions;
 
 pub use bound::round_bound;

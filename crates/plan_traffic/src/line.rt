@@ -1,9 +1,9 @@
 //! What a line of traffic says, read where it lies in the text, so that reading takes no memory.
 
-ghost use Rattle.std.specs.Prelude.{◌≡◌, ◌<◌, ◌≤◌, ◌^◌, ◌-◌, ◌%◌, option_map, IfSome};
+ghost use Rattle.std.specs.Prelude.{◌≡◌, ◌<◌, ◌≤◌, ◌^◌, ◌-◌, ◌%◌, option_and_then, option_map, IfSome};
 ghost use Rattle.plain_text.specs.Words.{words};
 ghost use Rattle.plan_traffic.specs.Line.{beats_named, burst_named, first_pairs, form_said, is_passed, line_said, other_pairs, read_said, size_named, start_of, wait_said, write_said};
-ghost use Rattle.plan_traffic.specs.Seen.{line_seen, start_seen};
+ghost use Rattle.plan_traffic.specs.Seen.{form_seen, line_seen, start_seen, HasBeatSize};
 
 use crate::data::count_data_words;
 use axi_beats::Burst;
@@ -30,6 +30,19 @@ pub(crate) struct TextAccess<'a> {
     pub data: &'a [u8],
 }
 
+/// What a line of traffic says, where its data words aren't read yet.
+#[derive(Debug, Clone, Copy)]
+pub(crate) enum TextForm<'a> {
+    /// Nothing, as below.
+    Nothing,
+    /// This manager waits, as below.
+    Wait(&'a [u8]),
+    /// A manager reads so many beats.
+    Read(TextStart<'a>, u64),
+    /// A manager writes the data words that are the rest of the line.
+    Write(TextStart<'a>, &'a [u8]),
+}
+
 /// What a line of traffic says.
 #[derive(Debug, Clone, Copy)]
 pub(crate) enum TextLine<'a> {
@@ -46,8 +59,35 @@ pub(crate) enum TextLine<'a> {
 pub(crate) fn read_line(line: &[u8]) -> Option<TextLine<'_>>
     ensures { option_map line_seen result ≡ line_said line.now }
 {
+    match read_form(line)? {
+        TextForm::Nothing => Some(TextLine::Nothing),
+        TextForm::Wait(manager) => Some(TextLine::Wait(manager)),
+        TextForm::Read(start, beats) => Some(TextLine::Burst(TextAccess {
+            start,
+            write: false,
+            beats,
+            data: line,
+        })),
+        TextForm::Write(start, data) => {
+            let beats = count_data_words(data, first_pairs(&start), other_pairs(&start))?;
+            Some(TextLine::Burst(TextAccess {
+                start,
+                write: true,
+                beats,
+                data,
+            }))
+        }
+    }
+}
+
+/// The form of a line, or `None` where it has none. Data words are still to be read.
+#[tactic(auto, unfolding(crate::specs::Line::said_by))]
+pub(crate) fn read_form(line: &[u8]) -> Option<TextForm<'_>>
+    ensures said { option_and_then form_seen result ≡ line_said line.now }
+    ensures size { IfSome result HasBeatSize }
+{
     if is_passed(line) {
-        Some(TextLine::Nothing)
+        Some(TextForm::Nothing)
     } else {
         parse_form(line)
     }
@@ -65,8 +105,9 @@ fn is_passed(line: &[u8]) -> bool
 
 // What a line says that isn't passed over.
 #[tactic(auto, unfolding(crate::specs::Line::form_said))]
-fn parse_form(line: &[u8]) -> Option<TextLine<'_>>
-    ensures { option_map line_seen result ≡ form_said (words line.now) }
+fn parse_form(line: &[u8]) -> Option<TextForm<'_>>
+    ensures said { option_and_then form_seen result ≡ form_said (words line.now) }
+    ensures size { IfSome result HasBeatSize }
 {
     let (verb, line) = next_word(line)?;
     if is_word(verb, b"write") {
@@ -82,35 +123,25 @@ fn parse_form(line: &[u8]) -> Option<TextLine<'_>>
 
 // The words after `write`.
 #[tactic(auto, unfolding(crate::specs::Line::write_said))]
-fn parse_write(line: &[u8]) -> Option<TextLine<'_>>
-    ensures { option_map line_seen result ≡ write_said (words line.now) }
+fn parse_write(line: &[u8]) -> Option<TextForm<'_>>
+    ensures said { option_and_then form_seen result ≡ write_said (words line.now) }
+    ensures size { IfSome result HasBeatSize }
 {
-    let (start, line) = parse_start(line)?;
-    let beats = count_data_words(line, first_pairs(&start), other_pairs(&start))?;
-    Some(TextLine::Burst(TextAccess {
-        start,
-        write: true,
-        beats,
-        data: line,
-    }))
+    let (start, data) = parse_start(line)?;
+    Some(TextForm::Write(start, data))
 }
 
 // The words after `read`.
 #[tactic(auto, unfolding(crate::specs::Line::read_said))]
-fn parse_read(line: &[u8]) -> Option<TextLine<'_>>
-    ensures { option_map line_seen result ≡ read_said (words line.now) }
+fn parse_read(line: &[u8]) -> Option<TextForm<'_>>
+    ensures said { option_and_then form_seen result ≡ read_said (words line.now) }
+    ensures size { IfSome result HasBeatSize }
 {
     let (start, line) = parse_start(line)?;
     let (word, line) = next_word(line)?;
     let beats = parse_beats(word)?;
-    let access = TextAccess {
-        start,
-        write: false,
-        beats,
-        data: line,
-    };
     if has_no_word(line) {
-        Some(TextLine::Burst(access))
+        Some(TextForm::Read(start, beats))
     } else {
         None
     }
@@ -118,12 +149,13 @@ fn parse_read(line: &[u8]) -> Option<TextLine<'_>>
 
 // The words after `wait`.
 #[tactic(auto, unfolding(crate::specs::Line::wait_said))]
-fn parse_wait(line: &[u8]) -> Option<TextLine<'_>>
-    ensures { option_map line_seen result ≡ wait_said (words line.now) }
+fn parse_wait(line: &[u8]) -> Option<TextForm<'_>>
+    ensures said { option_and_then form_seen result ≡ wait_said (words line.now) }
+    ensures size { IfSome result HasBeatSize }
 {
     let (manager, line) = next_word(line)?;
     if has_no_word(line) {
-        Some(TextLine::Wait(manager))
+        Some(TextForm::Wait(manager))
     } else {
         None
     }
@@ -207,9 +239,9 @@ fn parse_beats(word: &[u8]) -> Option<u64>
     if count == 0 { None } else { Some(count) }
 }
 
-// The number of valid lanes of the first beat: from the address to the end of its aligned block. (Arm
-// IHI 0022, burst address structure.)
-fn first_pairs(start: &TextStart<'_>) -> u64
+/// The number of valid lanes of the first beat: from the address to the end of its aligned block. (Arm
+/// IHI 0022, burst address structure.)
+pub(crate) fn first_pairs(start: &TextStart<'_>) -> u64
     requires { start.now.size ≤ 7 }
     ensures value { result ≡ first_pairs (start_seen start.now) }
     ensures small { result ≤ 128 }
@@ -217,8 +249,8 @@ fn first_pairs(start: &TextStart<'_>) -> u64
     beat_bytes(start.size) - start.addr % beat_bytes(start.size)
 }
 
-// The number of valid lanes of each other beat. Each beat of a FIXED burst has those of the first one.
-fn other_pairs(start: &TextStart<'_>) -> u64
+/// The number of valid lanes of each other beat. Each beat of a FIXED burst has those of the first one.
+pub(crate) fn other_pairs(start: &TextStart<'_>) -> u64
     requires { start.now.size ≤ 7 }
     ensures value { result ≡ other_pairs (start_seen start.now) }
     ensures small { result ≤ 128 }

@@ -9,7 +9,6 @@ use crate::build::collect_items;
 use crate::order::is_too_much;
 use crate::refusal::least_refusal;
 use crate::transactions::Traffic;
-use axi_beats::NoMemory;
 use elaborate::Plan;
 use refusals::{Cause, DocFault, Refusal};
 use std::alloc::Global;
@@ -40,12 +39,20 @@ fn read_lines(alloc: Global, text: &[u8], nodes: &Wiring) -> Result<Traffic, Doc
     ensures known { IfOk result (IsTraffic nodes.now) }
     ensures refused { IfErr result (IsRefusal (traffic_refusal nodes.now (lines text.now))) }
 {
-    if let Some(refusal) = traffic_refusal(text, nodes) {
-        return Err(DocFault::Refused(refusal));
-    }
     match collect_items(alloc, text, nodes) {
-        Ok(items) => Ok(Traffic::from_items(items)),
-        Err(NoMemory) => Err(DocFault::NoMemory),
+        Some(items) => Ok(Traffic::from_items(items)),
+        None => Err(fault_of(text, nodes)),
+    }
+}
+
+// What is wrong with lines that gave no transactions: their refusal, or else memory was wanting.
+fn fault_of(text: &[u8], nodes: &Wiring) -> DocFault
+    requires text { length text.now ≤ 16777216 }
+    ensures { IsRefusal (traffic_refusal nodes.now (lines text.now)) result }
+{
+    match traffic_refusal(text, nodes) {
+        Some(refusal) => DocFault::Refused(refusal),
+        None => DocFault::NoMemory,
     }
 }
 

@@ -1,15 +1,15 @@
 //! Why lines of traffic are refused.
 
-ghost use Rattle.std.specs.Prelude.{◌≡◌, ◌-◌, ◌<◌, ◌^◌, Some, length};
+ghost use Rattle.std.specs.Prelude.{◌≡◌, ◌-◌, ◌<◌, ◌≤◌, ◌^◌, ℕ, [], false, IfSome, None, Some, length};
 ghost use Rattle.axi_beats.specs.Bus.{IsBusWidth};
 ghost use Rattle.burst_address.specs.Legal.{broken_rule};
 ghost use Rattle.plain_text.specs.Lines.{lines};
 ghost use Rattle.topology.specs.Document.{node_at};
 ghost use Rattle.plan_traffic.specs.LineRefusals.{burst_refusal, lesser_of, least_refusal, line_refusal, request_said, rule_number};
 ghost use Rattle.plan_traffic.specs.Ports.{IsPort};
-ghost use Rattle.plan_traffic.specs.Seen.{access_seen};
+ghost use Rattle.plan_traffic.specs.Seen.{access_of, access_seen, start_seen};
 
-use crate::line::{TextAccess, TextLine, read_line};
+use crate::line::{TextAccess, TextLine, TextStart, read_line};
 use crate::managers::manager_called;
 use axi_beats::{Addr, Burst, Tag};
 use burst_address::{BurstRule, legal};
@@ -84,6 +84,31 @@ fn burst_refusal(
     Some(Refusal::illegal_burst(number, rule_number(rule)))
 }
 
+/// The request for a burst that the manager at a place may issue, or `None` where the burst is refused.
+/// A write and a read that start alike and have as many beats are refused alike.
+pub(crate) fn allowed_request(
+    start: &TextStart<'_>,
+    beats: u64,
+    nodes: &Wiring,
+    place: u32,
+) -> Option<Addr>
+    requires inside { place < length nodes.now }
+    requires port { IsPort (node_at nodes.now place) }
+    ensures allowed { IfSome result (λ _. (number : ℕ) → burst_refusal number (access_of (start_seen start.now) false beats []) (Some (node_at nodes.now place)) ≡ None) }
+    ensures request { IfSome result (λ request. request ≡ request_said (access_of (start_seen start.now) false beats [])) }
+    ensures few { IfSome result (λ _. beats ≤ 256) }
+{
+    let last = beats.saturating_sub(1);
+    if last > 255 || u64::from(start.id) >= 1 << nodes.id_width(place) {
+        return None;
+    }
+    let request = request_from(start, last as u8);
+    match legal(&request, nodes.bus(place)) {
+        Ok(()) => Some(request),
+        Err(_) => None,
+    }
+}
+
 // The number of a rule that a burst can break (Arm IHI 0022, burst size, burst length, burst type).
 fn rule_number(rule: BurstRule) -> u8
     ensures { result ≡ rule_number rule }
@@ -139,17 +164,24 @@ fn broken_by(request: &Addr, bus: u8) -> Option<BurstRule>
     }
 }
 
-/// The request for a burst, the number of whose last beat is `len`, counted from 0. Its tag isn't used,
-/// since a manager tags its beats itself.
-pub(crate) fn request_said(access: &TextAccess<'_>, len: u8) -> Addr
+// The request for a burst, the number of whose last beat is `len`, counted from 0. Its tag isn't used,
+// since a manager tags its beats itself.
+fn request_said(access: &TextAccess<'_>, len: u8) -> Addr
     ensures { result ≡ record (request_said (access_seen access.now)) { len = len } }
 {
+    request_from(&access.start, len)
+}
+
+// The same, for a burst that starts so.
+fn request_from(start: &TextStart<'_>, len: u8) -> Addr
+    ensures { result ≡ record (request_said (access_of (start_seen start.now) false 1 [])) { len = len } }
+{
     Addr {
-        id: access.start.id,
-        addr: access.start.addr,
+        id: start.id,
+        addr: start.addr,
         len,
-        size: access.start.size,
-        burst: access.start.burst,
+        size: start.size,
+        burst: start.burst,
         tag: Tag::default(),
     }
 }

@@ -2,7 +2,7 @@
 use Rattle.std.proofs.Common.{◌≡◌, ◌≤◌, ◌+◌, drop}
 use Rattle.plain_text.specs.Numbers.{number_in}
 use Rattle.plain_text.proofs.NumberLaws.{number_after}
-use Rattle.plain_text.proofs.spelling.hexadecimal_up_to.Given as goal
+use Rattle.plain_text.proofs.spelling.wide_hexadecimal.Given as goal
 
 abbrev pub invariant-loop-byte : goal.invariant-loop-byte
 invariant-loop-byte l =

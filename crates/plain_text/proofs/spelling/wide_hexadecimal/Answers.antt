@@ -1,7 +1,7 @@
 use Rattle.std.proofs.Common.{◌≡◌, ◌≤◌, ◌+◌, ◌*◌, None, rules, arith, sym, ◌∙◌}
 use Rattle.plain_text.specs.Numbers.{number_in}
 use Rattle.plain_text.proofs.NumberLaws.{number_in_empty, number_in_from_zero, number_after_exceeds}
-use Rattle.plain_text.proofs.spelling.hexadecimal_up_to.Goals as goal
+use Rattle.plain_text.proofs.spelling.wide_hexadecimal.Goals as goal
 
 pub returns-then-is_empty-clause-number : goal.returns-then-is_empty-clause-number
 returns-then-is_empty-clause-number c = sym (number_in_empty c.args.digits.now 16 (c.args.most + 1) (search rules))
