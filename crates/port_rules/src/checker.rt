@@ -173,7 +173,7 @@ impl PortChecker {
         if fault.is_none() {
             transfer_writes(&mut self.writes, r);
             transfer_reads(&mut self.reads, r);
-            self.waits = Waits::after(r);
+            self.waits.keep_after(r);
         }
         fault
     }

@@ -12,7 +12,7 @@ ghost use Rattle.port_rules.specs.Unpaired.{is_usable, with_offers, data_fault};
 ghost use Rattle.port_rules.specs.Offers.{new_offer as new_offer_of, fault_of_offer};
 
 use crate::address::address_fault;
-use crate::offer::{new_offer, transferred, waiting};
+use crate::offer::{keep_waiting, new_offer, transferred};
 use crate::payload::handshake_fault;
 use crate::reads::Reads;
 use crate::state::Bursts;
@@ -45,17 +45,15 @@ impl Waits {
         }
     }
 
-    /// What waits after a round.
-    pub(crate) fn after(r: &PortRound) -> Waits
-        ensures { result ≡ waits_after r.now }
+    /// Keeps what waits after a round.
+    pub(crate) fn keep_after(&mut self, r: &PortRound)
+        ensures { self.new ≡ waits_after r.now }
     {
-        Waits {
-            aw: waiting(&r.aw),
-            w: waiting(&r.w),
-            b: waiting(&r.b),
-            ar: waiting(&r.ar),
-            r: waiting(&r.r),
-        }
+        keep_waiting(&mut self.aw, &r.aw);
+        keep_waiting(&mut self.w, &r.w);
+        keep_waiting(&mut self.b, &r.b);
+        keep_waiting(&mut self.ar, &r.ar);
+        keep_waiting(&mut self.r, &r.r);
     }
 }
 

@@ -6,6 +6,7 @@ pub mod JudgeLemmas
 pub mod LineLemmas
 pub mod FollowLemmas
 pub mod TableLemmas
+pub mod EntryLemmas
 pub mod FaultLemmas
 pub mod ReadLemmas
 pub mod VerdictLemmas

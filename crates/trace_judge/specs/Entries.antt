@@ -1,9 +1,9 @@
 -- How what is kept at the place of a link fits the lines of a trace that were read.
-use Rattle.std.specs.Prelude.{◌≡◌, ◌<◌, ◌≤◌, ℕ, List, Option, Some, None, true}
+use Rattle.std.specs.Prelude.{◌≡◌, ◌<◌, ◌≤◌, ◌+◌, ◌++◌, ◌∷◌, [], ℕ, List, Option, Some, None, true, length}
 use Rattle.std.specs.List.{find, last_or, list_all}
 use Rattle.axi_history.specs.declared.port.PortKind.{PortKind}
 use Rattle.axi_history.specs.declared.port.PortRound.{PortRound}
-use Rattle.trace_judge.specs.Follows.{CanGoOn, Follows, HasNotJudged}
+use Rattle.trace_judge.specs.Follows.{CanGoOn, Follows, HasJudgedTo, HasNotJudged}
 use Rattle.trace_judge.specs.Histories.{is_of_link, port_of_link, quiet_round}
 use Rattle.trace_judge.specs.Lines.{agrees_with, comes_after}
 use Rattle.trace_judge.specs.declared.link_judge.LinkJudge.{LinkJudge}
@@ -34,3 +34,11 @@ EntryTakes (Some state) kind = (state.port ≡ kind) × CanGoOn state.judge stat
 abbrev pub EntryFollows : Option LinkState → List PortRound → PortRound → Type 0
 EntryFollows None lines r = find (is_of_link r.link) lines ≡ None
 EntryFollows (Some state) lines r = HasNotJudged state.judge r.round × Follows state.judge state.port lines r.link
+
+-- What is kept of a link after the line that comes next, of this number, and what it fits if what was kept before did.
+pub record HasTaken (before after : Option LinkState) (line : ℕ) (r : PortRound) : Type 0 where
+  pub state : LinkState
+  pub kept : after ≡ Some state
+  pub port : state.port ≡ r.kind
+  pub rounds : HasJudgedTo state.judge r.round
+  pub follows : (lines : List PortRound) → line ≡ length lines + 1 → EntryFollows before lines r → Follows state.judge r.kind (lines ++ r ∷ []) r.link

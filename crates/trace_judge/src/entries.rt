@@ -1,10 +1,8 @@
 //! The places of the links in the table of a trace: how one is looked up, added, and given a line.
-ghost use Rattle.std.specs.Prelude.{◌≡◌, ◌≢◌, ◌<◌, ◌≤◌, ◌+◌, ◌∷◌, ◌++◌, [], ℕ, List, length, max, option_map, IfOk, OnOk, Some};
+ghost use Rattle.std.specs.Prelude.{◌≡◌, ◌≢◌, ◌<◌, ◌≤◌, ◌+◌, ℕ, length, max, option_map, IfOk, OnOk, None, Some};
 ghost use Rattle.axi_beats.specs.Bus.{IsBusWidth};
-ghost use Rattle.axi_history.specs.declared.port.PortRound.{PortRound as Round};
 ghost use Rattle.port_rules.specs.StandsFor.{HasSmallAddresses};
-ghost use Rattle.trace_judge.specs.Entries.{EntryFollows, EntryTakes};
-ghost use Rattle.trace_judge.specs.Follows.{Follows, HasJudgedTo};
+ghost use Rattle.trace_judge.specs.Entries.{EntryTakes, HasTaken};
 ghost use Rattle.trace_judge.specs.Table.{link_entry};
 
 use crate::link_state::LinkState;
@@ -47,38 +45,42 @@ pub(crate) fn add_to_link(
     requires takes { EntryTakes (link_entry links.old.items r.now.link) r.now.kind }
     ensures size { OnOk result (length links.new.items ≡ length links.old.items) }
     ensures others { OnOk result ((k : ℕ) → k ≢ r.now.link → link_entry links.new.items k ≡ link_entry links.old.items k) }
-    ensures entry { OnOk result ((state : _) × (link_entry links.new.items r.now.link ≡ Some state)
-        × (state.port ≡ r.now.kind) × HasJudgedTo state.judge r.now.round
-        × ((lines : List Round) → line ≡ length lines + 1 →
-        EntryFollows (link_entry links.old.items r.now.link) lines r.now →
-        Follows state.judge r.now.kind (lines ++ r.now ∷ []) r.now.link)) }
+    ensures entry { OnOk result
+        (HasTaken (link_entry links.old.items r.now.link) (link_entry links.new.items r.now.link) line r.now) }
 {
-    let place = r.link as usize;
-    let entry = links[place].take();
-    let state = with_line(alloc, entry, r, line)?;
-    links[place] = Some(state);
-    Ok(())
+    add_line(&mut links[r.link as usize], alloc, r, line)
 }
 
-/// A link with one more line, which is its first one where nothing is kept of it.
-fn with_line(
+/// Gives a line to what is kept of its link, where it stands. It is the first line where nothing is kept.
+fn add_line(
+    entry: &mut Option<LinkState>,
     alloc: Global,
-    entry: Option<LinkState>,
     r: &PortRound,
     line: u32,
-) -> Result<LinkState, NoMemory>
+) -> Result<(), NoMemory>
     requires bus { IsBusWidth r.now.kind.bus }
     requires small { HasSmallAddresses r.now }
     requires first { 1 ≤ r.now.round }
-    requires takes { EntryTakes entry r.now.kind }
-    ensures port { IfOk result (λ state. state.port ≡ r.now.kind) }
-    ensures rounds { IfOk result (λ state. HasJudgedTo state.judge r.now.round) }
-    ensures follows { IfOk result (λ state. (lines : List Round) → line ≡ length lines + 1 →
-        EntryFollows entry lines r.now →
-        Follows state.judge r.now.kind (lines ++ r.now ∷ []) r.now.link) }
+    requires takes { EntryTakes entry.old r.now.kind }
+    ensures { OnOk result (HasTaken entry.old entry.new line r.now) }
 {
     match entry {
-        Some(state) => state.with_line(r, line),
-        None => LinkState::new(alloc, r.kind).with_line(r, line),
+        Some(state) => state.take_line(r, line),
+        None => {
+            *entry = Some(first_line(alloc, r, line)?);
+            Ok(())
+        }
     }
+}
+
+/// A link with its first line, of this number.
+fn first_line(alloc: Global, r: &PortRound, line: u32) -> Result<LinkState, NoMemory>
+    requires bus { IsBusWidth r.now.kind.bus }
+    requires small { HasSmallAddresses r.now }
+    requires first { 1 ≤ r.now.round }
+    ensures { IfOk result (λ state. HasTaken None (Some state) line r.now) }
+{
+    let mut state = LinkState::new(alloc, r.kind);
+    state.take_line(r, line)?;
+    Ok(state)
 }

@@ -13,8 +13,6 @@ mod known;
 mod link_judge;
 mod link_state;
 mod table;
-#[cfg(test)]
-mod tests;
 mod trace;
 mod verdict;
 

@@ -1,10 +1,11 @@
 //! What is kept of one link of a trace: its port, and its judge.
-ghost use Rattle.std.specs.Prelude.{◌≡◌, ◌<◌, ◌≤◌, ◌+◌, ◌∷◌, ◌++◌, [], ℕ, List, None, length, IfOk};
+ghost use Rattle.std.specs.Prelude.{◌≡◌, ◌<◌, ◌≤◌, ℕ, List, None, Some, IfOk, OnOk};
 ghost use Rattle.std.specs.List.{find};
 ghost use Rattle.axi_beats.specs.Bus.{IsBusWidth};
 ghost use Rattle.axi_history.specs.declared.port.PortRound.{PortRound as Round};
 ghost use Rattle.port_rules.specs.StandsFor.{HasSmallAddresses};
-ghost use Rattle.trace_judge.specs.Follows.{CanGoOn, Follows, HasJudgedTo, HasNotJudged, TellsOf};
+ghost use Rattle.trace_judge.specs.Entries.{HasTaken};
+ghost use Rattle.trace_judge.specs.Follows.{CanGoOn, Follows, HasJudgedTo, TellsOf};
 ghost use Rattle.trace_judge.specs.Histories.{greatest_round, is_of_link};
 
 use crate::link_judge::{LinkFault, LinkJudge};
@@ -35,23 +36,18 @@ impl LinkState {
         }
     }
 
-    /// The link with its next line, of this number. The checker is given at most two rounds for it: the row of rounds
-    /// without a line before it, and its own.
-    pub(crate) fn with_line(self, r: &PortRound, line: u32) -> Result<LinkState, NoMemory>
-        requires kind { r.now.kind ≡ self.port }
-        requires serves { CanGoOn self.judge self.port }
+    /// Takes the next line of the link, of this number. The checker is given at most two rounds for it: the row of rounds
+    /// without a line before it, and its own. Without memory the link is lost.
+    pub(crate) fn take_line(&mut self, r: &PortRound, line: u32) -> Result<(), NoMemory>
+        requires kind { r.now.kind ≡ self.old.port }
+        requires serves { CanGoOn self.old.judge self.old.port }
         requires small { HasSmallAddresses r.now }
         requires first { 1 ≤ r.now.round }
-        ensures port { IfOk result (λ after. after.port ≡ self.port) }
-        ensures rounds { IfOk result (λ after. HasJudgedTo after.judge r.now.round) }
-        ensures follows { IfOk result (λ after. (lines : List Round) → line ≡ length lines + 1 →
-            HasNotJudged self.judge r.now.round →
-            Follows self.judge self.port lines r.now.link → Follows after.judge self.port (lines ++ r.now ∷ []) r.now.link) }
+        ensures { OnOk result (HasTaken (Some self.old) (Some self.new) line r.now) }
     {
-        let LinkState { port, mut judge } = self;
-        judge.pass(port, r.round - 1)?;
-        judge.next(r, line)?;
-        Ok(LinkState { port, judge })
+        self.judge.pass(self.port, r.round - 1)?;
+        self.judge.next(r, line)?;
+        Ok(())
     }
 
     /// What the link breaks first up to the last round of the trace.

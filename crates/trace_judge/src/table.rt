@@ -13,7 +13,7 @@ use crate::link_state::LinkState;
 use axi_beats::NoMemory;
 use axi_history::{PortKind, PortRound};
 use std::alloc::Global;
-use trace_text::read_trace_line;
+use trace_text::read_round;
 
 /// What is kept of the lines of a trace.
 #[derive(Drop)]
@@ -38,18 +38,24 @@ impl TraceTable {
         }
     }
 
-    /// Takes a line, or answers that it is refused. A trace has fewer than 2^25 lines, as it has at most 2^24 bytes;
+    /// Takes a line, or answers that it is refused. What the line shows is written into the round that is lent. A trace has fewer than 2^25 lines, as it has at most 2^24 bytes;
     /// with two rounds a line no checker comes near its 2^31 rounds.
-    pub(crate) fn take_line(&mut self, alloc: Global, line: &str) -> Result<bool, NoMemory>
+    pub(crate) fn take_line(
+        &mut self,
+        alloc: Global,
+        r: &mut PortRound,
+        line: &str,
+    ) -> Result<bool, NoMemory>
         requires stands { (lines : List Round) × TableStands self.old lines }
         requires few { self.old.lines < 2 ^ 25 }
         ensures lines { IfOk result (λ taken. self.new.lines ≡ self.old.lines + (if taken then 1 else 0)) }
         ensures taken { IfOk result (λ taken. (lines : List Round) → TableStands self.old lines →
             TakesLine taken self.new lines (taken_after lines (trace_round_of line.now))) }
     {
-        match read_trace_line(line) {
-            Ok(r) => self.take_round(alloc, &r),
-            Err(_) => Ok(false),
+        if read_round(r, line) {
+            self.take_round(alloc, r)
+        } else {
+            Ok(false)
         }
     }
 

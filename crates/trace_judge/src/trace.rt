@@ -11,6 +11,7 @@ use crate::faults::first_fault;
 use crate::table::TraceTable;
 use crate::verdict::Verdict;
 use axi_beats::NoMemory;
+use axi_history::PortRound;
 use plain_text::separator::is_separator;
 use std::alloc::Global;
 
@@ -37,11 +38,12 @@ fn read_lines(table: &mut TraceTable, alloc: Global, text: &str) -> Result<Optio
     ensures read { IfOk result (λ refused. IsRead refused table.new (shown_by (judged_lines text.now))) }
     ensures few { OnOk result (table.new.lines < 2 ^ 25) }
 {
+    let mut shown = PortRound::default();
     for line in text.lines() {
         if is_separator(line.as_bytes()) {
             return Ok(None);
         }
-        if !table.take_line(alloc, line)? {
+        if !table.take_line(alloc, &mut shown, line)? {
             return Ok(Some(table.lines + 1));
         }
     }

@@ -1,6 +1,7 @@
 -- A trace line is read as it was written, and written as it was read.
-use Rattle.std.proofs.Common.{◌≡◌, ℕ, ◌≤◌, List, ◌∷◌, ◌++◌, Some, refl, ap, sym, subst, ◌∙◌, lit≤}
-use Rattle.std.specs.Prelude.{IfSome}
+use Rattle.std.proofs.Common.{◌≡◌, ℕ, ◌≤◌, Bool, true, false, List, ◌∷◌, ◌++◌, Some, None, refl, ap, sym, subst, ◌∙◌, lit≤}
+use Rattle.std.specs.Prelude.{IfSome, if◌then◌else◌}
+use Rattle.std.proofs.lemmas.Option.{none-some}
 use Rattle.std.specs.Fmt.{decimal}
 use Rattle.plain_text.specs.Exact.{IsExact, IsExactBefore, write_before}
 use Rattle.plain_text.proofs.FieldLaws.{bind_some, some_is}
@@ -74,3 +75,13 @@ trace_round_of-line r text line = ap trace_round_of line.text_is ∙ line_comple
 
 pub lines_are_unique : LinesAreUnique
 lines_are_unique r s text p q = some_is r s (sym (trace_round_of-line r text p) ∙ trace_round_of-line s text q)
+
+-- what is told of a text by an answer that says whether its round was taken over
+pub line_into : (text : List ℕ) (r : PortRound) (taken : Bool) → trace_round_of text ≡ (if taken then Some r else None) → taken ≡ true → Line r text
+line_into text r taken e is = line_sound text r (e ∙ ap (λ b. if b then Some r else None) is)
+
+pub line_only : (text : List ℕ) (r s : PortRound) (taken : Bool) → trace_round_of text ≡ (if taken then Some s else None) → taken ≡ true → Line r text → s ≡ r
+line_only text r s taken e is line = some_is s r (sym (e ∙ ap (λ b. if b then Some s else None) is) ∙ trace_round_of-line r text line)
+
+pub line_none : (text : List ℕ) (r s : PortRound) (taken : Bool) → trace_round_of text ≡ (if taken then Some s else None) → taken ≡ false → Line r text → ⊥
+line_none text r s taken e is line = none-some r (sym (e ∙ ap (λ b. if b then Some s else None) is) ∙ trace_round_of-line r text line)

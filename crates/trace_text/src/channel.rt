@@ -1,27 +1,82 @@
 //! What a channel offers: nothing, or a beat behind its mark.
 
-ghost use Rattle.std.specs.Prelude.{◌≡◌, ◌+◌, ◌≤◌, ◌++◌, ◌∷◌, [], length, option_map};
+ghost use Rattle.std.specs.Prelude.{◌≡◌, ◌+◌, ◌≤◌, ◌++◌, ◌∷◌, [], None, Some, length, option_map};
 ghost use Rattle.axi_beats.specs.Bus.{IsBusWidth};
 ghost use Rattle.trace_text.specs.Form.{channel_text, mark};
-ghost use Rattle.trace_text.specs.Reading.{channel_in, mark_before};
+ghost use Rattle.trace_text.specs.Reading.{channel_before, channel_in, mark_before};
 
 use crate::trace_beat::TraceBeat;
 use axi_history::Seen;
+use plain_text::fields::field_before;
 use plain_text::line_buffer::LineBuffer;
 use plain_text::words::is_word;
 
-// What a channel of a port with a bus of so many bytes offers: nothing, which is `-`, or a beat behind
-// its mark.
-pub(crate) fn channel_in<B: TraceBeat>(word: &[u8], bus: u8) -> Option<Option<Seen<B>>>
+// Takes over what a channel offers by the word before the first space, and answers the text behind
+// that space.
+#[tactic(auto, unfolding(crate::specs::Reading::channel_before))]
+pub(crate) fn channel_before<'a, B: TraceBeat>(
+    offered: &mut Option<Seen<B>>,
+    text: &'a [u8],
+    bus: u8,
+) -> Option<&'a [u8]>
     requires { IsBusWidth bus }
-    ensures { result ≡ channel_in (B.read_of bus) word.now }
+    ensures { option_map (λ rest. (offered.new, rest.now)) result ≡ channel_before (B.read_of bus) text.now }
+{
+    let (word, rest) = field_before(text, b' ')?;
+    read_channel(offered, word, bus)?;
+    Some(rest)
+}
+
+// Takes over what a channel of a port with a bus of so many bytes offers: nothing, which is `-`, or a
+// beat behind its mark.
+pub(crate) fn read_channel<B: TraceBeat>(
+    offered: &mut Option<Seen<B>>,
+    word: &[u8],
+    bus: u8,
+) -> Option<()>
+    requires { IsBusWidth bus }
+    ensures { option_map (λ _. offered.new) result ≡ channel_in (B.read_of bus) word.now }
 {
     if is_word(word, b"-") {
-        return Some(None);
+        offer_nothing(offered);
+        return Some(());
     }
     let (taken, fields) = mark_before(word)?;
-    let beat = B::read(fields, bus)?;
-    Some(Some(Seen { beat, taken }))
+    read_seen(offered, taken, fields, bus)
+}
+
+// Takes away the beat that was offered, if one was: writing None costs as much as writing a beat.
+fn offer_nothing<B: TraceBeat>(offered: &mut Option<Seen<B>>)
+    ensures { offered.new ≡ None }
+{
+    if offered.is_some() {
+        *offered = None;
+    }
+}
+
+// Takes over the beat that is offered, in the place of the one before, if there is one.
+fn read_seen<B: TraceBeat>(
+    offered: &mut Option<Seen<B>>,
+    taken: bool,
+    fields: &[u8],
+    bus: u8,
+) -> Option<()>
+    requires { IsBusWidth bus }
+    ensures { option_map (λ _. offered.new) result
+        ≡ option_map (λ (beat : B). Some (record { beat = beat; taken = taken })) (B.read_of bus fields.now) }
+{
+    match offered {
+        Some(seen) => {
+            seen.taken = taken;
+            seen.beat.read(fields, bus)
+        }
+        None => {
+            let mut beat = B::default();
+            beat.read(fields, bus)?;
+            *offered = Some(Seen { beat, taken });
+            Some(())
+        }
+    }
 }
 
 // Writes what a channel offers: `-` for nothing, else the beat behind its mark.

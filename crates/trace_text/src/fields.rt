@@ -108,21 +108,22 @@ pub(crate) fn push_bit_before(line: &mut LineBuffer, bit: bool, end: u8)
     line.push(&[end]);
 }
 
-// The lanes that two digits for each lane of the bus give, from lane 0 on; the lanes above it are 0.
-pub(crate) fn lanes_in(word: &[u8], bus: u8) -> Option<Lanes>
+// Takes over the lanes that two digits for each lane of the bus give, from lane 0 on; the lanes above
+// it are 0.
+pub(crate) fn read_lanes(lanes: &mut Lanes, word: &[u8], bus: u8) -> Option<()>
     requires { IsBusWidth bus }
-    ensures { result ≡ lanes_in bus word.now }
+    ensures { option_map (λ _. lanes.new) result ≡ lanes_in bus word.now }
 {
     if word.len() != 2 * usize::from(bus) {
         return None;
     }
-    let mut lanes = Lanes::zero();
+    *lanes = Lanes::zero();
     for lane in 0..bus {
         let place = 2 * usize::from(lane);
         let byte = read_pair(word[place], word[place + 1])?;
         lanes.set(lane, byte);
     }
-    Some(lanes)
+    Some(())
 }
 
 // The lanes of the bus from lane 0 on, and the byte that ends them.

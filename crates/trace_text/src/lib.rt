@@ -17,14 +17,12 @@ mod answers;
 mod channel;
 mod fields;
 mod reading;
-#[cfg(test)]
-mod tests;
 mod trace_beat;
 mod writing;
 
 pub use answers::render_answers;
 pub use plain_text::line_buffer::LineBuffer;
-pub use reading::{LineFault, read_trace_line};
+pub use reading::{LineFault, read_round, read_trace_line};
 pub use writing::render_round;
 
 /// The law that a text is the trace line of at most one round.

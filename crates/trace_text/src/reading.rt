@@ -1,13 +1,13 @@
 //! A trace line is read as a whole.
 
-ghost use Rattle.std.specs.Prelude.{◌≡◌, IfOk, IfSome, IsErr, option_map};
+ghost use Rattle.std.specs.Prelude.{◌≡◌, IfOk, IfSome, IsErr, IsTrue, None, Some, if◌then◌else◌, option_map};
 ghost use Rattle.std.specs.Option.{ok_or};
 ghost use Rattle.axi_beats.specs.Bus.{IsBusWidth};
 ghost use Rattle.trace_text.specs.Line.{Line};
 ghost use Rattle.trace_text.specs.Ranges.{is_port_kind};
 ghost use Rattle.trace_text.specs.Reading.{kind_before, trace_round_of, lite_in, round_before};
 
-use crate::channel::channel_in;
+use crate::channel::{channel_before, read_channel};
 use crate::fields::decimal_before;
 use axi_beats::is_bus_width;
 use axi_history::{PortKind, PortRound};
@@ -39,39 +39,43 @@ pub fn read_trace_line(line: &str) -> Result<PortRound, LineFault>
     // The answer as one definition.
     ensures exact { result ≡ ok_or (trace_round_of line.now) LineFault.BadTraceLine }
 {
-    match trace_round_of(line.as_bytes()) {
-        Some(round) => Ok(round),
-        None => Err(LineFault::BadTraceLine),
+    let mut round = PortRound::default();
+    if read_round(&mut round, line) {
+        Ok(round)
+    } else {
+        Err(LineFault::BadTraceLine)
     }
 }
 
-// The round whose trace line the text is, if there is one.
-#[tactic(auto, unfolding(crate::specs::Reading::trace_round_of, crate::specs::Reading::channel_before))]
-fn trace_round_of(text: &[u8]) -> Option<PortRound>
-    ensures { result ≡ trace_round_of text.now }
+/// Takes over the round whose trace line the text is, and answers whether there is one. Where there
+/// is none, anything may be left in the round that is lent.
+///
+/// A reader of many lines lends one round to all of them, and saves moving each.
+pub fn read_round(r: &mut PortRound, line: &str) -> bool
+    // What is read has this text as its trace line.
+    ensures found { IsTrue result → Line r.new line.now }
+    // The answer as one definition.
+    ensures exact { trace_round_of line.now ≡ (if result then Some r.new else None) }
+{
+    read_words(r, line.as_bytes()).is_some()
+}
+
+// Takes over the round whose trace line the text is, if there is one.
+#[tactic(auto, unfolding(crate::specs::Reading::trace_round_of))]
+fn read_words(r: &mut PortRound, text: &[u8]) -> Option<()>
+    ensures { option_map (λ _. r.new) result ≡ trace_round_of text.now }
 {
     let (round, rest) = round_before(text)?;
     let (link, rest) = decimal_before(rest, b' ', 4096)?;
     let (kind, rest) = kind_before(rest)?;
-    let (word, rest) = field_before(rest, b' ')?;
-    let aw = channel_in(word, kind.bus)?;
-    let (word, rest) = field_before(rest, b' ')?;
-    let w = channel_in(word, kind.bus)?;
-    let (word, rest) = field_before(rest, b' ')?;
-    let b = channel_in(word, kind.bus)?;
-    let (word, rest) = field_before(rest, b' ')?;
-    let ar = channel_in(word, kind.bus)?;
-    let r = channel_in(rest, kind.bus)?;
-    Some(PortRound {
-        round,
-        link: link as u32,
-        kind,
-        aw,
-        w,
-        b,
-        ar,
-        r,
-    })
+    r.round = round;
+    r.link = link as u32;
+    r.kind = kind;
+    let rest = channel_before(&mut r.aw, rest, kind.bus)?;
+    let rest = channel_before(&mut r.w, rest, kind.bus)?;
+    let rest = channel_before(&mut r.b, rest, kind.bus)?;
+    let rest = channel_before(&mut r.ar, rest, kind.bus)?;
+    read_channel(&mut r.r, rest, kind.bus)
 }
 
 // A round from 1 on.

@@ -1,13 +1,13 @@
 //! The beats of the channels, each as the text of its fields.
 
-ghost use Rattle.std.specs.Prelude.{◌≡◌, ℕ, ◌+◌, ◌≤◌, ◌++◌, List, Option, length};
+ghost use Rattle.std.specs.Prelude.{◌≡◌, ℕ, ◌+◌, ◌≤◌, ◌++◌, List, Option, length, option_map};
 ghost use Rattle.axi_beats.specs.Bus.{IsBusWidth};
 ghost use Rattle.trace_text.specs.Form.{address_text, read_data_text, response_text, write_data_text};
 ghost use Rattle.trace_text.specs.Reading.{address_in, read_data_in, response_in, write_data_in};
 
 use crate::fields::{
-    bit_before, decimal_before, greatest_strobe, hexadecimal_before, lanes_in, push_bit_before,
-    push_decimal_before, push_hexadecimal_before, push_lanes_before, push_tag, tag_in,
+    bit_before, decimal_before, greatest_strobe, hexadecimal_before, push_bit_before,
+    push_decimal_before, push_hexadecimal_before, push_lanes_before, push_tag, read_lanes, tag_in,
 };
 use axi_beats::WBeat;
 use axi_history::{RawAddr, RawB, RawR};
@@ -15,7 +15,7 @@ use plain_text::fields::field_before;
 use plain_text::line_buffer::LineBuffer;
 
 /// A beat that a channel of a trace line can offer.
-pub(crate) trait TraceBeat: Copy {
+pub(crate) trait TraceBeat: Copy + Default {
     // The text of a beat's fields, on a bus of so many bytes.
     ghost text_of: { ℕ → Self → List ℕ };
 
@@ -29,10 +29,10 @@ pub(crate) trait TraceBeat: Copy {
         ensures text { line.new ≡ line.old ++ text_of bus self.now }
         ensures room { length line.new ≤ length line.old + 500 };
 
-    /// The beat whose fields on this bus the text is, if there is one.
-    fn read(text: &[u8], bus: u8) -> Option<Self>
+    /// Takes over the beat whose fields on this bus the text is, if there is one.
+    fn read(&mut self, text: &[u8], bus: u8) -> Option<()>
         requires { IsBusWidth bus }
-        ensures { result ≡ read_of bus text.now };
+        ensures { option_map (λ _. self.new) result ≡ read_of bus text.now };
 }
 
 // A beat of AW or AR.
@@ -53,7 +53,7 @@ impl TraceBeat for RawAddr {
     }
 
     #[tactic(auto, unfolding(crate::specs::Reading::address_in))]
-    fn read(text: &[u8], _bus: u8) -> Option<RawAddr> {
+    fn read(&mut self, text: &[u8], _bus: u8) -> Option<()> {
         let (id, rest) = decimal_before(text, b',', 1 << 32)?;
         let (addr, rest) = hexadecimal_before(rest, b',', (1 << 63) - 1)?;
         let (len, rest) = decimal_before(rest, b',', 256)?;
@@ -61,7 +61,7 @@ impl TraceBeat for RawAddr {
         let (burst, rest) = decimal_before(rest, b',', 4)?;
         let (lock, rest) = bit_before(rest, b',')?;
         let tag = tag_in(rest)?;
-        Some(RawAddr {
+        *self = RawAddr {
             id: id as u32,
             addr: addr as u64,
             len: len as u8,
@@ -69,7 +69,8 @@ impl TraceBeat for RawAddr {
             burst: burst as u8,
             lock,
             tag,
-        })
+        };
+        Some(())
     }
 }
 
@@ -88,18 +89,16 @@ impl TraceBeat for WBeat {
     }
 
     #[tactic(auto, unfolding(crate::specs::Reading::write_data_in, crate::specs::Reading::lanes_before))]
-    fn read(text: &[u8], bus: u8) -> Option<WBeat> {
+    fn read(&mut self, text: &[u8], bus: u8) -> Option<()> {
         let (word, rest) = field_before(text, b',')?;
-        let lanes = lanes_in(word, bus)?;
+        read_lanes(&mut self.lanes, word, bus)?;
         let (strobe, rest) = hexadecimal_before(rest, b',', greatest_strobe(bus))?;
         let (last, rest) = bit_before(rest, b',')?;
         let tag = tag_in(rest)?;
-        Some(WBeat {
-            lanes,
-            strobe,
-            last,
-            tag,
-        })
+        self.strobe = strobe;
+        self.last = last;
+        self.tag = tag;
+        Some(())
     }
 }
 
@@ -117,15 +116,16 @@ impl TraceBeat for RawB {
     }
 
     #[tactic(auto, unfolding(crate::specs::Reading::response_in))]
-    fn read(text: &[u8], _bus: u8) -> Option<RawB> {
+    fn read(&mut self, text: &[u8], _bus: u8) -> Option<()> {
         let (id, rest) = decimal_before(text, b',', 1 << 32)?;
         let (resp, rest) = decimal_before(rest, b',', 4)?;
         let tag = tag_in(rest)?;
-        Some(RawB {
+        *self = RawB {
             id: id as u32,
             resp: resp as u8,
             tag,
-        })
+        };
+        Some(())
     }
 }
 
@@ -145,19 +145,17 @@ impl TraceBeat for RawR {
     }
 
     #[tactic(auto, unfolding(crate::specs::Reading::read_data_in, crate::specs::Reading::lanes_before))]
-    fn read(text: &[u8], bus: u8) -> Option<RawR> {
+    fn read(&mut self, text: &[u8], bus: u8) -> Option<()> {
         let (id, rest) = decimal_before(text, b',', 1 << 32)?;
         let (word, rest) = field_before(rest, b',')?;
-        let lanes = lanes_in(word, bus)?;
+        read_lanes(&mut self.lanes, word, bus)?;
         let (resp, rest) = decimal_before(rest, b',', 4)?;
         let (last, rest) = bit_before(rest, b',')?;
         let tag = tag_in(rest)?;
-        Some(RawR {
-            id: id as u32,
-            lanes,
-            resp: resp as u8,
-            last,
-            tag,
-        })
+        self.id = id as u32;
+        self.resp = resp as u8;
+        self.last = last;
+        self.tag = tag;
+        Some(())
     }
 }

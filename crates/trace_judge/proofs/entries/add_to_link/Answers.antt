@@ -1,7 +1,8 @@
--- The link is taken from its place, and put back with its line.
-use Rattle.std.proofs.Common.{◌≡◌, ◌<◌, List, Option, Some, None, length, sym, subst, ◌∙◌, length-set, set}
+-- What is kept of the link is changed at its place.
+use Rattle.std.proofs.Common.{◌≡◌, List, Option, None, sym, subst, set}
+use Rattle.std.specs.Result.{OnOk}
 use Rattle.std.proofs.lemmas.List.{get_or-set_same}
-use Rattle.trace_judge.specs.Entries.{EntryFollows}
+use Rattle.trace_judge.specs.Entries.{HasTaken}
 use Rattle.trace_judge.specs.Table.{link_entry}
 use Rattle.trace_judge.specs.declared.link_state.LinkState.{LinkState}
 use Rattle.trace_judge.proofs.FaultLemmas.{entry_at}
@@ -10,13 +11,8 @@ use Rattle.trace_judge.proofs.entries.add_to_link.Goals as goal
 pub returns-clause-entry : goal.returns-clause-entry
 returns-clause-entry c =
     let items : List (Option LinkState) = c.args.links.now.items in
-    let place = c.args.r.now.link in
-    let emptied : List (Option LinkState) = set items place c.take-entry.new.self in
-    let within : place < length emptied = subst (λ n. place < n) (sym (length-set items place c.take-entry.new.self)) c.requires.place in
-    let was : link_entry items place ≡ c.take-entry.result = entry_at items place c.index_mut.result.now c.requires.place c.index_mut.ensures.value ∙ sym c.take-entry.ensures.value in (
-      c.in_ok-state.state,
-      get_or-set_same emptied place (Some c.in_ok-state.state) None within,
-      c.in_ok-state.ensures.port,
-      c.in_ok-state.ensures.rounds,
-      λ lines is_next entry. c.in_ok-state.ensures.follows lines is_next (subst (λ (e : Option LinkState). EntryFollows e lines c.args.r.now) was entry),
-    )
+    let after : Option LinkState = c.add_line.new.entry in
+    let was : link_entry items c.args.r.now.link ≡ c.index_mut.result.now = entry_at items c.args.r.now.link c.index_mut.result.now c.requires.place c.index_mut.ensures.value in
+    let is : link_entry (set items c.args.r.now.link after) c.args.r.now.link ≡ after = get_or-set_same items c.args.r.now.link after None c.requires.place in
+    subst (λ (e : Option LinkState). OnOk c.add_line.result (HasTaken e (link_entry (set items c.args.r.now.link after) c.args.r.now.link) c.args.line c.args.r.now)) (sym was)
+    (subst (λ (e : Option LinkState). OnOk c.add_line.result (HasTaken c.index_mut.result.now e c.args.line c.args.r.now)) (sym is) c.add_line.ensures)

@@ -26,5 +26,5 @@ returns-clause-stands c = λ lines s may.
     table_grows c.args.self.now after lines r c.requires.ranges.link s may refl refl
     (c.in_ok-add_to_link.ensures.size ∙ c.in_ok-grow.ensures.size)
     (λ k ne. c.in_ok-add_to_link.ensures.others k ne ∙ c.in_ok-grow.ensures.entries k)
-    new.0 new.1 new.2 new.3
-    (λ xs n follows. new.4 xs n (subst (λ (e : Option LinkState). EntryFollows e xs r) (sym same) follows))
+    new.state new.kept new.port new.rounds
+    (λ xs n follows. new.follows xs n (subst (λ (e : Option LinkState). EntryFollows e xs r) (sym same) follows))

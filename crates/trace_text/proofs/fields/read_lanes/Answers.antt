@@ -1,13 +1,13 @@
 use Rattle.std.proofs.Common.{◌≡◌, ℕ, ◌<◌, ◌+◌, ◌*◌, None, length, rules, arith, sym, subst}
 use Rattle.trace_text.specs.Reading.{lanes_in}
 use Rattle.trace_text.proofs.LanesLaws.{IsReading, IsReading-none, IsReading-more, IsReading-fails, IsReading-ends, lanes_in-other_length, bus_within}
-use Rattle.trace_text.proofs.fields.lanes_in.Goals as goal
+use Rattle.trace_text.proofs.fields.read_lanes.Goals as goal
 
 pub returns-then-word-from : goal.returns-then-word-from
 returns-then-word-from c = sym (lanes_in-other_length c.args.bus c.args.word.now (search rules))
 
 pub loop-lane-init : goal.loop-lane-init
-loop-lane-init c = rw c.zero-lanes.ensures (IsReading-none c.args.word.now)
+loop-lane-init c = rw c.zero.ensures (IsReading-none c.args.word.now)
 
 pub returns-in_err-byte : goal.returns-in_err-byte
 returns-in_err-byte c =
