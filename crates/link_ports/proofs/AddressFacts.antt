@@ -52,15 +52,19 @@ seen_is_asked a =
 pub All_at : {X : Type 0} (P : X → Type 0) (xs : List X) (y : X) (ys : List X) → All P (xs ++ y ∷ ys) → P y
 All_at P xs y ys all = subst P (get_or_at xs y ys y (length xs) refl) (all (length xs) y (omega (arith, length-append xs (y ∷ ys))))
 
--- the last address of a link's requests is a part of its transaction
-pub last_is_legal : (shares : ℕ → Share) (id_width bus : ℕ) (issued : ℕ → Bool) (asked_as : Addr → Asked) (xs : List Addr) (a : Addr) (replies : List Reply) →
-    Requests shares id_width issued asked_as (xs ++ a ∷ []) replies → ((t : ℕ) → All (λ part. IsLegal part bus) (shares t).parts) → IsLegal a bus
-last_is_legal shares id_width bus issued asked_as xs a replies asks legal =
+-- the last address of a link's requests is a part of its transaction, and has what each part has
+pub last_is_part : (P : Addr → Type 0) (shares : ℕ → Share) (id_width : ℕ) (issued : ℕ → Bool) (asked_as : Addr → Asked) (xs : List Addr) (a : Addr) (replies : List Reply) →
+    Requests shares id_width issued asked_as (xs ++ a ∷ []) replies → ((t : ℕ) → All P (shares t).parts) → P (without_id a)
+last_is_part P shares id_width issued asked_as xs a replies asks each =
     let front : IsPrefix (map without_id (of_key number_of_address a.tag.txn (xs ++ a ∷ []))) (shares a.tag.txn).parts = asks.asks_only_its_parts a.tag.txn in
     let own : map without_id (of_key number_of_address a.tag.txn (xs ++ a ∷ [])) ≡ map without_id (of_key number_of_address a.tag.txn xs) ++ without_id a ∷ [] =
     ap (map without_id) (of_key-push number_of_address a.tag.txn xs a refl) ∙ map-append without_id (of_key number_of_address a.tag.txn xs) (a ∷ []) in
-    All_at (λ part. IsLegal part bus) (map without_id (of_key number_of_address a.tag.txn xs)) (without_id a) []
-    (subst (λ (parts : List Addr). All (λ part. IsLegal part bus) parts) own (All_front (λ part. IsLegal part bus) front (legal a.tag.txn)))
+    All_at P (map without_id (of_key number_of_address a.tag.txn xs)) (without_id a) [] (subst (λ (parts : List Addr). All P parts) own (All_front P front (each a.tag.txn)))
+
+pub last_is_legal : (shares : ℕ → Share) (id_width bus : ℕ) (issued : ℕ → Bool) (asked_as : Addr → Asked) (xs : List Addr) (a : Addr) (replies : List Reply) →
+    Requests shares id_width issued asked_as (xs ++ a ∷ []) replies → ((t : ℕ) → All (λ part. IsLegal part bus) (shares t).parts) → IsLegal a bus
+last_is_legal shares id_width bus issued asked_as xs a replies asks legal =
+    last_is_part (λ (part : Addr). IsLegal part bus) shares id_width issued asked_as xs a replies asks legal
 
 -- a response is never EXOKAY
 pub never_exokay : (resp : Resp) → is_not_exokay (response_code resp) ≡ true

@@ -57,7 +57,7 @@ module _ (number : ℕ) (kind : PortKind) (links : ℕ → List LinkView) (upper
   again = waiting_are_offered_again number kind links uppers lowers run n
 
   -- what is asked, with the heads that the node below looks at
-  asked_below : (schedule : Schedule) (now : Progress) → Asks schedule now (trail_above uppers links n number) → Asks schedule now (seen_below (trail_below lowers links n number) (link_of (links n) number))
+  pub asked_below : (schedule : Schedule) (now : Progress) → Asks schedule now (trail_above uppers links n number) → Asks schedule now (seen_below (trail_below lowers links n number) (link_of (links n) number))
   asked_below schedule now asks = (asked_through_link schedule now now number links uppers lowers (grows_itself now) run n asks).1
 
 pub write_addresses_are_legal : WriteAddressesAreLegal

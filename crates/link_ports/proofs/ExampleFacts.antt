@@ -13,7 +13,8 @@ use Rattle.axi_trail.specs.Trail.{Beats, no_beats, moved_below, trail_above, tra
 use Rattle.axi_trail.specs.Words.{Asked, Reply, burst_asked}
 use Rattle.axi_trail.proofs.SlackFacts.{asking_goes_down, answering_goes_up}
 use Rattle.burst_address.specs.Legal.{IsLegal}
-use Rattle.link_ports.specs.Example.{ExamplePort, HastyPort, manager_moves, memory_moves, links_between, PortExampleKeepsContracts}
+use Rattle.link_ports.specs.Example.{ExamplePort, HastyPort, manager_moves, memory_moves, links_between, PortExampleKeepsContracts, PortWithIds, WordScheduleIsLegal}
+use Rattle.link_ports.specs.WordSchedule.{IsOneWord}
 use Rattle.node_shape.specs.LegalSchedule.{IsDataOf, IsLegalSchedule}
 use Rattle.link_ports.proofs.ChannelFacts.{grows_itself}
 use Rattle.plain_lists.specs.Prefixes.{IsPrefix}
@@ -36,6 +37,8 @@ one_beat = record {
   strobes = λ n past within.
       subst (λ (k : ℕ). strobes_within (first_lane (record write_address { id = 0 }) k 4) (last_lane (record write_address { id = 0 }) k 4) (get_or (write_data_beat ∷ []) k past).strobe ≡ true)
       (let first : 0 ≡ n = omega arith in first) refl;
+  lasts = λ n past within.
+      subst (λ (k : ℕ). (get_or (write_data_beat ∷ []) k past).last ≡ (k == 0)) (let first : 0 ≡ n = omega arith in first) refl;
 }
 
 example_is_legal : IsLegalSchedule 4 example_schedule
@@ -206,3 +209,26 @@ example_answers (suc (suc (suc (suc n)))) = answers_after n
 
 pub example_keeps_contracts : PortExampleKeepsContracts
 example_keeps_contracts = (example_is_legal, example_asks, example_answers)
+
+-- as AXI4-Lite
+
+pub port_with_ids : PortWithIds
+port_with_ids = refl
+
+pub word_schedule_is_legal : WordScheduleIsLegal
+word_schedule_is_legal = (
+  record {
+    writes = example_is_legal.writes;
+    reads = λ t. All-nil (λ part. IsLegal part 4);
+    write_data = example_is_legal.write_data;
+  },
+  record {
+    no_ids = refl;
+    writes = λ t.
+        let go : (b : Bool) → All (IsOneWord 4) (cond b write_share no_share).parts = elim [
+          | true ↦ All-cons (IsOneWord 4) (record write_address { id = 0 }) [] (record { single = record { len = refl; burst = refl }; whole = refl }) (All-nil (IsOneWord 4))
+          | false ↦ All-nil (IsOneWord 4)
+        ] in go (t == 8);
+    reads = λ t. All-nil (IsOneWord 4);
+  },
+)

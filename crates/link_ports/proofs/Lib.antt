@@ -7,3 +7,4 @@ pub mod ExampleFacts
 pub mod HandshakeFacts
 pub mod PortFacts
 pub mod ViewFacts
+pub mod WordFacts

@@ -9,9 +9,12 @@ use Rattle.axi_link.specs.Moves.{link_after}
 use Rattle.axi_link.specs.declared.out.Out.{Out}
 use Rattle.axi_trail.specs.Example.{write_address, write_data_beat, write_response, example_schedule, example_progress}
 use Rattle.axi_trail.specs.LinkContracts.{Asks, Answers}
+use Rattle.axi_trail.specs.Schedule.{Schedule, no_share}
 use Rattle.axi_trail.specs.Trail.{IsLinkRun, trail_above, trail_below}
+use Rattle.lite_rules.specs.PortFaults.{history_fault}
 use Rattle.node_shape.specs.LegalSchedule.{IsLegalSchedule}
 use Rattle.link_ports.specs.PortView.{seen_address, seen_response, port_history}
+use Rattle.link_ports.specs.WordSchedule.{IsWordSchedule}
 
 abbrev pub bus_of_four : PortKind
 bus_of_four = record { lite = false; bus = 4 }
@@ -76,3 +79,16 @@ PortExampleKeepsContracts =
     IsLegalSchedule 4 example_schedule
     × ((n : ℕ) → Asks example_schedule example_progress (trail_above manager_moves (links_between memory_moves) n 0))
     × ((n : ℕ) → Answers example_schedule example_progress (trail_below memory_moves (links_between memory_moves) n 0))
+
+-- Seen as a port of AXI4-Lite the same history breaks rule 3 on AW: its address has an ID.
+abbrev pub PortWithIds : Type 0
+PortWithIds =
+    history_fault (record bus_of_four { lite = true }) (port_history 0 bus_of_four (links_between memory_moves) manager_moves memory_moves 2) ≡ Some (1, 3)
+
+-- the write alone, on a link without IDs
+abbrev pub word_schedule : Schedule
+word_schedule = record example_schedule { id_width = 0; reads = λ t. no_share }
+
+-- That is what an AXI4-Lite link can have to carry.
+abbrev pub WordScheduleIsLegal : Type 0
+WordScheduleIsLegal = IsLegalSchedule 4 word_schedule × IsWordSchedule 4 word_schedule

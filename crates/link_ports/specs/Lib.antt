@@ -1,3 +1,4 @@
 pub mod Example
 pub mod PortLaws
 pub mod PortView
+pub mod WordSchedule

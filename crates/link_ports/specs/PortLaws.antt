@@ -1,6 +1,6 @@
 -- Why the port of a link breaks no rule, where the two nodes at the link keep its contracts. The rules are numbered as
--- in `axi_history.specs.PortRules`.
-use Rattle.std.specs.Prelude.{◌≡◌, ℕ, suc, List, Option, Some, None, map}
+-- in `axi_history.specs.PortRules`, and those of AXI4-Lite as in `lite_rules.specs.LiteRules`.
+use Rattle.std.specs.Prelude.{◌≡◌, ℕ, suc, List, Option, Some, None, map, true}
 use Rattle.axi_history.specs.declared.port.PortKind.{PortKind}
 use Rattle.axi_history.specs.declared.port.PortRound.{PortRound}
 use Rattle.axi_history.specs.PortHistory.{offer_of, transferred, waiting, offered, on_aw, on_w, on_b, on_ar, on_r}
@@ -11,8 +11,11 @@ use Rattle.axi_link.specs.declared.out.Out.{Out}
 use Rattle.axi_trail.specs.LinkContracts.{Asks, Answers}
 use Rattle.axi_trail.specs.Schedule.{Schedule, Progress}
 use Rattle.axi_trail.specs.Trail.{Beats, IsLinkRun, trail_above, trail_below, seen_above, seen_below}
+use Rattle.lite_rules.specs.LiteLaws.{ShowsWords}
+use Rattle.lite_rules.specs.PortFaults.{history_fault}
 use Rattle.node_shape.specs.LegalSchedule.{IsLegalSchedule}
 use Rattle.link_ports.specs.PortView.{seen_address, seen_itself, seen_response, seen_read_beat, port_round, port_history}
+use Rattle.link_ports.specs.WordSchedule.{IsWordSchedule}
 
 -- Ports and trails.
 
@@ -118,3 +121,22 @@ LinksAreLegal =
     ((n : ℕ) → Asks schedule (now n) (trail_above uppers links n number)) →
     ((n : ℕ) → Answers schedule (now n) (trail_below lowers links n number)) →
     (n : ℕ) → axi4_history_fault kind.bus (port_history number kind links uppers lowers n) ≡ None
+
+-- AXI4-Lite.
+
+-- where a link has words alone to carry, a round shows nothing else
+abbrev pub WordsAreShown : Type 0
+WordsAreShown =
+    (schedule : Schedule) (now : Progress) (number : ℕ) (kind : PortKind) (links : ℕ → List LinkView) (uppers lowers : ℕ → Out) → IsLinkRun number links uppers lowers → IsLegalSchedule kind.bus schedule → IsWordSchedule kind.bus schedule → (n : ℕ) →
+    Asks schedule now (trail_above uppers links n number) →
+    ShowsWords kind.bus (port_round number kind links uppers lowers n)
+
+-- Such a link of either kind has a port that breaks none of the rules of its kind, the twelve of AXI4 or the six of
+-- AXI4-Lite, where an AXI4-Lite link has words alone to carry.
+abbrev pub LinksKeepTheirRules : Type 0
+LinksKeepTheirRules =
+    (schedule : Schedule) (now : ℕ → Progress) (number : ℕ) (kind : PortKind) (links : ℕ → List LinkView) (uppers lowers : ℕ → Out) → IsLinkRun number links uppers lowers → IsLegalSchedule kind.bus schedule →
+    (kind.lite ≡ true → IsWordSchedule kind.bus schedule) →
+    ((n : ℕ) → Asks schedule (now n) (trail_above uppers links n number)) →
+    ((n : ℕ) → Answers schedule (now n) (trail_below lowers links n number)) →
+    (n : ℕ) → history_fault kind (port_history number kind links uppers lowers n) ≡ None

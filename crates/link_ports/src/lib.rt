@@ -1,8 +1,8 @@
-//! What is seen of the port that a link is, and why it breaks none of the rules of an AXI4 port.
+//! What is seen of the port that a link is, and why it breaks none of the rules of its kind.
 //!
 //! A link has a node above it and a node below it. Where the one asks and the other answers as the
 //! contracts of a link in `axi_trail` say, the history of the link's port breaks none of the rules
-//! that `docs/PORT_RULES.md` lists. The functions with an empty body have the laws of this as their
+//! that `docs/PORT_RULES.md` lists for its kind, AXI4 or AXI4-Lite. The functions with an empty body have the laws of this as their
 //! contracts, and [`port_of`] shows the port in one round.
 #![tactic(auto)]
 

@@ -1,10 +1,10 @@
 -- Every port of a network is legal.
 use Rattle.std.proofs.Common.{◌≡◌, ◌∷◌, [], ◌++◌, ℕ, zero, suc, List, refl, ap, ap₂, ◌∙◌}
-use Rattle.axi_history.specs.PortRules.{axi4_history_fault}
 use Rattle.axi_history.specs.declared.port.PortRound.{PortRound}
 use Rattle.axi_link.specs.LinkWords.{link_of}
-use Rattle.link_ports.proofs.PortFacts.{links_are_legal}
+use Rattle.link_ports.proofs.WordFacts.{links_keep_their_rules}
 use Rattle.link_ports.specs.PortView.{port_history, port_of, port_round}
+use Rattle.lite_rules.specs.PortFaults.{history_fault}
 use Rattle.net_model.specs.Network.{Network, after_decide, after_rounds, lower_node, net_link, upper_node}
 use Rattle.net_model.specs.declared.net_link.NetLink.{NetLink}
 use Rattle.net_runs.proofs.ContractFacts.{runs-keep}
@@ -35,8 +35,8 @@ module _ {S E : Type 0} (kind : Kind S E) (net : Network S) (link : ℕ) where
   history-is (suc n) = ap₂ (λ (before : List PortRound) (now : PortRound). before ++ now ∷ []) (history-is n) (round-is n)
 
 pub ports-are_legal : {S E : Type 0} (kind : Kind S E) → KindHolds kind → PortsAreLegal kind
-ports-are_legal kind holds net schedules now wired scheduled link known axi4 legal rounds =
-    ap (axi4_history_fault (net_link net.links link).bus) (history-is kind net link rounds)
-    ∙ links_are_legal (schedules link) now link (port_kind (net_link net.links link)) (queues_after kind net) (chosen kind net (upper_node net.links link))
-    (chosen kind net (lower_node net.links link)) (links-run kind net wired link known) legal
+ports-are_legal kind holds net schedules now wired scheduled link known legal words rounds =
+    ap (history_fault (port_kind (net_link net.links link))) (history-is kind net link rounds)
+    ∙ links_keep_their_rules (schedules link) now link (port_kind (net_link net.links link)) (queues_after kind net) (chosen kind net (upper_node net.links link))
+    (chosen kind net (lower_node net.links link)) (links-run kind net wired link known) legal words
     (λ n. (runs-keep kind holds net schedules now wired scheduled n).asked link known) (λ n. (runs-keep kind holds net schedules now wired scheduled n).answered link known) rounds

@@ -18,8 +18,8 @@ pub fn laws_of_contracts<K: AnyKind>()
     ensures go_on { RunsGoOn K.kind }
 {}
 
-/// Every AXI4 port of a network whose links have legal bursts to carry breaks none of the rules, after
-/// any number of rounds.
+/// Every port of a network whose links have legal bursts to carry, on AXI4-Lite words alone, breaks none
+/// of the rules of its kind, after any number of rounds.
 pub fn law_of_ports<K: AnyKind>()
     ensures { PortsAreLegal K.kind }
 {}

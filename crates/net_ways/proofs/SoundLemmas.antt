@@ -1,11 +1,12 @@
 -- What holds of networks that can be run, by what holds of networks that are wired and scheduled.
-use Rattle.std.proofs.Common.{◌≡◌, ◌<◌, ℕ, Bool, true, false, List, length, map, Option, Some, None, refl, ap, subst, inl, inr, arith}
+use Rattle.std.proofs.Common.{◌≡◌, ◌<◌, ℕ, Bool, true, false, List, length, map, Option, Some, None, refl, ◌∙◌, ap, subst, inl, inr, arith}
 use Rattle.std.specs.List.{AllZip}
 use Rattle.std.specs.Prelude.{◌⊎◌, All, Contains, find, unwrap_or}
 use Rattle.std.proofs.lemmas.List.Elements.{All-nil}
 use Rattle.axi_beats.specs.declared.beat.Addr.{Addr}
 use Rattle.axi_trail.specs.Schedule.{Share, no_share}
 use Rattle.burst_address.specs.Legal.{IsLegal}
+use Rattle.link_ports.specs.WordSchedule.{IsOneWord, IsWordSchedule}
 use Rattle.net_model.specs.Network.{Network, net_link}
 use Rattle.net_progress.proofs.BoundFacts.{finishes-in_time}
 use Rattle.net_progress.proofs.StuckFacts.{never-stuck}
@@ -22,7 +23,7 @@ use Rattle.net_ways.specs.Ways.{carried, is_origin, origins_in, schedules_of}
 use Rattle.node_shape.specs.Kind.{Kind}
 use Rattle.node_shape.specs.KindHolds.{KindHolds}
 use Rattle.node_shape.specs.LegalSchedule.{IsDataOf, IsLegalSchedule}
-use Rattle.node_shape.specs.LinkForm.{LinkForm}
+use Rattle.node_shape.specs.LinkForm.{IsWordForm, LinkForm}
 use Rattle.node_shape.specs.Way.{Origin}
 use Rattle.plain_lists.proofs.CutLemmas.{contains-map}
 use Rattle.plain_lists.proofs.PlaceLemmas.{contains-at, find-has}
@@ -63,6 +64,24 @@ module _ {S E : Type 0} (kind : Kind S E) (holds : KindHolds kind) where
           write_data = λ t. legal-data bus link t same (carried kind net true link t) refl;
         }
 
+    -- on AXI4-Lite it is words
+    word-share : (bus : ℕ) (write : Bool) (link number : ℕ) → (forms link).bus ≡ bus → (forms link).lite ≡ true → (forms link).single ≡ true → (o : Option Share) →
+        carried kind net write link number ≡ o → All (IsOneWord bus) (unwrap_or o no_share).parts
+    word-share bus write link number same lite single None is = All-nil (IsOneWord bus)
+    word-share bus write link number same lite single (Some share) is =
+        let fits = (is-carried kind holds net forms sound write number link share is).fits in
+        λ k past within. record { single = fits.single single k past within; whole = (fits.words lite k past within).size ∙ same }
+
+    word-schedule : (link : ℕ) → link < length net.links → (forms link).lite ≡ true → IsWordForm (forms link) → IsWordSchedule (net_link net.links link).bus (schedules_of kind net forms link)
+    word-schedule link known lite form =
+        let same = (sound.formed link known).bus in
+        let bus = (net_link net.links link).bus in
+        record {
+          no_ids = form.no_ids;
+          writes = λ t. word-share bus true link t same lite form.single (carried kind net true link t) refl;
+          reads = λ t. word-share bus false link t same lite form.single (carried kind net false link t) refl;
+        }
+
     -- a link carries the transactions that start somewhere, and no others
     abbrev numbers : List ℕ
     numbers = map (λ (origin : Origin). origin.number) (origins_in kind net.nodes)
@@ -87,9 +106,10 @@ module _ {S E : Type 0} (kind : Kind S E) (holds : KindHolds kind) where
     ]
 
   pub sound-ports_are_legal : SoundPortsAreLegal kind
-  sound-ports_are_legal net forms sound link known axi4 rounds =
-      ports-are_legal kind holds net (schedules_of kind net forms) (known_by_nodes kind net (schedules_of kind net forms)) sound.wired (is-scheduled kind holds net forms sound) link known axi4
-      (legal-schedule net forms sound link known) rounds
+  sound-ports_are_legal net forms sound link known words rounds =
+      ports-are_legal kind holds net (schedules_of kind net forms) (known_by_nodes kind net (schedules_of kind net forms)) sound.wired (is-scheduled kind holds net forms sound) link known
+      (legal-schedule net forms sound link known)
+      (λ lite. let is = (sound.formed link known).lite ∙ lite in word-schedule net forms sound link known is (words is)) rounds
 
   pub sound-finishes_in_time : SoundFinishesInTime kind
   sound-finishes_in_time net forms sound most patient =

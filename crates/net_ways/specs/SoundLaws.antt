@@ -1,17 +1,17 @@
 -- What holds of every network that can be run.
 use Rattle.std.specs.Prelude.{◌≡◌, ◌<◌, ◌≤◌, ◌+◌, ◌*◌, ℕ, All, Contains, IfSome, None, false, flat_map, length, map, slice_get, true}
-use Rattle.axi_history.specs.PortRules.{axi4_history_fault}
+use Rattle.lite_rules.specs.PortFaults.{history_fault}
 use Rattle.net_model.specs.Network.{Network, after_rounds, is_finished, net_link}
 use Rattle.net_progress.specs.Moving.{IsPatient, is_moving}
 use Rattle.net_progress.specs.Transfers.{most_transfers}
-use Rattle.net_runs.specs.Ports.{history_of}
+use Rattle.net_runs.specs.Ports.{history_of, port_kind}
 use Rattle.net_runs.specs.RunKeeps.{CanGoOn, RunKeeps}
 use Rattle.net_ways.specs.Known.{known_by_nodes}
 use Rattle.net_ways.specs.Sound.{IsSound}
 use Rattle.net_ways.specs.Ways.{Hop, origins_in, schedules_of, way_of}
 use Rattle.node_core.specs.Acted.{Acted}
 use Rattle.node_shape.specs.Kind.{Kind}
-use Rattle.node_shape.specs.LinkForm.{LinkForm, lanes_wanted, parts_written, wanted_bytes}
+use Rattle.node_shape.specs.LinkForm.{IsWordForm, LinkForm, lanes_wanted, parts_written, wanted_bytes}
 use Rattle.node_shape.specs.Way.{Origin}
 use Rattle.node_shape.specs.WaysAround.{WaysAround}
 
@@ -44,11 +44,12 @@ module _ {S E : Type 0} (kind : Kind S E) where
   abbrev pub SoundRunsGoOn : Type 0
   SoundRunsGoOn = (net : Network S) (forms : ℕ → LinkForm) → IsSound kind net forms → (n : ℕ) → CanGoOn kind net n
 
-  -- every AXI4 port breaks none of the rules
+  -- every port breaks none of the rules of its kind, where AXI4-Lite links have the form of one
   abbrev pub SoundPortsAreLegal : Type 0
   SoundPortsAreLegal =
       (net : Network S) (forms : ℕ → LinkForm) → IsSound kind net forms → (link : ℕ) → link < length net.links →
-      (net_link net.links link).lite ≡ false → (rounds : ℕ) → axi4_history_fault (net_link net.links link).bus (history_of kind rounds net link) ≡ None
+      ((forms link).lite ≡ true → IsWordForm (forms link)) →
+      (rounds : ℕ) → history_fault (port_kind (net_link net.links link)) (history_of kind rounds net link) ≡ None
 
   -- in one of so many rounds from each unfinished state on, some node takes or puts a beat
   abbrev pub SoundNeverStuck : Type 0

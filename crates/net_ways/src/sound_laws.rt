@@ -13,7 +13,8 @@ pub fn laws_of_ways<K: AnyKind>()
 {}
 
 /// After every number of rounds every node keeps what its kind keeps, every link asks and answers as it
-/// should, and the next round can be made; and every AXI4 port breaks none of the rules.
+/// should, and the next round can be made; and every port breaks none of the rules of its kind, where
+/// the AXI4-Lite links have no IDs and single beats.
 pub fn laws_of_runs<K: AnyKind>()
     ensures keep { SoundRunsKeep K.kind }
     ensures go_on { SoundRunsGoOn K.kind }

@@ -21,6 +21,11 @@ pub record LinkForm : Type 0 where
   pub id_width : ℕ
   pub single : Bool
 
+-- the form of an AXI4-Lite link: each burst has one beat, and there are no IDs
+pub record IsWordForm (form : LinkForm) : Type 0 where
+  pub single : form.single ≡ true
+  pub no_ids : form.id_width ≡ 0
+
 -- two forms but for the width of the IDs
 pub record IsAlike (form other : LinkForm) : Type 0 where
   pub lite : other.lite ≡ form.lite
