@@ -7,8 +7,6 @@
 
 mod choice;
 mod command;
-#[cfg(test)]
-mod tests;
 mod words;
 
 pub use choice::{Choice, Task, WordsFault};

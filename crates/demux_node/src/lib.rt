@@ -13,8 +13,6 @@ mod moves;
 mod route;
 mod rows;
 mod shape;
-#[cfg(test)]
-mod tests;
 
 pub use demux::{DemuxNode, crosses_threads};
 pub use demux_laws::{laws_of_table, laws_of_trails, laws_of_ways, local_laws};

@@ -5,8 +5,6 @@
 
 mod document;
 mod laws;
-#[cfg(test)]
-mod tests;
 
 pub use document::{Document, INPUT_LIMIT, Planned, input_text, read_document, read_planned};
 pub use laws::{accepted_documents_are_runnable, plans_follow_documents};

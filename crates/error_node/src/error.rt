@@ -1,6 +1,6 @@
 //! `ErrorNode`, seen in clauses as its state and its takes and puts of the round.
 
-ghost use Rattle.std.specs.Prelude.{◌≡◌, ◌<◌, true};
+ghost use Rattle.std.specs.Prelude.{◌≡◌, IsTrue, true};
 ghost use Rattle.error_node.specs.ErrorState.{IsError, new_error};
 ghost use Rattle.error_node.specs.ErrorTable.{CanError, error_table};
 ghost use Rattle.node_core.specs.Acted.{opened};
@@ -51,12 +51,11 @@ impl ErrorNode {
         }
     }
 
-    /// Whether its link is among so many.
-    #[cfg(test)]
-    pub(crate) fn has_link(&self, count: usize) -> bool
-        ensures { result ≡ true → self.now.state.upper < count }
+    /// Whether its link is among these.
+    pub fn can_decide(&self, links: &[Link]) -> bool
+        ensures { IsTrue result → CanError links.now self.now.state }
     {
-        (self.upper as usize) < count
+        (self.upper as usize) < links.len()
     }
 
     /// Does each row of the table.

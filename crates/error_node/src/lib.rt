@@ -9,8 +9,6 @@
 mod error;
 mod error_laws;
 mod rows;
-#[cfg(test)]
-mod tests;
 
 pub use error::{ErrorNode, crosses_threads};
 pub use error_laws::{laws_of_rows, laws_of_table, laws_of_trails, laws_of_ways};

@@ -8,8 +8,6 @@
 
 mod lite_memory;
 mod lite_memory_laws;
-#[cfg(test)]
-mod tests;
 
 pub use lite_memory::{LiteMemoryNode, crosses_threads};
 pub use lite_memory_laws::{

@@ -98,6 +98,7 @@ word-data bus a beats is legal single sent =
           subst (Within (word_request bus a)) (sym first)
           (strobes-widen (first_lane a 0 bus) (last_lane a 0 bus) (get_or beats n past).strobe bus lanes.1 (subst (Within a) first (sent.strobes n past within))
           (first_lane (word_request bus a) 0 bus) (last_lane (word_request bus a) 0 bus) (first-of_word bus a) (last-of_word bus a is));
+      lasts = λ n past within. sent.lasts n past within ∙ ap (λ (len : ℕ). n == len) single;
     }
 
 -- the bytes of a request with one beat lie in its word

@@ -12,8 +12,6 @@
 mod lite;
 mod lite_laws;
 mod rows;
-#[cfg(test)]
-mod tests;
 
 pub use lite::{LiteNode, crosses_threads};
 pub use lite_laws::{laws_of_table, laws_of_trails, laws_of_ways, local_laws};

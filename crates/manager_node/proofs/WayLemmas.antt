@@ -58,6 +58,7 @@ module _ (bus : ℕ) (item : ScriptItem) (sends : SendsItsBytes bus item) where
             let here : n < beats = subst (λ (k : ℕ). n < k) many below in
             let lanes = data-strobes_within item bus n sends here in
             subst (IsWithin n) (sym (beat-at n past here)) (within-lanes (first_lane item.txn.request n bus) (last_lane item.txn.request n bus) (data_beat item bus n).strobe lanes.0 lanes.1);
+        lasts = λ n past below. ap (λ (w : WBeat). w.last) (beat-at n past (subst (λ (k : ℕ). n < k) many below));
       }
 
   item-strobes : All (λ (w : WBeat). w.strobe < 2 ^ bus) (data_beats item bus)

@@ -19,8 +19,6 @@ mod manager;
 mod manager_laws;
 mod script;
 mod sending;
-#[cfg(test)]
-mod tests;
 
 pub use answer::Answer;
 pub use entry::Entry;

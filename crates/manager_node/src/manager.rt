@@ -1,6 +1,6 @@
 //! `ManagerNode`, seen in clauses as its state and its takes and puts of the round.
 
-ghost use Rattle.std.specs.Prelude.{◌≡◌, ◌<◌, ◌≤◌, ◌+◌, All, IfOk, IfSome, IsSome, length, true};
+ghost use Rattle.std.specs.Prelude.{◌≡◌, ◌<◌, ◌≤◌, ◌+◌, All, IfOk, IfSome, IsSome, IsTrue, length, true};
 ghost use Rattle.std.specs.Prelude.{false, is_some, slice_index_or, vec_len};
 ghost use Rattle.std.specs.Option.{option_copied, option_map};
 ghost use Rattle.axi_beats.specs.Bus.{IsBusWidth};
@@ -134,12 +134,11 @@ impl ManagerNode {
         self.answered == self.script.len()
     }
 
-    /// Whether its link is among so many.
-    #[cfg(test)]
-    pub(crate) fn has_link(&self, count: usize) -> bool
-        ensures { result ≡ true → self.now.state.lower < count }
+    /// Whether its link is among these, in a round from 1 on.
+    pub fn can_decide(&self, round: u64, links: &[Link]) -> bool
+        ensures { IsTrue result → CanManager round links.now self.now.state }
     {
-        (self.lower as usize) < count
+        round > 0 && (self.lower as usize) < links.len()
     }
 
     /// What could be done in this round, on this link below it.

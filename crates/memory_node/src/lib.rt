@@ -19,8 +19,6 @@ mod memory_laws;
 mod offers;
 mod rows;
 mod store;
-#[cfg(test)]
-mod tests;
 
 pub use config::{MemoryConfig, Range};
 pub use memory::{MemoryNode, crosses_threads};

@@ -13,8 +13,6 @@ mod mux;
 mod mux_laws;
 mod rows;
 mod shape;
-#[cfg(test)]
-mod tests;
 
 pub use mux::{MuxNode, crosses_threads};
 pub use mux_laws::{laws_of_table, laws_of_trails, laws_of_ways, local_laws};

@@ -1,4 +1,5 @@
-//! A bench for the tests of all kinds of node: one node, and links of which the test is the other end.
+//! A bench for all kinds of node: one node, and links of which the test is the other end; and the tests of
+//! the kinds on it.
 //!
 //! A test tells rounds as rows of `(round, offered, moved)`: what stands on the links anew as the round
 //! begins, and what the node takes and puts in it. In a round without a row nothing comes, and the node
@@ -18,6 +19,8 @@ mod fault;
 mod moves;
 mod row;
 mod same;
+#[cfg(test)]
+mod tests;
 
 pub use bench::{Bench, Benched};
 pub use fault::BenchFault;

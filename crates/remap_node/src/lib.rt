@@ -13,8 +13,6 @@ mod pair;
 mod remap;
 mod remap_laws;
 mod rows;
-#[cfg(test)]
-mod tests;
 
 pub use pair::IdPair;
 pub use remap::{RemapNode, crosses_threads};

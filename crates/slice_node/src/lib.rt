@@ -10,8 +10,6 @@
 
 mod slice;
 mod slice_laws;
-#[cfg(test)]
-mod tests;
 
 pub use slice::{SliceNode, crosses_threads};
 pub use slice_laws::{laws_of_table, laws_of_trails, laws_of_ways, local_laws};

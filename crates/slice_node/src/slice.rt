@@ -1,6 +1,6 @@
 //! `SliceNode`, seen in clauses as its two links and its takes and puts of the round.
 
-ghost use Rattle.std.specs.Prelude.{◌≡◌, ◌<◌, true};
+ghost use Rattle.std.specs.Prelude.{◌≡◌, IsTrue, true};
 ghost use Rattle.node_core.specs.Acted.{opened};
 ghost use Rattle.slice_node.specs.SliceState.{new_slice};
 ghost use Rattle.slice_node.specs.SliceTable.{CanSlice, slice_table};
@@ -41,12 +41,11 @@ impl SliceNode {
         }
     }
 
-    /// Whether its links are among so many.
-    #[cfg(test)]
-    pub(crate) fn has_links(&self, count: usize) -> bool
-        ensures { result ≡ true → (self.now.state.upper < count) × (self.now.state.lower < count) }
+    /// Whether its links are among these.
+    pub fn can_decide(&self, links: &[Link]) -> bool
+        ensures { IsTrue result → CanSlice links.now self.now.state }
     {
-        (self.upper as usize) < count && (self.lower as usize) < count
+        (self.upper as usize) < links.len() && (self.lower as usize) < links.len()
     }
 
     /// Does each row of the table.

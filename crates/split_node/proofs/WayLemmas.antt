@@ -1,5 +1,5 @@
 -- How transactions go through a splitter.
-use Rattle.std.proofs.Common.{◌≡◌, ◌<◌, ◌≤◌, ◌+◌, ◌^◌, ℕ, zero, suc, Bool, true, false, cond, List, [], ◌∷◌, ◌++◌, Option, None, Some, length, map, refl, sym, ◌∙◌, ap, ap₂, subst, inl, inr, arith, append-nil, append_assoc}
+use Rattle.std.proofs.Common.{◌≡◌, ◌<◌, ◌≤◌, ◌+◌, ◌^◌, ◌==◌, ℕ, zero, suc, Bool, true, false, cond, List, [], ◌∷◌, ◌++◌, Option, None, Some, length, map, refl, sym, ◌∙◌, ap, ap₂, subst, inl, inr, arith, append-nil, append_assoc}
 use Rattle.std.specs.Prelude.{◌⊎◌, All, Contains, IsTrue, flat_map, slice_get, slice_index_or, unwrap_or, zip}
 use Rattle.std.specs.List.{AllZip, range_with_len}
 use Rattle.std.proofs.lemmas.List.Concat.{flat_map-append}
@@ -60,11 +60,15 @@ abbrev IsStrobed : ℕ → Addr → ℕ → WBeat → Type 0
 IsStrobed bus a n w = IsTrue (strobes_within (first_lane a n bus) (last_lane a n bus) w.strobe)
 
 one-data : (bus : ℕ) (a : Addr) (n : ℕ) (w : WBeat) → IsStrobed bus a n w → IsDataOf bus (part_of a n) (data_of_part w)
-one-data bus a n w is = record { whole = refl; strobes = go }
+one-data bus a n w is = record { whole = refl; strobes = go; lasts = last }
   where
     go : (i : ℕ) (past : WBeat) → i < length (data_of_part w) → IsStrobed bus (part_of a n) i (slice_index_or (data_of_part w) i past)
     go zero past below = is
     go (suc i) past below = absurd (omega (arith, below))
+
+    last : (i : ℕ) (past : WBeat) → i < length (data_of_part w) → (slice_index_or (data_of_part w) i past).last ≡ (i == 0)
+    last zero past below = refl
+    last (suc i) past below = absurd (omega (arith, below))
 
 zip-parts : (bus : ℕ) (a : Addr) (from : ℕ) (ws : List WBeat) → ((i : ℕ) (past : WBeat) → i < length ws → IsStrobed bus a (from + i) (slice_index_or ws i past)) →
     AllZip (IsDataOf bus) (map (part_of a) (range_with_len from (length ws))) (map data_of_part ws)

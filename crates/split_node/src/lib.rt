@@ -14,8 +14,6 @@ mod burst;
 mod rows;
 mod split;
 mod split_laws;
-#[cfg(test)]
-mod tests;
 
 pub use split::{SplitNode, crosses_threads};
 pub use split_laws::{laws_of_table, laws_of_trails, laws_of_ways, local_laws};

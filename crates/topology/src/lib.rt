@@ -12,8 +12,6 @@ mod link;
 mod names;
 mod read;
 mod size;
-#[cfg(test)]
-mod tests;
 mod uppers;
 mod wiring;
 

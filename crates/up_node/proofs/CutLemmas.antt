@@ -222,7 +222,19 @@ module _ (shape : UpShape) (is : IsUpShape shape) where
   shift-at_beat : (a : Addr) (n : ℕ) → n < beats_of a → slice_get (beat_shifts shape a) n ≡ Some (beat_shift shape a n)
   shift-at_beat a n lt = map-has (beat_shift shape a) (range_with_len 0 (beats_of a)) n n (range-at (beats_of a) n lt)
 
-  -- the data of a burst has its strobes on its valid lanes
+  -- a beat of a burst's data, and what it is on the wide bus
+  widened-at : (a : Addr) (beats : List WBeat) (n : ℕ) (past : WBeat) → length beats ≡ beats_of a → n < length beats →
+      (w : WBeat) × (slice_index_or beats n past ≡ w)
+      × (slice_index_or (moved_each (beat_widened shape) (beat_shifts shape a) beats) n past ≡ beat_widened shape (beat_shift shape a n) w)
+  widened-at a beats n past whole lt =
+      let there = item-there beats n lt in (
+        there.0,
+        get_or_from_slice_get beats n there.0 past there.1,
+        get_or_from_slice_get (moved_each (beat_widened shape) (beat_shifts shape a) beats) n (beat_widened shape (beat_shift shape a n) there.0) past
+            (moved-get (beat_widened shape) (beat_shifts shape a) beats n (beat_shift shape a n) there.0 (shift-at_beat a n (omega (arith, lt, whole))) there.1),
+      )
+
+  -- the data of a burst has its strobes on its valid lanes, and WLAST on its last beat
   data-moved : (a : Addr) (beats : List WBeat) → IsLegal a shape.narrow → IsDataOf shape.narrow a beats → IsDataOf shape.wide a (moved_each (beat_widened shape) (beat_shifts shape a) beats)
   data-moved a beats legal data_is =
       let long : length beats ≡ length (beat_shifts shape a) = data_is.whole ∙ sym (shifts-long shape a) in
@@ -230,19 +242,18 @@ module _ (shape : UpShape) (is : IsUpShape shape) where
       record {
         whole = kept ∙ data_is.whole;
         strobes = λ n past lt.
-            let there = item-there beats n (omega (arith, lt, kept)) in
+            let there = widened-at a beats n past data_is.whole (omega (arith, lt, kept)) in
             let lanes = lanes-on_wider a n shape.narrow shape.wide is.narrow is.wide narrower legal in
-            let beat : slice_index_or (moved_each (beat_widened shape) (beat_shifts shape a) beats) n past ≡ beat_widened shape (beat_shift shape a n) there.0 =
-            get_or_from_slice_get (moved_each (beat_widened shape) (beat_shifts shape a) beats) n (beat_widened shape (beat_shift shape a n) there.0) past
-            (moved-get (beat_widened shape) (beat_shifts shape a) beats n (beat_shift shape a n) there.0 (shift-at_beat a n (omega (arith, lt, kept, data_is.whole))) there.1) in
             let strobed : IsTrue (strobes_within (first_lane a n shape.narrow) (last_lane a n shape.narrow) there.0.strobe) =
-            subst (λ (w : WBeat). IsTrue (strobes_within (first_lane a n shape.narrow) (last_lane a n shape.narrow) w.strobe)) (get_or_from_slice_get beats n there.0 past there.1)
-            (data_is.strobes n past (omega (arith, lt, kept))) in
+            subst (λ (w : WBeat). IsTrue (strobes_within (first_lane a n shape.narrow) (last_lane a n shape.narrow) w.strobe)) there.1 (data_is.strobes n past (omega (arith, lt, kept))) in
             let on : last_lane a n shape.narrow < shape.narrow = upper-below (size_of a) shape.narrow (beat_at a n) is.narrow in
-            subst (λ (w : WBeat). IsTrue (strobes_within (first_lane a n shape.wide) (last_lane a n shape.wide) w.strobe)) (sym beat)
+            subst (λ (w : WBeat). IsTrue (strobes_within (first_lane a n shape.wide) (last_lane a n shape.wide) w.strobe)) (sym there.2)
             (subst (λ (low : ℕ). IsTrue (strobes_within low (last_lane a n shape.wide) (there.0.strobe % 2 ^ shape.narrow * 2 ^ beat_shift shape a n))) (sym lanes.0)
             (subst (λ (high : ℕ). IsTrue (strobes_within (first_lane a n shape.narrow + beat_shift shape a n) high (there.0.strobe % 2 ^ shape.narrow * 2 ^ beat_shift shape a n))) (sym lanes.1)
             (strobes-moved (first_lane a n shape.narrow) (last_lane a n shape.narrow) there.0.strobe shape.narrow (beat_shift shape a n) on strobed)));
+        lasts = λ n past lt.
+            let there = widened-at a beats n past data_is.whole (omega (arith, lt, kept)) in
+            ap (λ (w : WBeat). w.last) there.2 ∙ sym (ap (λ (w : WBeat). w.last) there.1) ∙ data_is.lasts n past (omega (arith, lt, kept));
       }
 
   pub all-data : (parts : List Addr) (data_of : List (List WBeat)) → All (λ (part : Addr). IsLegal part shape.narrow) parts → AllZip (IsDataOf shape.narrow) parts data_of →

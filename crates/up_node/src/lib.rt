@@ -11,8 +11,6 @@ mod beats;
 mod passing;
 mod rows;
 mod shape;
-#[cfg(test)]
-mod tests;
 mod up;
 mod up_laws;
 

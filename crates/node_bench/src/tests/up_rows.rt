@@ -2,11 +2,11 @@
 
 ghost use Rattle.std.specs.Prelude.{◌≤◌};
 
-use super::*;
+use crate::{Bench, Benched, Row};
 use axi_beats::{Addr, BBeat, Burst, Lanes, RBeat, WBeat};
 use axi_link::{Link, Out};
-use node_bench::{Bench, Benched, Row};
 use std::test::Fail;
+use up_node::{UpNode, crosses_threads};
 
 impl Benched for UpNode {
     fn may_decide(&self, _round: u64, links: &[Link]) -> bool {

@@ -1,6 +1,6 @@
 //! Documents of whose causes the first one is told, and what is read of one that is accepted.
 
-use crate::{Document, read_document};
+use document::{Document, read_document};
 use refusals::{Cause, DocFault, Refusal};
 use std::alloc::Global;
 use std::process::Abort;

@@ -1,10 +1,10 @@
 //! A Lite memory answers whole words, and honours every strobe.
 
-use super::*;
+use crate::{Bench, Benched, Row};
 use axi_beats::{Addr, BBeat, Burst, Lanes, RBeat, Resp, Tag, WBeat};
 use axi_link::{Link, Out};
+use lite_memory_node::{LiteMemoryNode, crosses_threads};
 use memory_node::MemoryConfig;
-use node_bench::{Bench, Benched, Row};
 use std::test::Fail;
 
 const CONFIG: MemoryConfig = MemoryConfig {

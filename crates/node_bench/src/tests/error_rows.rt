@@ -1,14 +1,14 @@
 //! Everything that comes is answered with DECERR.
 
-use super::*;
+use crate::{Bench, Benched, Row};
 use axi_beats::{Addr, BBeat, RBeat, Resp, WBeat};
 use axi_link::{Link, Out};
-use node_bench::{Bench, Benched, Row};
+use error_node::{ErrorNode, crosses_threads};
 use std::test::Fail;
 
 impl Benched for ErrorNode {
     fn may_decide(&self, _round: u64, links: &[Link]) -> bool {
-        self.has_link(links.len())
+        self.can_decide(links)
     }
 }
 

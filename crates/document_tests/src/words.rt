@@ -1,6 +1,6 @@
 //! What the program takes as its words: the table of its options.
 
-use crate::{Choice, Task, WordsFault, read_words};
+use command_words::{Choice, Task, WordsFault, read_words};
 use std::alloc::Global;
 
 /// The words after the program's name, read. Want of memory is told as such.

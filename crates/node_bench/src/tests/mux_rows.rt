@@ -1,9 +1,9 @@
 //! Inputs take turns, data follows the addresses, and answers go back by the input in their IDs.
 
-use super::*;
+use crate::{Bench, Benched, Row};
 use axi_beats::{Addr, BBeat, RBeat, WBeat};
 use axi_link::{Link, Out};
-use node_bench::{Bench, Benched, Row};
+use mux_node::{MuxNode, crosses_threads};
 use std::test::Fail;
 
 impl Benched for MuxNode {

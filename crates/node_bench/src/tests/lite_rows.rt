@@ -1,9 +1,9 @@
 //! Single beats become whole words, and answers go back under the IDs of their requests.
 
-use super::*;
+use crate::{Bench, Benched, Row};
 use axi_beats::{Addr, BBeat, Burst, Lanes, RBeat, Resp, Tag, WBeat};
 use axi_link::{Link, Out};
-use node_bench::{Bench, Benched, Row};
+use lite_node::{LiteNode, crosses_threads};
 use std::test::Fail;
 
 impl Benched for LiteNode {

@@ -4,11 +4,11 @@
 mod limits;
 mod wiring;
 
-use crate::read_topology;
 use refusals::{Cause, DocFault, Refusal};
 use std::alloc::Global;
 use std::process::Abort;
 use std::test::Fail;
+use topology::read_topology;
 
 // A document, and why it is refused; `None` where it is accepted.
 #[derive(Clone, Copy)]

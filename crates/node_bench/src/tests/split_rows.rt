@@ -1,9 +1,9 @@
 //! Bursts go on beat by beat, and their answers come back as theirs.
 
-use super::*;
+use crate::{Bench, Benched, Row};
 use axi_beats::{Addr, BBeat, Burst, RBeat, Resp, WBeat};
 use axi_link::{Link, Out};
-use node_bench::{Bench, Benched, Row};
+use split_node::{SplitNode, crosses_threads};
 use std::test::Fail;
 
 impl Benched for SplitNode {

@@ -2,11 +2,11 @@
 
 ghost use Rattle.std.specs.Prelude.{◌<◌, ◌≤◌};
 
-use super::*;
+use crate::{Bench, Benched, Row};
 use address_map::{AddressMap, Region};
 use axi_beats::{Addr, BBeat, RBeat, WBeat};
 use axi_link::{Link, Out};
-use node_bench::{Bench, Benched, Row};
+use demux_node::{DemuxNode, crosses_threads};
 use std::alloc::Global;
 use std::test::Fail;
 

@@ -6,18 +6,18 @@ ghost use Rattle.axi_beats.specs.Bus.{IsBusWidth};
 ghost use Rattle.burst_address.specs.Legal.{IsLegal};
 ghost use Rattle.manager_node.specs.Script.{awaited};
 
-use super::*;
+use crate::{Bench, Benched, Row};
 use axi_beats::{Addr, BBeat, Burst, Lanes, NoMemory, RBeat, Resp, Tag, WBeat};
 use axi_link::{Link, Out};
 use burst_address::legal;
-use node_bench::{Bench, Benched, Row};
+use manager_node::{ManagerNode, Script, Txn, WriteByte, crosses_threads};
 use std::alloc::Global;
 use std::process::Abort;
 use std::test::Fail;
 
 impl Benched for ManagerNode {
     fn may_decide(&self, round: u64, links: &[Link]) -> bool {
-        round > 0 && self.has_link(links.len())
+        self.can_decide(round, links)
     }
 }
 

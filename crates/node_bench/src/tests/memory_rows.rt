@@ -1,9 +1,9 @@
 //! A memory's bytes, and what it answers round by round.
 
-use super::*;
+use crate::{Bench, Benched, Row};
 use axi_beats::{Addr, BBeat, Burst, Lanes, RBeat, Resp, WBeat};
 use axi_link::{Link, Out};
-use node_bench::{Bench, Benched, Row};
+use memory_node::{MemoryConfig, MemoryNode, Range, crosses_threads};
 use std::test::Fail;
 
 const CONFIG: MemoryConfig = MemoryConfig {

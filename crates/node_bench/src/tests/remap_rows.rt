@@ -1,10 +1,10 @@
 //! An ID keeps the one that stands for it below while it is in flight, and a request waits where no ID is
 //! left.
 
-use super::*;
+use crate::{Bench, Benched, Row};
 use axi_beats::{Addr, BBeat, RBeat, WBeat};
 use axi_link::{Link, Out};
-use node_bench::{Bench, Benched, Row};
+use remap_node::{RemapNode, crosses_threads};
 use std::test::Fail;
 
 impl Benched for RemapNode {

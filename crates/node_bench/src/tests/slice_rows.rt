@@ -1,14 +1,14 @@
 //! Beats go on where there is room.
 
-use super::*;
+use crate::{Bench, Benched, Row};
 use axi_beats::{Addr, BBeat, RBeat, WBeat};
 use axi_link::{Link, Out};
-use node_bench::{Bench, Benched, Row};
+use slice_node::{SliceNode, crosses_threads};
 use std::test::Fail;
 
 impl Benched for SliceNode {
     fn may_decide(&self, _round: u64, links: &[Link]) -> bool {
-        self.has_links(links.len())
+        self.can_decide(links)
     }
 }
 
