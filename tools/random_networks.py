@@ -1,11 +1,11 @@
 """Random documents for the scripts that compare axinet with another simulator.
 
 `one_memory` is the text of the smallest network; `network` makes a random one of managers, slices, muxes, demuxes,
-crossbars, remappers and memories; `traffic` makes legal traffic on it; `spoilt` makes a topology that is mostly refused.
+crossbars, remappers, up converters and memories; `traffic` makes legal traffic on it; `spoilt` makes a topology that is mostly refused.
 """
 import collections
 
-BUSES = [4, 4, 8, 16]
+BUSES = [4, 4, 4, 8, 8, 16, 32, 128]
 PAGE = 4096
 
 # The smallest network: its manager `m` has IDs below 16 on a bus of 4 bytes, its memory 8,192 bytes from 0.
@@ -18,8 +18,8 @@ node = [
 
 # A node: its kind, the names of the nodes below it, and its other keys.
 Node = collections.namedtuple('Node', 'kind below keys')
-# A network: its nodes by name in order, its bus, and the bases of the memories.
-Network = collections.namedtuple('Network', 'nodes bus bases')
+# A network: its nodes by name in order, and the bases of the memories.
+Network = collections.namedtuple('Network', 'nodes bases')
 
 
 def delays(r):
@@ -103,20 +103,39 @@ def redirected(node, old, new):
     return node._replace(below=[new if to == old else to for to in node.below], keys=keys)
 
 
+def widened(r, nodes, buses):
+    """The nodes with an up converter on each link that leads to a wider bus."""
+    for upper, node in list(nodes.items()):
+        for below in sorted(set(node.below)):
+            if buses[upper] < buses[below]:
+                above = 'u%d' % len(nodes)
+                nodes[upper] = redirected(nodes[upper], below, above)
+                nodes[above] = Node('up', [below], deep(r, {'bus': buses[below]}))
+    return nodes
+
+
+def buses_of(r, names):
+    """A bus for each node, by name: all of one width, or of some widths, of which the last node has the widest."""
+    if r.random() < 0.3:
+        return dict.fromkeys(names, r.choice(BUSES))
+    return dict(zip(names, sorted(r.choice(BUSES) for _ in names)))
+
+
 def network(r):
-    """A network of all these kinds, in which links lead from managers to memories."""
-    bus = r.choice(BUSES)
+    """A network of all these kinds, in which links lead from managers to memories, and from no bus to a narrower one."""
     bases = [2 * PAGE * place for place in range(r.randint(1, 4))]
     names = ['n%d' % place for place in range(r.randint(0, 6))]
     memories = ['ram%d' % place for place in range(len(bases))]
+    managers = ['m%d' % place for place in range(r.randint(1, 4))]
+    buses = buses_of(r, managers + names + r.sample(memories, len(memories)))
     nodes = {}
-    for place in range(r.randint(1, 4)):
-        nodes['m%d' % place] = manager(r, bus, r.choice(names + memories))
+    for name in managers:
+        nodes[name] = manager(r, buses[name], r.choice(names + memories))
     for place, name in enumerate(names):
         nodes[name] = between(r, names[place + 1:] + memories, bases)
     for name, base in zip(memories, bases):
-        nodes[name] = memory(r, bus, base)
-    return Network(joined(nodes), bus, bases)
+        nodes[name] = memory(r, buses[name], base)
+    return Network(joined(widened(r, nodes, buses)), bases)
 
 
 # The text of a topology.
@@ -222,7 +241,7 @@ def spoilt(r, found):
 
 def burst(r, bus, bases):
     """The address, size, kind and number of beats of a legal burst, mostly in some memory."""
-    size = r.choice([width for width in (1, 2, 4, 8, 16) if width <= bus])
+    size = r.choice([width for width in (1, 2, 4, 8, 16, 32) if width <= bus])
     kind = r.choice(['fixed', 'incr', 'incr', 'wrap'])
     base = r.choice(bases) if r.random() < 0.95 else PAGE * r.randrange(1 << 20)
     address = base + (r.randrange(300) if r.random() < 0.8 else r.randrange(2 * PAGE))
@@ -243,7 +262,7 @@ def line(r, name, node, found):
     """A line of traffic of a manager."""
     if r.random() < 0.08:
         return 'wait ' + name
-    shape = burst(r, found.bus, found.bases)
+    shape = burst(r, node.keys['bus'], found.bases)
     head = '%s %d 0x%x %d %s' % (name, r.randrange(1 << node.keys['id_width']), *shape[:3])
     if r.random() < 0.5:
         return 'read %s %d' % (head, shape[3])

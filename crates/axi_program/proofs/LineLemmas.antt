@@ -9,7 +9,7 @@ use Rattle.std.proofs.lemmas.Option.{get_or_from_slice_get, none-some, same_Some
 use Rattle.manager_node.specs.Answer.{AnswerView}
 use Rattle.manager_node.specs.declared.script.Txn.{Txn}
 use Rattle.net_build.specs.NetRun.{NetRun}
-use Rattle.net_build.specs.Noted.{answer_noted, manager_of_place}
+use Rattle.net_build.specs.Noted.{answer_of_number, manager_of_place}
 use Rattle.net_plan.proofs.NodeBegins.{number-at}
 use Rattle.plan_traffic.specs.Accepted.{IsTraffic, Suits}
 use Rattle.plan_traffic.specs.Traffic.{TrafficItem}
@@ -55,13 +55,13 @@ number-is run number item traffic positive at =
 -- its line is that of its answer
 line-is :
     (run : NetRun) (number : ℕ) (item : TrafficItem) → IsTraffic run.nodes run.items → 0 < number → slice_get run.items (number - 1) ≡ Some item →
-    line_of_number run number ≡ option_map_or (answer_line (node_at run.nodes item.manager).name item.txn) (answer_noted run number) []
+    line_of_number run number ≡ option_map_or (answer_line (node_at run.nodes item.manager).name item.txn) (answer_of_number run number) []
 line-is run number item traffic positive at =
     ap (λ (o : Option TrafficItem). option_map_or (item_line run) o []) at
-    ∙ ap (λ (n : ℕ). option_map_or (answer_line (node_at run.nodes item.manager).name item.txn) (answer_noted run n) []) (number-is run number item traffic positive at)
+    ∙ ap (λ (n : ℕ). option_map_or (answer_line (node_at run.nodes item.manager).name item.txn) (answer_of_number run n) []) (number-is run number item traffic positive at)
 
 -- and there is none where it isn't answered
-pub unanswered-line : (run : NetRun) (number : ℕ) → IsTraffic run.nodes run.items → 0 < number → None ≡ answer_noted run number → line_of_number run number ≡ []
+pub unanswered-line : (run : NetRun) (number : ℕ) → IsTraffic run.nodes run.items → 0 < number → None ≡ answer_of_number run number → line_of_number run number ≡ []
 unanswered-line run number traffic positive noted = go (slice_get run.items (number - 1)) refl
   where
     go : (o : Option TrafficItem) → slice_get run.items (number - 1) ≡ o → line_of_number run number ≡ []
@@ -73,7 +73,7 @@ unanswered-line run number traffic positive noted = go (slice_get run.items (num
 pub answered-line :
     (run : NetRun) (number : ℕ) (item : TrafficItem) (name : List ℕ) (txn : Txn) (answer : AnswerView) → IsTraffic run.nodes run.items → 0 < number →
     slice_get run.items (number - 1) ≡ Some item → name ≡ (node_at run.nodes (manager_of_place run.items (number - 1))).name →
-    option_map (λ (i : TrafficItem). i.txn) (slice_get run.items (number - 1)) ≡ Some txn → Some answer ≡ answer_noted run number →
+    option_map (λ (i : TrafficItem). i.txn) (slice_get run.items (number - 1)) ≡ Some txn → Some answer ≡ answer_of_number run number →
     answer_line name txn answer ≡ line_of_number run number
 answered-line run number item name txn answer traffic positive at named its noted =
     let manager : manager_of_place run.items (number - 1) ≡ item.manager = ap (λ (o : Option TrafficItem). option_map_or (λ (i : TrafficItem). i.manager) o 0) at in

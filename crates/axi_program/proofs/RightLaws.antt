@@ -1,5 +1,6 @@
 -- The run of every document that is accepted is right.
 use Rattle.std.proofs.Common.{ℕ, Ok, Some, sym, ◌∙◌}
+use Rattle.std.proofs.lemmas.Bool.{false≢true}
 use Rattle.document.proofs.PlanLemmas.{plans-follow_documents}
 use Rattle.document.proofs.RunnableLemmas.{accepted-are_runnable}
 use Rattle.document.specs.Document.{Asked}
@@ -18,7 +19,7 @@ use Rattle.net_ways.specs.Sound.{IsSound}
 use Rattle.axi_program.proofs.CallLaws.{planned-outcome}
 use Rattle.axi_program.proofs.LeastLemmas.{run_length-is}
 use Rattle.axi_program.specs.Planning.{PlansTellBounds}
-use Rattle.axi_program.specs.Right.{DocumentsRunRight, PortsLegal, RunIsRight}
+use Rattle.axi_program.specs.Right.{PlainDocumentsRunRight, PortsLegal, RunIsRight}
 use Rattle.axi_program.specs.Run.{bound, opened_network, run_rounds}
 
 -- the network of a document that is accepted can be run
@@ -28,12 +29,12 @@ can-run asked runnable = record { formed = runnable.formed; accepted = runnable.
 pub sound-opening : (asked : Asked) → IsRunnable asked → IsSound node_kind (opening asked.nodes asked.items) (form_of_link asked.nodes)
 sound-opening asked runnable = openings-are_sound asked.nodes asked.items (can-run asked runnable) runnable.traffic
 
+-- no network that runs has a link of AXI4-Lite yet
 ports-legal : (asked : Asked) → IsRunnable asked → (rounds : ℕ) → PortsLegal asked rounds
 ports-legal asked runnable rounds link less =
     let sound = sound-opening asked runnable in
     let fits = plan-fits asked.nodes asked.items (can-run asked runnable) runnable.traffic in
-    let full = sym (sound.formed link less).lite ∙ (fits.links link less).axi in
-    (full, sound-ports_are_legal node_kind node_holds (opened_network asked) (form_of_link asked.nodes) sound link less full rounds)
+    sound-ports_are_legal node_kind node_holds (opened_network asked) (form_of_link asked.nodes) sound link less (λ lite. absurd (false≢true (sym (fits.links link less).axi ∙ lite))) rounds
 
 run-is-right : (asked : Asked) → IsRunnable asked → RunIsRight asked
 unfolding run_rounds
@@ -47,7 +48,7 @@ run-is-right asked runnable =
       traced = plans-show_lines asked.nodes asked.items run runnable.traffic;
     }
 
-pub documents-run-right : DocumentsRunRight
+pub documents-run-right : PlainDocumentsRunRight
 documents-run-right input asked accepted = run-is-right asked (accepted-are_runnable input asked accepted)
 
 -- the plan of every such document tells the bound of its run

@@ -1,20 +1,19 @@
--- That the run of every document that is accepted is right.
-use Rattle.std.specs.Prelude.{◌≡◌, ◌<◌, ◌^◌, ℕ, List, None, Ok, false, length}
-use Rattle.axi_history.specs.PortRules.{axi4_history_fault}
+-- That the run of every plain document that is accepted is right.
+use Rattle.std.specs.Prelude.{◌≡◌, ◌<◌, ◌^◌, ℕ, List, None, Ok, length}
 use Rattle.document.specs.Document.{Asked, document_of}
+use Rattle.lite_rules.specs.PortFaults.{history_fault}
 use Rattle.net_due.specs.DueLaws.{IsRightByPlan}
 use Rattle.net_kinds.specs.NodeKind.{node_kind}
 use Rattle.net_model.specs.Network.{net_link}
 use Rattle.net_ranges.specs.TraceLines.{ShowsTraceLines}
-use Rattle.net_runs.specs.Ports.{history_of}
+use Rattle.net_runs.specs.Ports.{history_of, port_kind}
 use Rattle.axi_program.specs.Run.{IsRunLength, bound, opened_network, run_rounds}
 
--- every port speaks AXI4, and has broken none of its rules in the first rounds of a run
+-- no port has broken a rule of its kind, AXI4 or AXI4-Lite, in the first rounds of a run
 abbrev pub PortsLegal : Asked → ℕ → Type 0
 PortsLegal asked rounds =
     (link : ℕ) → link < length (opened_network asked).links →
-    ((net_link (opened_network asked).links link).lite ≡ false)
-    × (axi4_history_fault (net_link (opened_network asked).links link).bus (history_of node_kind rounds (opened_network asked) link) ≡ None)
+    history_fault (port_kind (net_link (opened_network asked).links link)) (history_of node_kind rounds (opened_network asked) link) ≡ None
 
 -- The run of what is asked is right.
 pub record RunIsRight (asked : Asked) : Type 0 where
@@ -27,6 +26,7 @@ pub record RunIsRight (asked : Asked) : Type 0 where
   -- What each port shows is within the ranges of a trace line, so that its line is one, in as many rounds as have numbers.
   pub traced : (rounds : ℕ) → rounds < 2 ^ 63 → ShowsTraceLines (opened_network asked) rounds
 
--- so is the run of every document that is accepted
-abbrev pub DocumentsRunRight : Type 0
-DocumentsRunRight = (input : List ℕ) (asked : Asked) → document_of input ≡ Ok asked → RunIsRight asked
+-- So is the run of every plain document that is accepted: one with nodes of kinds that cut bursts or speak AXI4-Lite, `down`,
+-- `lite` and `lite_memory`, isn't accepted yet.
+abbrev pub PlainDocumentsRunRight : Type 0
+PlainDocumentsRunRight = (input : List ℕ) (asked : Asked) → document_of input ≡ Ok asked → RunIsRight asked

@@ -4,7 +4,7 @@ use Rattle.std.specs.List.{flat_map}
 use Rattle.std.specs.Option.{option_map_or}
 use Rattle.std.specs.Fmt.{decimal}
 use Rattle.net_build.specs.NetRun.{NetRun}
-use Rattle.net_build.specs.Noted.{answer_noted}
+use Rattle.net_build.specs.Noted.{answer_of_number}
 use Rattle.plan_traffic.specs.Traffic.{TrafficItem}
 use Rattle.topology_text.specs.Document.{node_at}
 use Rattle.refusals.specs.Cause.{cause_code, cause_name, cause_of_code, names_place}
@@ -75,7 +75,7 @@ rounds_line rounds = codes "rounds " ++ decimal rounds ++ codes "\n"
 module _ (run : NetRun) where
   -- the line of a transaction of a network that is run, where it is answered after these rounds
   abbrev pub item_line : TrafficItem → List ℕ
-  item_line item = option_map_or (answer_line (node_at run.nodes item.manager).name item.txn) (answer_noted run item.txn.number) []
+  item_line item = option_map_or (answer_line (node_at run.nodes item.manager).name item.txn) (answer_of_number run item.txn.number) []
 
   -- the lines of transactions, in order
   abbrev pub answer_lines : List TrafficItem → List ℕ

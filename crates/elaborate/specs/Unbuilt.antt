@@ -2,12 +2,11 @@
 use Rattle.std.specs.Prelude.{ℕ, List, Bool, true, false, Option, position}
 use Rattle.topology.specs.Document.{DocumentNode}
 use Rattle.topology_text.specs.declared.kind.Kind.{Kind}
-use Rattle.topology_text.specs.declared.kind.Kind.TheVariants.{LiteMemory, Up, Down, Lite}
+use Rattle.topology_text.specs.declared.kind.Kind.TheVariants.{LiteMemory, Down, Lite}
 
 -- the kinds that don't run yet
 abbrev pub is_unbuilt : Kind → Bool
 is_unbuilt LiteMemory = true
-is_unbuilt Up = true
 is_unbuilt Down = true
 is_unbuilt Lite = true
 is_unbuilt other = false

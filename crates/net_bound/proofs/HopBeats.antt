@@ -21,7 +21,7 @@ use Rattle.error_node.specs.ErrorTable.{error_service}
 use Rattle.memory_node.specs.MemoryTable.{memory_service}
 use Rattle.net_kinds.specs.NodeKind.{node_kind}
 use Rattle.net_opening.specs.Opening.{opening, state_by_part}
-use Rattle.net_opening.specs.States.{memory_at}
+use Rattle.net_opening.specs.States.{memory_at, up_at}
 use Rattle.net_plan.proofs.WayEnds.{below, below-is, deeper, depth_at, from-ends, from-next, lower-known, shallow, step, whole}
 use Rattle.net_plan.specs.PlanLaws.{CanRun}
 use Rattle.net_progress.specs.Transfers.{share_beats}
@@ -32,6 +32,9 @@ use Rattle.subordinate.specs.Parts.{BeatOf, beats_of_parts}
 use Rattle.subordinate.specs.Service.{Service, worst_of_beats}
 use Rattle.subordinate.specs.Tracks.{ends_with}
 use Rattle.topology.specs.Document.{DocumentNode}
+use Rattle.up_node.specs.UpBeats.{beat_widened}
+use Rattle.up_node.specs.UpCut.{beat_shifts, data_widened, moved_each}
+use Rattle.up_node.specs.declared.shape.UpShape.{UpShape}
 
 -- ---- the responses where a transaction ends
 
@@ -65,13 +68,31 @@ hop_beats hop = share_beats hop.share
 abbrev pub data_count : List (List WBeat) → ℕ
 data_count write_data = length (flat_map (λ beats. beats) write_data)
 
--- a share of one request, with this data and as many responses at most as the request has beats
-share-few : (request : Addr) (parts : List Addr) (one other : List (List WBeat)) (responses : List Resp) → parts ≡ request ∷ [] → one ≡ other → length responses ≤ beats_of request →
+-- a share of one request, with so many beats of data at most and as many responses at most as the request has beats
+share-few : (request : Addr) (parts : List Addr) (one other : List (List WBeat)) (responses : List Resp) → parts ≡ request ∷ [] → data_count one ≤ data_count other → length responses ≤ beats_of request →
     length parts + length (flat_map (λ beats. beats) one) + length responses ≤ 1 + data_count other + beats_of request
-share-few request parts one other responses is same few =
+share-few request parts one other responses is few_data few =
     let single : length parts ≡ 1 = ap length is in
-    let same_data : length (flat_map (λ beats. beats) one) ≡ length (flat_map (λ beats. beats) other) = ap (λ (ws : List (List WBeat)). length (flat_map (λ beats. beats) ws)) same in
-    omega (arith, single, same_data, few)
+    omega (arith, single, few_data, few)
+
+-- beats that are moved are no more
+moved-few : {X : Type 0} (moved : ℕ → X → X) (shifts : List ℕ) (xs : List X) → length (moved_each moved shifts xs) ≤ length xs
+moved-few moved [] xs = omega arith
+moved-few moved (k ∷ shifts) [] = omega arith
+moved-few moved (k ∷ shifts) (x ∷ xs) = omega (arith, moved-few moved shifts xs)
+
+widened-few : (shape : UpShape) (parts : List Addr) (data_of : List (List WBeat)) → data_count (data_widened shape parts data_of) ≤ data_count data_of
+widened-few shape [] data_of = omega arith
+widened-few shape (part ∷ parts) [] = omega arith
+widened-few shape (part ∷ parts) (beats ∷ data_of) =
+    let rest : List WBeat = flat_map (λ beats. beats) (data_widened shape parts data_of) in
+    omega (
+      arith,
+      moved-few (beat_widened shape) (beat_shifts shape part) beats,
+      widened-few shape parts data_of,
+      length-append (moved_each (beat_widened shape) (beat_shifts shape part) beats) rest,
+      length-append beats (flat_map (λ beats. beats) data_of),
+    )
 
 module _ (nodes : List DocumentNode) (items : List TrafficItem) (run : CanRun nodes) where
   ends-by : (write : Bool) (request : Addr) (share : Share) (number : ℕ) (p : Part) → share.parts ≡ request ∷ [] →
@@ -88,6 +109,21 @@ module _ (nodes : List DocumentNode) (items : List TrafficItem) (run : CanRun no
   ends-by write request share number part.Up parts = omega arith
   ends-by write request share number part.Down parts = omega arith
   ends-by write request share number part.Lite parts = omega arith
+
+  -- no kind sends on more beats of data than come to it
+  cut-by : (share : Share) (number : ℕ) (p : Part) → data_count ((node_kind.way (state_by_part nodes items number p)).cut share).write_data ≤ data_count share.write_data
+  cut-by share number part.Manager = omega arith
+  cut-by share number part.Memory = omega arith
+  cut-by share number part.Error = omega arith
+  cut-by share number part.Mux = omega arith
+  cut-by share number part.Demux = omega arith
+  cut-by share number part.Slice = omega arith
+  cut-by share number part.LiteMemory = omega arith
+  cut-by share number part.Remap = omega arith
+  cut-by share number part.Split = omega arith
+  cut-by share number part.Up = widened-few (up_at nodes number).shape share.parts share.write_data
+  cut-by share number part.Down = omega arith
+  cut-by share number part.Lite = omega arith
 
   -- no kind merges responses
   merged-by : (write : Bool) (share : Share) (responses : List Resp) (number : ℕ) (p : Part) → (node_kind.way (state_by_part nodes items number p)).merged write share responses ≡ responses
@@ -110,6 +146,11 @@ module _ (nodes : List DocumentNode) (items : List TrafficItem) (run : CanRun no
       subst (λ (w : Way). length (w.ends write share) ≤ beats_of request) (sym (below-is nodes items run link (lower-known nodes items run link less)))
       (ends-by write request share (plan_link_at nodes link).lower (plan_node_at nodes (plan_link_at nodes link).lower).part parts)
 
+  cut-few : (link : ℕ) (share : Share) → link < length (plan_links nodes) → data_count ((below nodes items run link).cut share).write_data ≤ data_count share.write_data
+  cut-few link share less =
+      subst (λ (w : Way). data_count (w.cut share).write_data ≤ data_count share.write_data) (sym (below-is nodes items run link (lower-known nodes items run link less)))
+      (cut-by share (plan_link_at nodes link).lower (plan_node_at nodes (plan_link_at nodes link).lower).part)
+
   merged-same : (write : Bool) (link : ℕ) (share : Share) (responses : List Resp) → link < length (plan_links nodes) → (below nodes items run link).merged write share responses ≡ responses
   merged-same write link share responses less =
       ap (λ (w : Way). w.merged write share responses) (below-is nodes items run link (lower-known nodes items run link less))
@@ -129,7 +170,7 @@ module _ (nodes : List DocumentNode) (items : List TrafficItem) (run : CanRun no
     -- the hops of a way that begins with a link, along the path from the node below it
     abbrev pub FewFrom : ℕ → Type 0
     FewFrom left =
-        (link most : ℕ) (share : Share) → link < length (plan_links nodes) → share.parts ≡ request ∷ [] → share.write_data ≡ write_data →
+        (link most : ℕ) (share : Share) → link < length (plan_links nodes) → share.parts ≡ request ∷ [] → data_count share.write_data ≤ data_count write_data →
         length (plan_nodes nodes) ≤ depth_at nodes items run (plan_link_at nodes link).lower + most →
         (sum_by hop_beats (from left link share) ≤ path_beats most (plan_link_at nodes link).lower) × (length (responses_from (from left link share)) ≤ beats_of request)
 
@@ -144,12 +185,12 @@ module _ (nodes : List DocumentNode) (items : List TrafficItem) (run : CanRun no
 
     few-none : FewFrom 0
     unfolding way_from
-    few-none link most share less parts same enough = (omega arith, omega arith)
+    few-none link most share less parts sent enough = (omega arith, omega arith)
 
     few-more : (left : ℕ) → FewFrom left → FewFrom (suc left)
-    few-more left again link zero share less parts same enough =
+    few-more left again link zero share less parts sent enough =
         absurd (omega (arith, enough, shallow nodes items run (plan_link_at nodes link).lower (lower-known nodes items run link less)))
-    few-more left again link (suc most) share less parts same enough = go ((below nodes items run link).goes_on share) refl
+    few-more left again link (suc most) share less parts sent enough = go ((below nodes items run link).goes_on share) refl
       where
         go : (o : Option ℕ) → (below nodes items run link).goes_on share ≡ o →
             (sum_by hop_beats (from (suc left) link share) ≤ path_beats (suc most) (plan_link_at nodes link).lower) × (length (responses_from (from (suc left) link share)) ≤ beats_of request)
@@ -157,7 +198,7 @@ module _ (nodes : List DocumentNode) (items : List TrafficItem) (run : CanRun no
             let hop : Hop = hop_at_end (below nodes items run link) write link share in
             let hops : from (suc left) link share ≡ hop_at_end (below nodes items run link) write link share ∷ [] = from-ends nodes items run write left link share stops in
             let few = ends-few write request link share less parts in
-            let beats = share-few request share.parts share.write_data write_data ((below nodes items run link).ends write share) parts same few in (
+            let beats = share-few request share.parts share.write_data write_data ((below nodes items run link).ends write share) parts sent few in (
               omega (
                 arith,
                 ap (λ (hops : List Hop). sum_by hop_beats hops) hops,
@@ -173,12 +214,12 @@ module _ (nodes : List DocumentNode) (items : List TrafficItem) (run : CanRun no
             let down = deeper nodes items run (plan_link_at nodes link).lower (plan_link_at nodes next).lower (lower-known nodes items run next on.1)
             (onward-below nodes request.addr (plan_link_at nodes link).lower (plan_link_at nodes next).lower on.0) in
             let further = again next most (onto next ((below nodes items run link).cut share)) on.1
-            (ap (λ (s : Share). s.parts) (whole nodes items run link share less) ∙ parts) (ap (λ (s : Share). s.write_data) (whole nodes items run link share less) ∙ same)
+            (whole nodes items run link share less ∙ parts) (omega (arith, cut-few link share less, sent))
             (omega (arith, enough, down)) in
             let merged = merged-same write link share (responses_from rest) less in
             let few : length ((below nodes items run link).merged write share (responses_from rest)) ≤ beats_of request = subst (λ (rs : List Resp). length rs ≤ beats_of request) (sym merged) further.1 in
             let hops = from-next nodes items run write left link next share goes in
-            let beats = share-few request share.parts share.write_data write_data ((below nodes items run link).merged write share (responses_from rest)) parts same few in (
+            let beats = share-few request share.parts share.write_data write_data ((below nodes items run link).merged write share (responses_from rest)) parts sent few in (
               omega (
                 arith,
                 ap (λ (hops : List Hop). sum_by hop_beats hops) hops,

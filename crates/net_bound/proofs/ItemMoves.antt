@@ -106,7 +106,7 @@ module _ (nodes : List DocumentNode) (items : List TrafficItem) (run : CanRun no
     hops-few : sum_by hop_beats (way_of node_kind net origin) ≤ link_most * length rest
     hops-few =
         let few = few-from nodes items run origin.write request origin.share.write_data (suc (length net.nodes)) (link_out_of nodes number) (length (plan_nodes nodes) - 1) origin.share
-        (start-known nodes items run number less manager) refl refl (start-deep nodes items run number less manager) in
+        (start-known nodes items run number less manager) refl (omega arith) (start-deep nodes items run number less manager) in
         omega (arith, few.0, sum-each link_most rest)
 
     rest-long : length rest ≤ length (path_of nodes item.manager item.txn.request.addr)

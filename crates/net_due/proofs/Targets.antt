@@ -80,7 +80,7 @@ module _ (nodes : List DocumentNode) (items : List TrafficItem) (run : CanRun no
   stops-by number node part.LiteMemory share request at is parts suits long other e = absurd suits
   stops-by number node part.Remap share request at is parts suits long other e = absurd (None-Some _ (sym e))
   stops-by number node part.Split share request at is parts suits long other e = absurd suits
-  stops-by number node part.Up share request at is parts suits long other e = absurd suits
+  stops-by number node part.Up share request at is parts suits long other e = absurd (None-Some _ (sym e))
   stops-by number node part.Down share request at is parts suits long other e = absurd suits
   stops-by number node part.Lite share request at is parts suits long other e = absurd suits
 

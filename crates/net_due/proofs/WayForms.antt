@@ -21,7 +21,7 @@ use Rattle.net_history.proofs.RoundLemmas.{IsItem}
 use Rattle.net_history.specs.Due.{last_hop, way_end}
 use Rattle.net_kinds.specs.NodeHolds.{node_holds}
 use Rattle.net_kinds.specs.NodeKind.{KindName, NodeState, StateOf, kind_by_name, node_kind}
-use Rattle.net_kinds.specs.NodeKind.KindName.{ADemux, AManager, AMemory, AMux, ARemap, ASlice, AnError}
+use Rattle.net_kinds.specs.NodeKind.KindName.{ADemux, AManager, AMemory, AMux, ARemap, ASlice, AnError, AnUp}
 use Rattle.net_model.specs.Network.{Network, lower_node}
 use Rattle.net_ways.proofs.HopLemmas.{IsJoined, IsStep}
 use Rattle.net_ways.proofs.OriginLemmas.{HasItsWay, is-found, its-way}
@@ -55,6 +55,8 @@ module _ (net : Network NodeState) (forms : ℕ → LinkForm) (sound : IsSound n
       ap (λ (f : LinkForm). f.lite) equal ∙ ap (λ (l : ℕ). (forms l).lite) (sym (only link s.shape.upper above))
   same-by ARemap s link next share fits above goes =
       ap (λ (l : ℕ). (forms l).lite) (sym (same_Some s.shape.lower next goes)) ∙ fits.alike.lite ∙ ap (λ (l : ℕ). (forms l).lite) (sym (only link s.shape.upper above))
+  same-by AnUp s link next share fits above goes =
+      ap (λ (l : ℕ). (forms l).lite) (sym (same_Some s.shape.lower next goes)) ∙ ap (λ (f : LinkForm). f.lite) fits.below ∙ ap (λ (l : ℕ). (forms l).lite) (sym (only link s.shape.upper above))
   same-by AManager s link next share fits above goes = absurd (none-some next goes)
   same-by AMemory s link next share fits above goes = absurd (none-some next goes)
   same-by AnError s link next share fits above goes = absurd (none-some next goes)

@@ -39,7 +39,7 @@ use Rattle.net_history.proofs.RunStates.{acted_as, run_state, stands-at}
 use Rattle.net_history.specs.Due.{way_end, way_target}
 use Rattle.net_kinds.specs.NodeHolds.{node_holds}
 use Rattle.net_kinds.specs.NodeKind.{KindName, NodeState, StateOf, node_kind}
-use Rattle.net_kinds.specs.NodeKind.KindName.{ADemux, AManager, AMemory, AMux, ARemap, ASlice, AnError}
+use Rattle.net_kinds.specs.NodeKind.KindName.{ADemux, AManager, AMemory, AMux, ARemap, ASlice, AnError, AnUp}
 use Rattle.net_model.specs.Network.{Network, lower_node, upper_node}
 use Rattle.net_runs.specs.Run.{chosen, lower_end, nodes_after, noted_by, passed_by, queues_after, upper_end}
 use Rattle.net_history.proofs.ShownLemmas.{beq-itself, beq-true}
@@ -171,6 +171,7 @@ module _ (net : Network NodeState) (forms : ℕ → LinkForm) (sound : IsSound n
       of-kind k AnError s out at is = absurd (cc)
       of-kind k ADemux s out at is = absurd (cc)
       of-kind k ARemap s out at is = absurd (cc)
+      of-kind k AnUp s out at is = absurd (cc)
 
       at-some_node : (k : ℕ) (o : Option (Acted NodeState)) → slice_get (nodes_after node_kind net m) k ≡ o →
           (option_map_or (λ (a : Acted NodeState). node_kind.knows (schedules net forms sound) a.state (passed_by node_kind net k m)) o nothing_known).issued number ≡ true → IsIssuedBy m number

@@ -23,7 +23,7 @@ use Rattle.net_history.proofs.RunStates.{acted_as, run_state, stands-at}
 use Rattle.net_history.specs.Due.{transactions_of, way_end, way_target}
 use Rattle.net_history.specs.History.{event_of, events_after, issues_after}
 use Rattle.net_kinds.specs.NodeKind.{KindName, NodeState, StateOf, node_kind}
-use Rattle.net_kinds.specs.NodeKind.KindName.{ADemux, AManager, AMemory, AMux, ARemap, ASlice, AnError}
+use Rattle.net_kinds.specs.NodeKind.KindName.{ADemux, AManager, AMemory, AMux, ARemap, ASlice, AnError, AnUp}
 use Rattle.net_model.specs.Network.{Network}
 use Rattle.net_runs.specs.Run.{lower_end, nodes_after, noted_by, noted_in, queues_after}
 use Rattle.net_ways.specs.Sound.{IsSound}
@@ -77,6 +77,7 @@ module _ (net : Network NodeState) (forms : ℕ → LinkForm) (sound : IsSound n
   of-kind m node AnError s out at = inr refl
   of-kind m node ADemux s out at = inr refl
   of-kind m node ARemap s out at = inr refl
+  of-kind m node AnUp s out at = inr refl
 
   pub of-item : (m node : ℕ) → All (IsOfItem m node) (noted_in node_kind net node m)
   of-item m node = go (slice_get (nodes_after node_kind net m) node) refl

@@ -44,7 +44,7 @@ use Rattle.net_history.specs.Due.{bytes_carried, byte_named, wanted_of_beat, way
 use Rattle.net_history.specs.History.{events_after}
 use Rattle.net_kinds.specs.NodeHolds.{node_holds}
 use Rattle.net_kinds.specs.NodeKind.{KindName, NodeState, StateOf, node_kind}
-use Rattle.net_kinds.specs.NodeKind.KindName.{ADemux, AManager, AMemory, AMux, ARemap, ASlice, AnError}
+use Rattle.net_kinds.specs.NodeKind.KindName.{ADemux, AManager, AMemory, AMux, ARemap, ASlice, AnError, AnUp}
 use Rattle.net_model.specs.Network.{Network}
 use Rattle.net_runs.specs.Run.{nodes_after, noted_by, passed_by, upper_end}
 use Rattle.net_ways.proofs.WayLemmas.{is-carried}
@@ -158,6 +158,7 @@ module _ (net : Network NodeState) (forms : ℕ → LinkForm) (sound : IsSound n
   zeros-kind n number k AMux s out at none = All-nil IsZero
   zeros-kind n number k ADemux s out at none = All-nil IsZero
   zeros-kind n number k ARemap s out at none = All-nil IsZero
+  zeros-kind n number k AnUp s out at none = All-nil IsZero
 
   abbrev filled_by : ℕ → ℕ → ℕ → Option (Acted NodeState) → List ℕ
   filled_by n number k o = (option_map_or (λ (a : Acted NodeState). node_kind.knows (schedules net forms sound) a.state (passed_by node_kind net k n)) o nothing_known).filled number

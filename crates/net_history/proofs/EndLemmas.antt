@@ -19,7 +19,7 @@ use Rattle.axi_trail.specs.Schedule.{Share}
 use Rattle.net_history.specs.Due.{last_hop, way_end}
 use Rattle.net_kinds.specs.NodeHolds.{node_holds}
 use Rattle.net_kinds.specs.NodeKind.{KindName, NodeState, StateOf, kind_by_name, node_kind}
-use Rattle.net_kinds.specs.NodeKind.KindName.{ADemux, AManager, AMemory, AMux, ARemap, ASlice, AnError}
+use Rattle.net_kinds.specs.NodeKind.KindName.{ADemux, AManager, AMemory, AMux, ARemap, ASlice, AnError, AnUp}
 use Rattle.net_model.specs.Network.{Network, lower_node}
 use Rattle.net_model.specs.Wired.{IsWired}
 use Rattle.net_ways.proofs.HopLemmas.{IsEnd, IsJoined, IsStep, behind, share-further, share-here}
@@ -42,6 +42,7 @@ cut-of_kind AMux s share = refl
 cut-of_kind AnError s share = refl
 cut-of_kind ADemux s share = refl
 cut-of_kind ARemap s share = refl
+cut-of_kind AnUp s share = refl
 
 merged-of_kind : (name : KindName) (s : StateOf name) (write : Bool) (share : Share) (below : List Resp) → ((kind_by_name name).way s).merged write share below ≡ below
 merged-of_kind ASlice s write share below = refl
@@ -51,6 +52,7 @@ merged-of_kind AMux s write share below = refl
 merged-of_kind AnError s write share below = refl
 merged-of_kind ADemux s write share below = refl
 merged-of_kind ARemap s write share below = refl
+merged-of_kind AnUp s write share below = refl
 
 none-cuts : (nodes : List (Acted NodeState)) (number : ℕ) (share : Share) → ((way_at node_kind nodes number).cut share).parts ≡ share.parts
 none-cuts nodes number share = go (slice_get nodes number)
@@ -86,6 +88,7 @@ ends-of_kind AMux s write share = omega arith
 ends-of_kind AnError s write share = service-few error_service write share
 ends-of_kind ADemux s write share = omega arith
 ends-of_kind ARemap s write share = omega arith
+ends-of_kind AnUp s write share = omega arith
 
 pub ends-few : (nodes : List (Acted NodeState)) (number : ℕ) (write : Bool) (share : Share) → length ((way_at node_kind nodes number).ends write share) ≤ responses_due write share
 ends-few nodes number write share = go (slice_get nodes number)

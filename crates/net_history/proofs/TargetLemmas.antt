@@ -41,7 +41,7 @@ use Rattle.net_history.specs.Due.{bytes_carried, fill_of, may_access, may_at_tar
 use Rattle.net_history.specs.History.{event_of, events_after}
 use Rattle.net_kinds.specs.NodeHolds.{node_holds}
 use Rattle.net_kinds.specs.NodeKind.{KindName, NodeState, StateOf, node_kind}
-use Rattle.net_kinds.specs.NodeKind.KindName.{ADemux, AManager, AMemory, AMux, ARemap, ASlice, AnError}
+use Rattle.net_kinds.specs.NodeKind.KindName.{ADemux, AManager, AMemory, AMux, ARemap, ASlice, AnError, AnUp}
 use Rattle.net_model.specs.Network.{Network}
 use Rattle.net_runs.specs.Run.{lower_end, nodes_after, noted_by, noted_in, queues_after}
 use Rattle.net_ways.proofs.OriginLemmas.{not-carried}
@@ -116,6 +116,7 @@ module _ (net : Network NodeState) (forms : ℕ → LinkForm) (sound : IsSound n
   ends-kind o AnError s out at = inr (record { noted = quiet-kind (way_target net forms o) AnError s out at (λ n. refl); may = λ write. ap (λ (x : Option (Acted NodeState)). option_map_or (λ (a : Acted NodeState). may_access a.state.kind a.state.state write) x (λ address. false)) at })
   ends-kind o ADemux s out at = inr (record { noted = quiet-kind (way_target net forms o) ADemux s out at (λ n. refl); may = λ write. ap (λ (x : Option (Acted NodeState)). option_map_or (λ (a : Acted NodeState). may_access a.state.kind a.state.state write) x (λ address. false)) at })
   ends-kind o ARemap s out at = inr (record { noted = quiet-kind (way_target net forms o) ARemap s out at (λ n. refl); may = λ write. ap (λ (x : Option (Acted NodeState)). option_map_or (λ (a : Acted NodeState). may_access a.state.kind a.state.state write) x (λ address. false)) at })
+  ends-kind o AnUp s out at = inr (record { noted = quiet-kind (way_target net forms o) AnUp s out at (λ n. refl); may = λ write. ap (λ (x : Option (Acted NodeState)). option_map_or (λ (a : Acted NodeState). may_access a.state.kind a.state.state write) x (λ address. false)) at })
 
   pub ends-at : (o : Origin) → ((c : MemoryState) × IsMemoryAt net (way_target net forms o) c) ⊎ IsQuiet o
   ends-at o = go (slice_get net.nodes (way_target net forms o)) refl

@@ -27,7 +27,7 @@ use Rattle.net_history.proofs.RunStates.{acted_as, run_state, stands-at}
 use Rattle.net_history.specs.Due.{way_target}
 use Rattle.net_kinds.specs.NodeHolds.{node_holds}
 use Rattle.net_kinds.specs.NodeKind.{KindName, NodeState, StateOf, node_kind}
-use Rattle.net_kinds.specs.NodeKind.KindName.{ADemux, AManager, AMemory, AMux, ARemap, ASlice, AnError}
+use Rattle.net_kinds.specs.NodeKind.KindName.{ADemux, AManager, AMemory, AMux, ARemap, ASlice, AnError, AnUp}
 use Rattle.net_model.specs.Network.{Network, lower_node}
 use Rattle.net_runs.specs.Run.{chosen, lower_end, nodes_after, noted_by, passed_by, queues_after}
 use Rattle.net_ways.proofs.OriginLemmas.{own-upper}
@@ -127,6 +127,7 @@ module _ (net : Network NodeState) (forms : ℕ → LinkForm) (sound : IsSound n
       of-kind k AMux s out at is = absurd (cc)
       of-kind k ADemux s out at is = absurd (cc)
       of-kind k ARemap s out at is = absurd (cc)
+      of-kind k AnUp s out at is = absurd (cc)
 
       at-some_node : (k : ℕ) (o : Option (Acted NodeState)) → slice_get (nodes_after node_kind net m) k ≡ o →
           (option_map_or (λ (a : Acted NodeState). node_kind.knows (schedules net forms sound) a.state (passed_by node_kind net k m)) o nothing_known).written number ≡ true → IsWritten m number
@@ -172,6 +173,7 @@ module _ (net : Network NodeState) (forms : ℕ → LinkForm) (sound : IsSound n
     of-other k AMux s out at other = refl
     of-other k ADemux s out at other = refl
     of-other k ARemap s out at other = refl
+    of-other k AnUp s out at other = refl
 
     other-node : (k : ℕ) → ¬ (k ≡ way_target net forms origin) → (known_at node_kind net (schedules net forms sound) m k).filled origin.number ≡ []
     other-node k other = go (slice_get (nodes_after node_kind net m) k) refl

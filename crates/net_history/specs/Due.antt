@@ -12,7 +12,7 @@ use Rattle.manager_node.specs.ManagerTrail.{item_origin}
 use Rattle.manager_node.specs.Script.{ScriptItem}
 use Rattle.memory_node.specs.Status.{may_read, may_write}
 use Rattle.net_history.specs.History.{manager_of}
-use Rattle.net_kinds.specs.NodeKind.{ADemux, AManager, AMemory, AMux, ARemap, ASlice, AnError, KindName, NodeState, StateOf, node_kind}
+use Rattle.net_kinds.specs.NodeKind.{ADemux, AManager, AMemory, AMux, ARemap, ASlice, AnError, AnUp, KindName, NodeState, StateOf, node_kind}
 use Rattle.net_model.specs.Network.{Network, lower_node}
 use Rattle.net_ways.specs.Ways.{Hop, responses_from, way_of}
 use Rattle.node_core.specs.Acted.{Acted}
@@ -31,6 +31,7 @@ may_access AMux s write address = false
 may_access AnError s write address = false
 may_access ADemux s write address = false
 may_access ARemap s write address = false
+may_access AnUp s write address = false
 
 -- the byte that an address of a node holds where nothing was written
 abbrev pub fill_of : (name : KindName) → StateOf name → ℕ
@@ -41,6 +42,7 @@ fill_of AMux s = 0
 fill_of AnError s = 0
 fill_of ADemux s = 0
 fill_of ARemap s = 0
+fill_of AnUp s = 0
 
 -- the byte of an address, with the value that is to be written there
 abbrev pub byte_named : (ℕ → Bool) → Option ℕ → ℕ → NamedByte

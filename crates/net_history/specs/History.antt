@@ -8,7 +8,7 @@ use Rattle.manager_node.specs.Answer.{AnswerView}
 use Rattle.manager_node.specs.ManagerState.{ManagerState, is_answered}
 use Rattle.manager_node.specs.Script.{ScriptItem}
 use Rattle.memory_node.specs.Events.{Access}
-use Rattle.net_kinds.specs.NodeKind.{ADemux, AManager, AMemory, AMux, ARemap, ASlice, AnError, KindName, NodeState, StateOf, node_kind}
+use Rattle.net_kinds.specs.NodeKind.{ADemux, AManager, AMemory, AMux, ARemap, ASlice, AnError, AnUp, KindName, NodeState, StateOf, node_kind}
 use Rattle.net_model.specs.Network.{Network, after_rounds}
 use Rattle.node_core.specs.Acted.{Acted}
 
@@ -54,6 +54,7 @@ manager_by AMux s = None
 manager_by AnError s = None
 manager_by ADemux s = None
 manager_by ARemap s = None
+manager_by AnUp s = None
 
 abbrev pub manager_of : NodeState → Option ManagerState
 manager_of node = manager_by node.kind node.state

@@ -1,6 +1,6 @@
 -- Each kind shows what every kind has to show.
 use Rattle.memory_node.specs.Events.{Access}
-use Rattle.net_kinds.specs.NodeKind.{ADemux, AManager, AMemory, AMux, ARemap, ASlice, AnError, KindName, kind_by_name, node_kind}
+use Rattle.net_kinds.specs.NodeKind.{ADemux, AManager, AMemory, AMux, ARemap, ASlice, AnError, AnUp, KindName, kind_by_name, node_kind}
 use Rattle.node_shape.proofs.FamilyLemmas.{family-holds}
 use Rattle.node_shape.specs.KindHolds.{KindHolds}
 use Rattle.slice_node.proofs.SliceHolds.{slice-holds}
@@ -10,6 +10,7 @@ use Rattle.mux_node.proofs.MuxHolds.{mux-holds}
 use Rattle.error_node.proofs.ErrorHolds.{error-holds}
 use Rattle.demux_node.proofs.DemuxHolds.{demux-holds}
 use Rattle.remap_node.proofs.RemapHolds.{remap-holds}
+use Rattle.up_node.proofs.UpHolds.{up-holds}
 
 pub each_holds : (name : KindName) → KindHolds (kind_by_name name)
 each_holds ASlice = slice-holds Access
@@ -19,6 +20,7 @@ each_holds AMux = mux-holds Access
 each_holds AnError = error-holds Access
 each_holds ADemux = demux-holds Access
 each_holds ARemap = remap-holds Access
+each_holds AnUp = up-holds Access
 
 pub node_holds : KindHolds node_kind
 node_holds = family-holds kind_by_name each_holds

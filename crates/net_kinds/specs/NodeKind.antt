@@ -4,7 +4,7 @@ use Rattle.node_core.specs.Acted.{Acted}
 use Rattle.node_shape.specs.Family.{OneOf, family}
 use Rattle.node_shape.specs.Kind.{Kind}
 use Rattle.net_kinds.specs.declared.node.Node.{Node}
-use Rattle.net_kinds.specs.declared.node.Node.TheVariants.{Demux, Error, Manager, Memory, Mux, Remap, Slice}
+use Rattle.net_kinds.specs.declared.node.Node.TheVariants.{Demux, Error, Manager, Memory, Mux, Remap, Slice, Up}
 use Rattle.slice_node.specs.SliceState.{SliceState}
 use Rattle.slice_node.specs.SliceTrail.{slice_kind}
 use Rattle.memory_node.specs.MemoryState.{MemoryState}
@@ -19,6 +19,8 @@ use Rattle.demux_node.specs.DemuxState.{DemuxState}
 use Rattle.demux_node.specs.DemuxTrail.{demux_kind}
 use Rattle.remap_node.specs.RemapState.{RemapState}
 use Rattle.remap_node.specs.RemapTrail.{remap_kind}
+use Rattle.up_node.specs.UpState.{UpState}
+use Rattle.up_node.specs.UpTrail.{up_kind}
 
 pub data KindName : Type 0 where
   ASlice : KindName
@@ -28,6 +30,7 @@ pub data KindName : Type 0 where
   AnError : KindName
   ADemux : KindName
   ARemap : KindName
+  AnUp : KindName
 
 -- the states of a kind's nodes
 abbrev pub StateOf : KindName → Type 0
@@ -38,6 +41,7 @@ StateOf AMux = MuxState
 StateOf AnError = ErrorState
 StateOf ADemux = DemuxState
 StateOf ARemap = RemapState
+StateOf AnUp = UpState
 
 -- the state of a node: its kind, and its state
 abbrev pub NodeState : Type 0
@@ -51,6 +55,7 @@ kind_by_name AMux = mux_kind
 kind_by_name AnError = error_kind
 kind_by_name ADemux = demux_kind
 kind_by_name ARemap = remap_kind
+kind_by_name AnUp = up_kind
 
 -- a node is of one of these kinds
 abbrev pub node_kind : Kind NodeState Access
@@ -65,3 +70,4 @@ node_view (Mux n) = record { state = record { kind = AMux; state = n.state }; ou
 node_view (Error n) = record { state = record { kind = AnError; state = n.value.state }; out = n.value.out }
 node_view (Demux n) = record { state = record { kind = ADemux; state = n.value.state }; out = n.value.out }
 node_view (Remap n) = record { state = record { kind = ARemap; state = n.value.state }; out = n.value.out }
+node_view (Up n) = record { state = record { kind = AnUp; state = n.value.state }; out = n.value.out }

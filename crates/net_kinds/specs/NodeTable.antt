@@ -4,7 +4,7 @@ use Rattle.axi_link.specs.LinkView.{LinkView}
 use Rattle.axi_link.specs.declared.out.Out.{Out}
 use Rattle.net_kinds.specs.NodeKind.{node_kind, node_view}
 use Rattle.net_kinds.specs.declared.node.Node.{Node}
-use Rattle.net_kinds.specs.declared.node.Node.TheVariants.{Demux, Error, Manager, Memory, Mux, Remap, Slice}
+use Rattle.net_kinds.specs.declared.node.Node.TheVariants.{Demux, Error, Manager, Memory, Mux, Remap, Slice, Up}
 use Rattle.slice_node.specs.SliceTable.{CanSlice, slice_table}
 use Rattle.memory_node.specs.MemoryState.{IsMemory}
 use Rattle.memory_node.specs.MemoryTable.{CanMemory, memory_table}
@@ -18,6 +18,8 @@ use Rattle.demux_node.specs.DemuxState.{IsDemux}
 use Rattle.demux_node.specs.DemuxTable.{CanDemux, demux_table}
 use Rattle.remap_node.specs.RemapState.{IsRemap}
 use Rattle.remap_node.specs.RemapTable.{CanRemap, remap_table}
+use Rattle.up_node.specs.UpState.{IsUp}
+use Rattle.up_node.specs.UpTable.{CanUp, up_table}
 
 -- it may decide in this round on these links
 abbrev pub CanNode : ℕ → List LinkView → Node → Type 0
@@ -28,6 +30,7 @@ CanNode round links (Mux n) = CanMux links n.state.shape
 CanNode round links (Error n) = CanError links n.value.state
 CanNode round links (Demux n) = CanDemux links n.value.state.shape
 CanNode round links (Remap n) = CanRemap links n.value.state.shape
+CanNode round links (Up n) = CanUp links n.value.state
 
 -- the node after it decided
 abbrev pub node_table : ℕ → List LinkView → Node → Node
@@ -38,6 +41,7 @@ node_table round links (Mux n) = Mux (mux_table links n.state)
 node_table round links (Error n) = Error (record n { value = error_table links n.value.state })
 node_table round links (Demux n) = Demux (record n { value = demux_table links n.value.state })
 node_table round links (Remap n) = Remap (record n { value = remap_table links n.value.state })
+node_table round links (Up n) = Up (record n { value = up_table links n.value.state })
 
 -- the moves that it chose
 abbrev pub node_out : Node → Out
@@ -48,6 +52,7 @@ node_out (Mux n) = n.out
 node_out (Error n) = n.value.out
 node_out (Demux n) = n.value.out
 node_out (Remap n) = n.value.out
+node_out (Up n) = n.value.out
 
 -- it waits for no answer
 abbrev pub node_done : Node → Bool
@@ -63,6 +68,7 @@ node_fact (Mux n) = IsMux n.state
 node_fact (Error n) = IsError n.value.state
 node_fact (Demux n) = IsDemux n.value.state
 node_fact (Remap n) = IsRemap n.value.state
+node_fact (Up n) = IsUp n.value.state
 
 -- a node does what its kind does
 pub record DoesAsItsKind (round : ℕ) (links : List LinkView) (node : Node) : Type 0 where

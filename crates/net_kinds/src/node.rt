@@ -13,6 +13,7 @@ use node_core::Step;
 use remap_node::RemapNode;
 use slice_node::SliceNode;
 use std::marker::{Send, Sync};
+use up_node::UpNode;
 
 /// A node of a network.
 #[derive(Drop)]
@@ -27,6 +28,8 @@ pub enum Node {
     Mux(MuxNode),
     /// Between two links, of which the lower one has IDs of its own.
     Remap(Box<RemapNode>),
+    /// Between two links, of which the lower one has a wider bus.
+    Up(Box<UpNode>),
     /// Above one link: it issues the transactions of its script.
     Manager(Box<ManagerNode>),
     /// Below one link: it answers from bytes that it keeps.
@@ -51,6 +54,7 @@ impl Step for Node {
             Node::Error(error) => error.decide(round, links),
             Node::Mux(mux) => mux.decide(round, links),
             Node::Remap(remap) => remap.decide(round, links),
+            Node::Up(up) => up.decide(round, links),
             Node::Manager(manager) => manager.decide(round, links),
             Node::Memory(memory) => memory.decide(round, links),
         }
@@ -63,6 +67,7 @@ impl Step for Node {
             Node::Error(error) => error.out(),
             Node::Mux(mux) => mux.out(),
             Node::Remap(remap) => remap.out(),
+            Node::Up(up) => up.out(),
             Node::Manager(manager) => manager.out(),
             Node::Memory(memory) => memory.out(),
         }
@@ -81,6 +86,7 @@ impl Node {
             Node::Error(_) => true,
             Node::Mux(_) => true,
             Node::Remap(_) => true,
+            Node::Up(_) => true,
             Node::Memory(_) => true,
         }
     }

@@ -3,10 +3,10 @@ use Rattle.std.specs.Prelude.{ℕ, List, length, map}
 use Rattle.elaborate.specs.Plan.{plan_links, plan_node_at, plan_nodes}
 use Rattle.elaborate.specs.declared.part.Part.{Part}
 use Rattle.elaborate.specs.declared.part.Part.TheVariants as part
-use Rattle.net_kinds.specs.NodeKind.{ADemux, AManager, AMemory, AMux, ARemap, ASlice, AnError, NodeState}
+use Rattle.net_kinds.specs.NodeKind.{ADemux, AManager, AMemory, AMux, ARemap, ASlice, AnError, AnUp, NodeState}
 use Rattle.net_model.specs.Network.{Network}
 use Rattle.net_opening.specs.PlanLinks.{net_link_of, queue_of}
-use Rattle.net_opening.specs.States.{demux_at, error_at, manager_at, memory_at, mux_at, remap_at, slice_at}
+use Rattle.net_opening.specs.States.{demux_at, error_at, manager_at, memory_at, mux_at, remap_at, slice_at, up_at}
 use Rattle.node_core.specs.Acted.{opened}
 use Rattle.node_graph.specs.Graph.{numbers}
 use Rattle.topology.specs.Document.{DocumentNode}
@@ -21,6 +21,7 @@ module _ (nodes : List DocumentNode) (items : List TrafficItem) where
   state_by_part number part.Error = record { kind = AnError; state = error_at nodes number }
   state_by_part number part.Demux = record { kind = ADemux; state = demux_at nodes number }
   state_by_part number part.Remap = record { kind = ARemap; state = remap_at nodes number }
+  state_by_part number part.Up = record { kind = AnUp; state = up_at nodes number }
   state_by_part number part.Memory = record { kind = AMemory; state = memory_at nodes number items }
   state_by_part number other = record { kind = ASlice; state = slice_at nodes number }
 

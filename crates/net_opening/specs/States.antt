@@ -18,6 +18,7 @@ use Rattle.remap_node.specs.RemapState.{RemapState, new_remap}
 use Rattle.slice_node.specs.SliceState.{SliceState, new_slice}
 use Rattle.topology.specs.Document.{DocumentNode, node_at, widest}
 use Rattle.topology_text.specs.declared.kind.Span.{Span}
+use Rattle.up_node.specs.UpState.{UpState, new_up}
 
 abbrev pub memory_range : Span → Range
 memory_range span = record { base = span.base; size = span.size }
@@ -70,3 +71,12 @@ module _ (nodes : List DocumentNode) (number : ℕ) where
   -- a remapper has IDs below of the width that its document node names
   abbrev pub remap_at : RemapState
   remap_at = new_remap (record { upper = link_into nodes number; lower = link_out_of nodes number; width = document_node_of.id_width })
+
+  -- an up converter widens the bus above it to that of its document node
+  abbrev pub up_at : UpState
+  up_at = new_up (record {
+    upper = link_into nodes number;
+    lower = link_out_of nodes number;
+    narrow = (plan_link_at nodes (link_into nodes number)).link.bus;
+    wide = document_node_of.bus;
+  })

@@ -11,5 +11,6 @@ pub mod NodeBegins
 pub mod OnceLemmas
 pub mod WayEnds
 pub mod PathStarts
+pub mod PlainLinks
 pub mod LineLemmas
 pub mod OpeningSound

@@ -1,20 +1,21 @@
 -- Each node of a plan's network begins as its kind does.
-use Rattle.std.proofs.Common.{◌≡◌, ◌≢◌, ◌<◌, ◌≤◌, ◌+◌, ◌*◌, ◌%◌, ◌^◌, ◌++◌, ◌==◌, ◌||◌, ◌&&◌, ℕ, zero, suc, Bool, true, false, cond, not, List, [], ◌∷◌, length, map, take, Option, Some, None, refl, sym, ◌∙◌, ap, subst, inl, inr, arith}
+use Rattle.std.proofs.Common.{◌≡◌, ◌≢◌, ◌<◌, ◌≤◌, ◌+◌, ◌*◌, ◌%◌, ◌^◌, ◌++◌, ◌==◌, ◌||◌, ◌&&◌, ℕ, zero, suc, Bool, true, false, cond, not, List, [], ◌∷◌, length, map, take, Option, Some, None, refl, sym, ◌∙◌, ap, subst, arith}
 use Rattle.std.specs.Prelude.{All, AllPairs, IfSome, filter, flat_map, fold, nat_lt, slice_get, slice_index_or, unwrap_or, if◌then◌else◌}
 use Rattle.std.specs.List.{list_any}
-use Rattle.std.proofs.lemmas.Bool.{eq-eqb, eqb-true, false≢true, ltb-false, ltb-true, not-false, or_cases, or_parts, true≢false}
+use Rattle.std.proofs.lemmas.Bool.{eq-eqb, eqb-true, false≢true, leb-false, ltb-false, ltb-true, not-false, or_parts, true≢false}
 use Rattle.std.proofs.lemmas.List.FromFn.{length-map-range_with_len}
 use Rattle.std.proofs.lemmas.Option.{slice_get_within}
 use Rattle.std.proofs.lemmas.List.{get_or-map, length-append, length-map}
 use Rattle.std.proofs.lemmas.List.Elements.{All-cons, All-map, All-nil}
 use Rattle.std.proofs.lemmas.List.Kept.{AllPairs-cons, AllPairs-filter}
 use Rattle.axi_trail.specs.Schedule.{Schedule, no_share}
-use Rattle.axi_beats.specs.Bus.{IsBusWidth, is_bus_width}
+use Rattle.axi_beats.specs.Bus.{IsBusWidth}
 use Rattle.elaborate.proofs.Forms.{Form, own_part}
 use Rattle.elaborate.proofs.Forms.Form.{Behind, Demux, DemuxError, Input, InputError, Own, Split, Target}
 use Rattle.elaborate.proofs.Lists.{None-Some, Some-same, nth-in}
 use Rattle.elaborate.proofs.Sizes.{small}
-use Rattle.elaborate.specs.Laws.{is_first}
+use Rattle.elaborate.proofs.LinkForms.{is_behind}
+use Rattle.elaborate.specs.Laws.{is_first, is_mux}
 use Rattle.elaborate.specs.Path.{ported_regions}
 use Rattle.elaborate.specs.Plan.{PlanNode, entrance, entrances, first_part, plan_link_at, plan_node_at, plan_nodes, targets}
 use Rattle.elaborate.specs.Unbuilt.{is_unbuilt}
@@ -27,15 +28,16 @@ use Rattle.manager_node.specs.Script.{CanPush, IsScript, ScriptItem}
 use Rattle.memory_node.specs.MemoryArea.{IsMemoryArea, IsRangeOf}
 use Rattle.net_kinds.specs.NodeKind.{node_kind}
 use Rattle.net_opening.specs.Opening.{state_by_part}
-use Rattle.net_opening.specs.PlanLinks.{links_into, links_out_of}
+use Rattle.net_opening.specs.PlanLinks.{link_into, links_into, links_out_of}
 use Rattle.plan_traffic.specs.Scripts.{script_item, script_of}
 use Rattle.net_opening.specs.States.{area_of_node, memory_range}
 use Rattle.net_opening.specs.Touched.{among, is_write_to, lines_of_burst, lines_touched, upwards}
 use Rattle.net_plan.proofs.LinkKinds.{nth-input}
 use Rattle.net_plan.proofs.LinkLists.{at-some, made-from}
 use Rattle.net_plan.proofs.NodeLinks.{out-long, some-into}
-use Rattle.net_plan.proofs.NodeSound.{crossbar-few, crossbar-input, manager-is, mux-few, mux-input, of-manager}
+use Rattle.net_plan.proofs.NodeSound.{above-first, crossbar-few, crossbar-input, manager-is, mux-few, mux-input, of-manager}
 use Rattle.net_plan.proofs.PartLemmas.{formed-at, is-built, no-split}
+use Rattle.net_plan.proofs.PlainLinks.{names_bus, own-bus, plain-input, width-of}
 use Rattle.net_plan.proofs.SoundParts.{IsInput, handed, some-in}
 use Rattle.net_plan.proofs.WidthLemmas.{widest-most, widest-of}
 use Rattle.net_plan.specs.PlanLaws.{CanRun}
@@ -45,7 +47,8 @@ use Rattle.plan_traffic.proofs.ScriptLemmas.{can-push}
 use Rattle.plan_traffic.specs.Accepted.{AreInOrder, IsTraffic, Suits, items_of_manager}
 use Rattle.plan_traffic.specs.Traffic.{TrafficItem}
 use Rattle.topology.proofs.AcceptedFacts.{accepted-is_clean}
-use Rattle.topology.specs.Document.{DocumentNode, NamedRegion, input_digits, inputs_of, is_memory, joins_links, link_kind_of, named, node_at, uppers_of, widest}
+use Rattle.topology.specs.Document.{DocumentNode, NamedRegion, first_link, input_digits, inputs_of, is_manager, is_memory, joins_links, link_kind_of, named, node_at, uppers_of, widest}
+use Rattle.topology.specs.Fits.{bus_differs_at}
 use Rattle.topology.specs.Refused.{is_bad_range}
 use Rattle.topology.specs.declared.link.LinkKind.{LinkKind}
 use Rattle.topology_text.specs.Form.{table_form}
@@ -60,13 +63,6 @@ empty_schedule : Schedule
 empty_schedule = record { id_width = 0; writes = λ number. no_share; reads = λ number. no_share }
 
 -- ---- keys
-
-width-of : (bus : ℕ) → 4 ≤ bus → (bus == 0 || is_bus_width bus) ≡ true → IsBusWidth bus
-width-of bus some e = elim (or_cases (bus == 0) (is_bus_width bus) e) [ inl none ↦ absurd (omega (arith, some, eqb-true bus 0 none)) | inr is ↦ is ]
-
-manager-bus : (bus : ℕ) → IsNumberAt (table_form kind.Manager).bus bus_limits bus → 4 ≤ bus
-unfolding table_form
-manager-bus bus within = within.0
 
 remap-width : (width : ℕ) → IsNumberAt (table_form kind.Remap).id_width id_width_limits width → width ≤ 16
 unfolding table_form
@@ -282,12 +278,10 @@ module _ (nodes : List DocumentNode) (items : List TrafficItem) (run : CanRun no
 
   as-manager : (node_at nodes place).kind ≡ kind.Manager → BeginsAs part.Manager
   as-manager own =
-      let formed : IsFormed (node_at nodes place) = formed-at nodes run place within in
       record {
         new = refl;
         is_script = is-script nodes items traffic (plan_node_at nodes number).document;
-        bus_width = subst (λ (k : ℕ). IsBusWidth (node_at nodes k).bus) (sym document_is)
-            (width-of (node_at nodes place).bus (manager-bus (node_at nodes place).bus (subst (λ (k : Kind). IsNumberAt (table_form k).bus bus_limits (node_at nodes place).bus) own formed.bus)) formed.bus_is_width);
+        bus_width = subst (λ (k : ℕ). IsBusWidth (node_at nodes k).bus) (sym document_is) (own-bus nodes run place within (ap names_bus own));
         legal = All-map (λ (item : ScriptItem). IsLegal item.txn.request (node_at nodes (plan_node_at nodes number).document).bus) script_item (items_of_manager (plan_node_at nodes number).document items)
             (of-manager (Suits nodes) (λ (item : TrafficItem). IsLegal item.txn.request (node_at nodes (plan_node_at nodes number).document).bus) (plan_node_at nodes number).document items traffic.suit
             (λ item suits same.
@@ -336,6 +330,22 @@ module _ (nodes : List DocumentNode) (items : List TrafficItem) (run : CanRun no
     new = refl;
   }
 
+  as-up : node.part ≡ part.Up → (node_at nodes place).kind ≡ kind.Up → BeginsAs part.Up
+  as-up is own =
+      let above : (plan_link_at nodes (link_into nodes number)).link ≡ first_link (inputs_of nodes place) =
+      above-first nodes items run traffic (λ link. empty_schedule) number place inner node at document node_is within (ap is_first is) (ap is_mux is) (ap is_behind is) (ap joins_links own) in
+      let wider : (first_link (inputs_of nodes place)).bus < (node_at nodes place).bus =
+      leb-false (node_at nodes place).bus (first_link (inputs_of nodes place)).bus
+      (ap (bus_differs_at (node_at nodes place) (inputs_of nodes place)) (sym own) ∙ (accepted-is_clean nodes run.accepted place within).widths_fit) in
+      record {
+        shape = record {
+          narrow = subst (λ (link : LinkKind). IsBusWidth link.bus) (sym above) (plain-input nodes run place within (ap is_manager own)).width;
+          wide = subst (λ (k : ℕ). IsBusWidth (node_at nodes k).bus) (sym document_is) (own-bus nodes run place within (ap names_bus own));
+          wider = omega (arith, wider, ap (λ (link : LinkKind). link.bus) above, ap (λ (k : ℕ). (node_at nodes k).bus) document_is);
+        };
+        new = refl;
+      }
+
   as-own : (k : Kind) → (node_at nodes place).kind ≡ k → is_unbuilt k ≡ false → (p : Part) → own_part k ≡ Some p → node.part ≡ p → BeginsAs p
   as-own kind.Manager own built p own_is is = let same = Some-same part.Manager p own_is in subst BeginsAs same (as-manager own)
   as-own kind.Memory own built p own_is is = let same = Some-same part.Memory p own_is in subst BeginsAs same (as-memory own)
@@ -351,7 +361,7 @@ module _ (nodes : List DocumentNode) (items : List TrafficItem) (run : CanRun no
       record { upper = from.from; among = from.among; is = from.is }))
   as-own kind.LiteMemory own built p own_is is = absurd (true≢false built)
   as-own kind.Remap own built p own_is is = let same = Some-same part.Remap p own_is in subst BeginsAs same (as-remap own)
-  as-own kind.Up own built p own_is is = absurd (true≢false built)
+  as-own kind.Up own built p own_is is = let same = Some-same part.Up p own_is in subst BeginsAs same (as-up (is ∙ sym same) own)
   as-own other own built p own_is is = absurd (None-Some p own_is)
 
   pub begins-by : Form nodes place inner node (node_at nodes place).kind → BeginsAs node.part

@@ -20,7 +20,7 @@ use Rattle.net_kinds.specs.NodeKind.{node_kind}
 use Rattle.net_opening.specs.Opening.{state_by_part}
 use Rattle.net_opening.specs.PlanLinks.{form_of_link, link_into, link_out_of, links_into, links_out_of}
 use Rattle.plan_traffic.specs.Scripts.{script_item}
-use Rattle.net_opening.specs.States.{memory_at}
+use Rattle.net_opening.specs.States.{document_node_of, memory_at}
 use Rattle.net_plan.proofs.LinkKinds.{Comes, JoinsAt, comes, first-input, form-plain, joins, link-below, nth-input, own-input, plain_form}
 use Rattle.net_plan.proofs.LinkLists.{at-some}
 use Rattle.net_plan.proofs.NodeLinks.{into-is, into-once, one-into, one-out, out-is, same-link}
@@ -40,6 +40,7 @@ use Rattle.topology.specs.Fits.{bus_differs_at, protocol_differs_at}
 use Rattle.topology.specs.declared.link.LinkKind.{LinkKind}
 use Rattle.topology_text.specs.declared.kind.Kind.{Kind}
 use Rattle.topology_text.specs.declared.kind.Kind.TheVariants as kind
+use Rattle.up_node.specs.UpTrail.{on_wider}
 
 -- what holds of each transaction holds of those of a manager
 pub of-manager : (Q P : TrafficItem → Type 0) (manager : ℕ) (items : List TrafficItem) → All Q items → ((item : TrafficItem) → Q item → item.manager ≡ manager → P item) → All P (items_of_manager manager items)
@@ -73,7 +74,7 @@ module _ (nodes : List DocumentNode) (items : List TrafficItem) (run : CanRun no
   above-comes first mux outer =
       comes nodes run number (link_into nodes number) node at place document outer (λ is_mux_part crossbar. true≢false (sym is_mux_part ∙ mux)) (into-there first mux)
 
-  above-first : is_first node.part ≡ false → is_mux node.part ≡ false → is_behind node.part ≡ false → joins_links (node_at nodes place).kind ≡ false →
+  pub above-first : is_first node.part ≡ false → is_mux node.part ≡ false → is_behind node.part ≡ false → joins_links (node_at nodes place).kind ≡ false →
       (plan_link_at nodes (link_into nodes number)).link ≡ first_link (inputs_of nodes place)
   above-first first mux outer single =
       first-input nodes run.accepted place number (plan_link_at nodes (link_into nodes number)).upper (plan_link_at nodes (link_into nodes number)).link within single (above-comes first mux outer)
@@ -104,6 +105,28 @@ module _ (nodes : List DocumentNode) (items : List TrafficItem) (run : CanRun no
           single = ap (λ (f : LinkForm). f.single) form ∙ sym (ap (λ (f : LinkForm). f.single) over);
         };
         width = ap (λ (f : LinkForm). f.id_width) form ∙ ap (λ (k : ℕ). (node_at nodes k).id_width) (sym document_is);
+      }
+
+  as-up : node.part ≡ part.Up → (node_at nodes place).kind ≡ kind.Up → node.link ≡ link_kind_of nodes place → SoundAs part.Up
+  as-up is own link_is =
+      let first : is_first node.part ≡ false = ap is_first is in
+      let mux : is_mux node.part ≡ false = ap is_mux is in
+      let long : LowersSuit part.Up node.lower = subst (λ (p : Part). LowersSuit p node.lower) is (lowers-suit nodes run number node at) in
+      let above = into-is nodes number (link_into nodes number) (into-there first mux) in
+      let out = out-is nodes number (link_out_of nodes number) (out-there long) in
+      let from = above-comes first mux (ap is_behind is) in
+      let over : form_of_link nodes (link_into nodes number) ≡ plain_form (first_link (inputs_of nodes place)) =
+      form-plain nodes run (link_into nodes number) above.0 ∙ ap plain_form (above-first first mux (ap is_behind is) (ap joins_links own)) in
+      let form : form_of_link nodes (link_out_of nodes number) ≡ plain_form (record (first_link (inputs_of nodes place)) { bus = (node_at nodes place).bus }) =
+      form-plain nodes run (link_out_of nodes number) out.0
+      ∙ ap plain_form (link-below nodes run number (link_out_of nodes number) node at (out-there long) ∙ link_is ∙ handed nodes run place kind.Up within own) in
+      record {
+        full = ap (λ (f : LinkForm). f.lite) over
+            ∙ first-is nodes run number node at (uppers_of nodes place) (λ (other : LinkKind). other.lite) (some-in nodes run number node at (uppers_of nodes place) from.from from.among)
+            (ap (protocol_differs_at (inputs_of nodes place)) (sym own) ∙ (accepted-is_clean nodes run.accepted place within).protocols_fit);
+        narrow = refl;
+        below = form ∙ ap (λ (k : ℕ). on_wider (node_at nodes k).bus (plain_form (first_link (inputs_of nodes place)))) (sym document_is)
+            ∙ ap (on_wider (document_node_of nodes number).bus) (sym over);
       }
 
   as-demux : node.part ≡ part.Demux → node.link ≡ (plan_link_at nodes (link_into nodes number)).link → SoundAs part.Demux
@@ -229,7 +252,7 @@ module _ (nodes : List DocumentNode) (items : List TrafficItem) (run : CanRun no
   as-own kind.Mux own built p own_is is link_is lines = let same = Some-same part.Mux p own_is in subst SoundAs same (as-mux (is ∙ sym same) own link_is)
   as-own kind.LiteMemory own built p own_is is link_is lines = absurd (true≢false built)
   as-own kind.Remap own built p own_is is link_is lines = let same = Some-same part.Remap p own_is in subst SoundAs same (as-remap (is ∙ sym same) own link_is)
-  as-own kind.Up own built p own_is is link_is lines = absurd (true≢false built)
+  as-own kind.Up own built p own_is is link_is lines = let same = Some-same part.Up p own_is in subst SoundAs same (as-up (is ∙ sym same) own link_is)
   as-own other own built p own_is is link_is lines = absurd (None-Some p own_is)
 
   pub sound-by : number ≡ first_part nodes place + inner → Form nodes place inner node (node_at nodes place).kind → KeepsOwnLines → SoundAs node.part

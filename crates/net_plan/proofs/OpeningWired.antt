@@ -117,7 +117,7 @@ module _ (nodes : List DocumentNode) (items : List TrafficItem) where
   lowers-by_part number part.LiteMemory lower suits one none = absurd suits
   lowers-by_part number part.Remap lower suits one none = one suits
   lowers-by_part number part.Split lower suits one none = absurd suits
-  lowers-by_part number part.Up lower suits one none = absurd suits
+  lowers-by_part number part.Up lower suits one none = one suits
   lowers-by_part number part.Down lower suits one none = absurd suits
   lowers-by_part number part.Lite lower suits one none = absurd suits
 

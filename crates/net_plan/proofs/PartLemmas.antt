@@ -82,6 +82,7 @@ LowersSuit part.Manager lower = length lower ≡ 1
 LowersSuit part.Mux lower = length lower ≡ 1
 LowersSuit part.Slice lower = length lower ≡ 1
 LowersSuit part.Remap lower = length lower ≡ 1
+LowersSuit part.Up lower = length lower ≡ 1
 LowersSuit part.Demux lower = Unit {0}
 LowersSuit part.Memory lower = length lower ≡ 0
 LowersSuit part.Error lower = length lower ≡ 0
@@ -95,7 +96,7 @@ own-suits kind.Slice p lower own built one none = subst (λ (q : Part). LowersSu
 own-suits kind.Mux p lower own built one none = subst (λ (q : Part). LowersSuit q lower) (Some-same part.Mux p own) (one refl refl)
 own-suits kind.LiteMemory p lower own built one none = absurd (true≢false built)
 own-suits kind.Remap p lower own built one none = subst (λ (q : Part). LowersSuit q lower) (Some-same part.Remap p own) (one refl refl)
-own-suits kind.Up p lower own built one none = absurd (true≢false built)
+own-suits kind.Up p lower own built one none = subst (λ (q : Part). LowersSuit q lower) (Some-same part.Up p own) (one refl refl)
 own-suits other p lower own built one none = absurd (None-Some p own)
 
 pub no-split : (k : Kind) (p : Part) → split_kind k ≡ Some p → is_unbuilt k ≡ false → ⊥

@@ -122,12 +122,12 @@ module _ (nodes : List DocumentNode) (items : List TrafficItem) (run : CanRun no
   goes-by number next node part.LiteMemory share request at is is_part parts suits long e = absurd suits
   goes-by number next node part.Remap share request at is is_part parts suits long e = first-leads number next node at suits e
   goes-by number next node part.Split share request at is is_part parts suits long e = absurd suits
-  goes-by number next node part.Up share request at is is_part parts suits long e = absurd suits
+  goes-by number next node part.Up share request at is is_part parts suits long e = first-leads number next node at suits e
   goes-by number next node part.Down share request at is is_part parts suits long e = absurd suits
   goes-by number next node part.Lite share request at is is_part parts suits long e = absurd suits
 
-  -- no kind cuts, and where one goes on it goes by a link of the plan
-  cut-by : (number : ℕ) (p : Part) (share : Share) → (node_kind.way (state_by_part nodes items number p)).cut share ≡ share
+  -- no kind cuts bursts, and where one goes on it goes by a link of the plan
+  cut-by : (number : ℕ) (p : Part) (share : Share) → ((node_kind.way (state_by_part nodes items number p)).cut share).parts ≡ share.parts
   cut-by number part.Manager share = refl
   cut-by number part.Memory share = refl
   cut-by number part.Error share = refl
@@ -201,9 +201,9 @@ module _ (nodes : List DocumentNode) (items : List TrafficItem) (run : CanRun no
       (ap (λ (w : Way). w.goes_on share) (sym (below-is link known)) ∙ goes) in
       (onward-is request.addr (plan_link_at nodes link).lower (plan_node_at nodes (plan_link_at nodes link).lower) at ∙ on.0, on.1)
 
-  pub whole : (link : ℕ) (share : Share) → link < length (plan_links nodes) → (below link).cut share ≡ share
+  pub whole : (link : ℕ) (share : Share) → link < length (plan_links nodes) → ((below link).cut share).parts ≡ share.parts
   whole link share less =
-      ap (λ (w : Way). w.cut share) (below-is link (lower-known link less)) ∙ cut-by (plan_link_at nodes link).lower (plan_node_at nodes (plan_link_at nodes link).lower).part share
+      ap (λ (w : Way). (w.cut share).parts) (below-is link (lower-known link less)) ∙ cut-by (plan_link_at nodes link).lower (plan_node_at nodes (plan_link_at nodes link).lower).part share
 
   abbrev pub depth_at : ℕ → ℕ
   depth_at number = depth_of (plan_graph nodes) number
@@ -273,7 +273,7 @@ module _ (nodes : List DocumentNode) (items : List TrafficItem) (run : CanRun no
             | inl here ↦ absurd (None-Some (plan_link_at nodes next).lower (sym none ∙ ap (λ (k : ℕ). onward nodes request.addr (plan_link_at nodes k).lower) (sym here.0) ∙ on.0))
             | inr further ↦
                 let down = deeper (plan_link_at nodes link).lower (plan_link_at nodes next).lower (lower-known next on.1) (onward-below nodes request.addr (plan_link_at nodes link).lower (plan_link_at nodes next).lower on.0) in
-                let end = again next most (onto next ((below link).cut share)) found on.1 (ap (λ (s : Share). s.parts) (whole link share less) ∙ parts) further none (omega (arith, enough, down)) in
+                let end = again next most (onto next ((below link).cut share)) found on.1 (whole link share less ∙ parts) further none (omega (arith, enough, down)) in
                 let some : 0 < most = omega (arith, enough, down, shallow (plan_link_at nodes next).lower (lower-known next on.1)) in (
                   ap last_of (path-goes_on nodes request.addr most (plan_link_at nodes link).lower (plan_link_at nodes next).lower on.0)
                       ∙ last-later (plan_link_at nodes link).lower (path_from nodes (plan_nodes nodes) request.addr most (plan_link_at nodes next).lower)

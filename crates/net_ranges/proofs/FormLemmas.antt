@@ -1,8 +1,8 @@
 -- The write data that a link carries of a transaction fits a trace line on each link of its way, where it does on the first one.
-use Rattle.std.proofs.Common.{◌≡◌, ◌<◌, [], ◌∷◌, ℕ, zero, suc, Bool, List, Option, Some, None, length, refl, sym, ap, ◌∙◌, subst, inl, inr, arith}
+use Rattle.std.proofs.Common.{◌≡◌, ◌<◌, [], ◌∷◌, ℕ, zero, suc, Bool, true, false, List, Option, Some, None, length, refl, sym, ap, ◌∙◌, subst, inl, inr, arith}
 use Rattle.std.specs.Prelude.{All, Contains, flat_map, slice_get}
 use Rattle.std.specs.Option.{option_map_or}
-use Rattle.std.proofs.lemmas.Bool.{cases_eq}
+use Rattle.std.proofs.lemmas.Bool.{cases_eq, false≢true}
 use Rattle.std.proofs.lemmas.List.Elements.{All-contains, All-head, All-tail}
 use Rattle.std.proofs.lemmas.Option.{none-some, same_Some}
 use Rattle.axi_beats.specs.declared.beat.WBeat.{WBeat}
@@ -11,8 +11,9 @@ use Rattle.axi_trail.specs.Schedule.{Share}
 use Rattle.net_history.proofs.RunStates.{acted_as}
 use Rattle.net_kinds.specs.NodeHolds.{node_holds}
 use Rattle.net_kinds.specs.NodeKind.{KindName, NodeState, StateOf, node_kind}
-use Rattle.net_kinds.specs.NodeKind.KindName.{ADemux, AManager, AMemory, AMux, ARemap, ASlice, AnError}
+use Rattle.net_kinds.specs.NodeKind.KindName.{ADemux, AManager, AMemory, AMux, ARemap, ASlice, AnError, AnUp}
 use Rattle.net_model.specs.Network.{Network, lower_node}
+use Rattle.net_ranges.proofs.UpRanges.{data-widened}
 use Rattle.net_runs.proofs.ContractFacts.{at-some}
 use Rattle.net_ways.proofs.HopLemmas.{IsJoined, share-further, share-here}
 use Rattle.net_ways.proofs.OriginLemmas.{HasItsWay, is-found, its-way}
@@ -23,10 +24,16 @@ use Rattle.node_core.specs.Acted.{Acted}
 use Rattle.node_shape.specs.LinkForm.{FitsLink, IsAlike, LinkForm}
 use Rattle.node_shape.specs.Way.{Origin, start_here, with_responses}
 use Rattle.trace_text.specs.Ranges.{IsTraceWriteData}
+use Rattle.up_node.specs.UpCut.{data_widened}
 
 pub one-of : (x y : ℕ) → Contains (y ∷ []) x → x ≡ y
 one-of x y (zero, within, same) = sym same
 one-of x y (suc k, within, same) = absurd (omega (arith, within))
+
+-- the kinds whose links have buses of one width
+abbrev keeps_bus : KindName → Bool
+keeps_bus AnUp = false
+keeps_bus other = true
 
 module _ (net : Network NodeState) (forms : ℕ → LinkForm) (sound : IsSound node_kind net forms) where
   abbrev bus_of : ℕ → ℕ
@@ -35,43 +42,51 @@ module _ (net : Network NodeState) (forms : ℕ → LinkForm) (sound : IsSound n
   pub is-sound : (name : KindName) (s : StateOf name) (out : Out) (node : ℕ) → slice_get net.nodes node ≡ Some (acted_as name s out) → node_kind.is_sound forms (schedules_of node_kind net forms) (acted_as name s out).state
   is-sound name s out node at = at-some (λ (a : Acted NodeState). node_kind.is_sound forms (schedules_of node_kind net forms) a.state) (slice_get net.nodes node) (acted_as name s out) at (sound.nodes node)
 
-  -- what comes to a node by one link and goes on by another, on a bus of the same width
-  same-bus : (name : KindName) (s : StateOf name) (out : Out) (node : ℕ) → slice_get net.nodes node ≡ Some (acted_as name s out) → (link next : ℕ) (share : Share) →
+  -- what comes to a node by one link and goes on by another, on a bus of the same width but below an up converter
+  same-bus : (name : KindName) → keeps_bus name ≡ true → (s : StateOf name) (out : Out) (node : ℕ) → slice_get net.nodes node ≡ Some (acted_as name s out) → (link next : ℕ) (share : Share) →
       Contains (node_kind.uppers (acted_as name s out).state) link → (node_kind.way (acted_as name s out).state).goes_on share ≡ Some next → bus_of link ≡ bus_of next
-  same-bus ASlice s out node at link next share among goes =
+  same-bus ASlice kept s out node at link next share among goes =
       ap bus_of (one-of link s.upper among) ∙ sym (ap (λ (form : LinkForm). form.bus) (is-sound ASlice s out node at)) ∙ ap bus_of (same_Some s.lower next goes)
-  same-bus AMux s out node at link next share among goes =
+  same-bus AMux kept s out node at link next share among goes =
       let alike = All-contains (λ (l : ℕ). IsAlike (forms l) (forms s.shape.lower)) s.shape.uppers link (is-sound AMux s out node at).alike among in
       sym alike.bus ∙ ap bus_of (same_Some s.shape.lower next goes)
-  same-bus ADemux s out node at link next share among goes =
+  same-bus ADemux kept s out node at link next share among goes =
       let below = node_holds.goes_below (acted_as ADemux s out).state share next goes in
       let same = All-contains (λ (l : ℕ). forms l ≡ forms s.shape.upper) s.shape.lowers next (is-sound ADemux s out node at).alike below in
       ap bus_of (one-of link s.shape.upper among) ∙ sym (ap (λ (form : LinkForm). form.bus) same)
-  same-bus ARemap s out node at link next share among goes =
+  same-bus ARemap kept s out node at link next share among goes =
       ap bus_of (one-of link s.shape.upper among) ∙ sym (is-sound ARemap s out node at).alike.bus ∙ ap bus_of (same_Some s.shape.lower next goes)
-  same-bus AManager s out node at link next share among goes = absurd (omega (arith, among.1))
-  same-bus AMemory s out node at link next share among goes = absurd (none-some next goes)
-  same-bus AnError s out node at link next share among goes = absurd (none-some next goes)
+  same-bus AnUp kept s out node at link next share among goes = absurd (false≢true kept)
+  same-bus AManager kept s out node at link next share among goes = absurd (omega (arith, among.1))
+  same-bus AMemory kept s out node at link next share among goes = absurd (none-some next goes)
+  same-bus AnError kept s out node at link next share among goes = absurd (none-some next goes)
 
   -- write data that fits a trace line
   abbrev pub DataFits : ℕ → Share → Type 0
   DataFits link share = All (IsTraceWriteData (bus_of link)) (flat_map (λ (beats : List WBeat). beats) share.write_data)
 
-  as-it_is : (name : KindName) (s : StateOf name) (out : Out) (node : ℕ) → slice_get net.nodes node ≡ Some (acted_as name s out) → (link next : ℕ) (share : Share) →
+  as-it_is : (name : KindName) → keeps_bus name ≡ true → (s : StateOf name) (out : Out) (node : ℕ) → slice_get net.nodes node ≡ Some (acted_as name s out) → (link next : ℕ) (share : Share) →
       Contains (node_kind.uppers (acted_as name s out).state) link → (node_kind.way (acted_as name s out).state).goes_on share ≡ Some next →
       (node_kind.way (acted_as name s out).state).cut share ≡ share → DataFits link share → DataFits next ((node_kind.way (acted_as name s out).state).cut share)
-  as-it_is name s out node at link next share among goes same sent =
+  as-it_is name kept s out node at link next share among goes same sent =
       subst (DataFits next) (sym same)
-      (subst (λ (bus : ℕ). All (IsTraceWriteData bus) (flat_map (λ (beats : List WBeat). beats) share.write_data)) (same-bus name s out node at link next share among goes) sent)
+      (subst (λ (bus : ℕ). All (IsTraceWriteData bus) (flat_map (λ (beats : List WBeat). beats) share.write_data)) (same-bus name kept s out node at link next share among goes) sent)
 
   -- a node sends on data that fits, by its kind
   data-by : (name : KindName) (s : StateOf name) (out : Out) (node : ℕ) → slice_get net.nodes node ≡ Some (acted_as name s out) → (link next : ℕ) (write : Bool) (share : Share) →
       Contains (node_kind.uppers (acted_as name s out).state) link → (node_kind.way (acted_as name s out).state).goes_on share ≡ Some next → FitsLink (forms link) write share →
       DataFits link share → DataFits next ((node_kind.way (acted_as name s out).state).cut share)
-  data-by ASlice s out node at link next write share among goes fits sent = as-it_is ASlice s out node at link next share among goes refl sent
-  data-by AMux s out node at link next write share among goes fits sent = as-it_is AMux s out node at link next share among goes refl sent
-  data-by ADemux s out node at link next write share among goes fits sent = as-it_is ADemux s out node at link next share among goes refl sent
-  data-by ARemap s out node at link next write share among goes fits sent = as-it_is ARemap s out node at link next share among goes refl sent
+  data-by ASlice s out node at link next write share among goes fits sent = as-it_is ASlice refl s out node at link next share among goes refl sent
+  data-by AMux s out node at link next write share among goes fits sent = as-it_is AMux refl s out node at link next share among goes refl sent
+  data-by ADemux s out node at link next write share among goes fits sent = as-it_is ADemux refl s out node at link next share among goes refl sent
+  data-by ARemap s out node at link next write share among goes fits sent = as-it_is ARemap refl s out node at link next share among goes refl sent
+  data-by AnUp s out node at link next write share among goes fits sent =
+      let its = is-sound AnUp s out node at in
+      let new = at-some (λ (a : Acted NodeState). node_kind.begins a.state) (slice_get net.nodes node) (acted_as AnUp s out) at (sound.begins node) in
+      let upper : bus_of link ≡ s.shape.narrow = ap bus_of (one-of link s.shape.upper among) ∙ its.narrow in
+      let lower : bus_of next ≡ s.shape.wide = ap bus_of (sym (same_Some s.shape.lower next goes)) ∙ ap (λ (form : LinkForm). form.bus) its.below in
+      subst (λ (bus : ℕ). All (IsTraceWriteData bus) (flat_map (λ (beats : List WBeat). beats) (data_widened s.shape share.parts share.write_data))) (sym lower)
+      (data-widened s.shape new.shape share.parts share.write_data (subst (λ (bus : ℕ). All (IsTraceWriteData bus) (flat_map (λ (beats : List WBeat). beats) share.write_data)) upper sent))
   data-by AManager s out node at link next write share among goes fits sent = absurd (omega (arith, among.1))
   data-by AMemory s out node at link next write share among goes fits sent = absurd (none-some next goes)
   data-by AnError s out node at link next write share among goes fits sent = absurd (none-some next goes)

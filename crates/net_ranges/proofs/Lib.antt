@@ -7,3 +7,4 @@ pub mod PlanLemmas
 pub mod PortLemmas
 pub mod RemapRanges
 pub mod RequestRanges
+pub mod UpRanges

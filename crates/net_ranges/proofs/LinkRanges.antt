@@ -35,12 +35,14 @@ use Rattle.net_history.proofs.MemoryRuns.{IsMemoryAt, area-is, has-form, memory-
 use Rattle.net_history.proofs.RunStates.{acted_as, holds-at, run_state, stands-at}
 use Rattle.net_kinds.specs.NodeHolds.{node_holds}
 use Rattle.net_kinds.specs.NodeKind.{KindName, NodeState, StateOf, kind_by_name, node_kind}
-use Rattle.net_kinds.specs.NodeKind.KindName.{ADemux, AManager, AMemory, AMux, ARemap, ASlice, AnError}
+use Rattle.net_kinds.specs.NodeKind.KindName.{ADemux, AManager, AMemory, AMux, ARemap, ASlice, AnError, AnUp}
 use Rattle.net_model.specs.Network.{Network, lower_node, upper_node}
 use Rattle.net_ranges.proofs.AnswerRanges.{accesses-write, inside-read, left-byte, read_data-put, responses-put, written-bytes}
 use Rattle.net_ranges.proofs.BeatRanges.{IsAddressInRange, IsReadDataInRange, IsResponseInRange, narrowed-read_data, narrowed-response, read-on_bus, zeros-on_bus}
 use Rattle.net_ranges.proofs.FormLemmas.{is-sound, one-of}
+use Rattle.net_ranges.proofs.RemapRanges.{remap-gives_back}
 use Rattle.net_ranges.proofs.RequestRanges.{data-carried, reads-asked, writes-asked}
+use Rattle.net_ranges.proofs.UpRanges.{read_data-narrowed}
 use Rattle.net_ranges.specs.TraceLines.{FitsLanes, FitsTraces}
 use Rattle.net_runs.proofs.ContractFacts.{at-some, chosen-is}
 use Rattle.net_runs.specs.Run.{chosen, lower_end, noted_by, passed_by, queues_after, upper_end}
@@ -55,13 +57,14 @@ use Rattle.plain_lists.proofs.PrefixLemmas.{All_front}
 use Rattle.plain_lists.proofs.SelectedLemmas.{all-by_way}
 use Rattle.plain_lists.specs.Keys.{of_key, selected}
 use Rattle.plain_text.specs.ExactLaws.{AreBytes}
-use Rattle.net_ranges.proofs.RemapRanges.{remap-gives_back}
 use Rattle.remap_node.specs.RemapState.{RemapShape, RemapState}
 use Rattle.slice_node.specs.SliceState.{SliceState}
 use Rattle.slice_node.specs.SliceTrail.{SliceKeeps}
 use Rattle.subordinate.specs.Tracks.{KeepsOrder}
 use Rattle.subordinate.specs.declared.entry.ReadEntry.{ReadEntry}
 use Rattle.trace_text.specs.Ranges.{IsOnBus, IsTraceWriteData}
+use Rattle.up_node.specs.UpState.{IsUpShape, UpState}
+use Rattle.up_node.specs.declared.shape.UpShape.{UpShape}
 
 module _ (net : Network NodeState) (forms : ℕ → LinkForm) (sound : IsSound node_kind net forms) (fits : FitsTraces net forms) where
   abbrev bus_of : ℕ → ℕ
@@ -245,6 +248,10 @@ module _ (net : Network NodeState) (forms : ℕ → LinkForm) (sound : IsSound n
     remap-stays s zero = refl
     remap-stays s (suc k) = remap-stays s k
 
+    up-stays : (s : UpState) (k : ℕ) → (run_state net AnUp s k).shape ≡ s.shape
+    up-stays s zero = refl
+    up-stays s (suc k) = up-stays s k
+
     -- what has passed above a mux of the answers below it
     mux-parts : (s : MuxState) (out : Out) (node : ℕ) → slice_get net.nodes node ≡ Some (acted_as AMux s out) → AreNarrowed s.shape (passed_by node_kind net node n)
     mux-parts s out node at =
@@ -289,6 +296,29 @@ module _ (net : Network NodeState) (forms : ℕ → LinkForm) (sound : IsSound n
         let writes = subst (λ (l : ℕ). All IsAddressInRange (trails.uppers l).aw) one (subst (λ (k : ℕ). All IsAddressInRange ((passed_by node_kind net k n).uppers link).aw) below (writes-come link known n)) in
         let reads = subst (λ (l : ℕ). All IsAddressInRange (trails.uppers l).ar) one (subst (λ (k : ℕ). All IsAddressInRange ((passed_by node_kind net k n).uppers link).ar) below (reads-come link known n)) in
         let there : AnswersOf s.shape.upper (trails.uppers s.shape.upper) = gives writes reads back.0 (subst (λ (b : ℕ). All (IsReadDataInRange b) (trails.lowers s.shape.lower).r) bus back.1) in
+        at-node link node below (subst (λ (l : ℕ). AnswersOf l (trails.uppers l)) (sym one) there)
+    by-kind AnUp s out node at link known below among answers =
+        let own = own-lower node_kind node_holds net forms sound node (acted_as AnUp s out) at s.shape.lower (0, omega arith, refl) in
+        let back = back-at s.shape.lower node own.0 own.1 (answers s.shape.lower (0, omega arith, refl)) in
+        let one = one-of link s.shape.upper among in
+        let trails = passed_by node_kind net node n in
+        let its = is-sound net forms sound AnUp s out node at in
+        let new = at-some (λ (a : Acted NodeState). node_kind.begins a.state) (slice_get net.nodes node) (acted_as AnUp s out) at (sound.begins node) in
+        let keeps = keeps-at AnUp s out node at in
+        let same : (trails.uppers s.shape.upper).b ≡ (trails.lowers s.shape.lower).b =
+        subst (λ (shape : UpShape). (trails.uppers shape.upper).b ≡ (trails.lowers shape.lower).b) (up-stays s n) keeps.b in
+        let Narrows : UpShape → Type 0 = λ shape.
+        All (IsReadDataInRange shape.wide) (trails.lowers shape.lower).r → All (IsReadDataInRange shape.narrow) (trails.uppers shape.upper).r in
+        let narrows : Narrows s.shape =
+        subst Narrows (up-stays s n)
+        (read_data-narrowed (run_state net AnUp s n).shape (subst IsUpShape (sym (up-stays s n)) new.shape)
+        (λ t. ((schedules net forms sound (run_state net AnUp s n).shape.upper).reads t).parts) _ _ keeps.moved_read_data) in
+        let wide : bus_of s.shape.lower ≡ s.shape.wide = ap (λ (form : LinkForm). form.bus) its.below in
+        let there : AnswersOf s.shape.upper (trails.uppers s.shape.upper) = (
+          subst (All IsResponseInRange) (sym same) back.0,
+          subst (λ (bus : ℕ). All (IsReadDataInRange bus) (trails.uppers s.shape.upper).r) (sym its.narrow)
+              (narrows (subst (λ (bus : ℕ). All (IsReadDataInRange bus) (trails.lowers s.shape.lower).r) wide back.1)),
+        ) in
         at-node link node below (subst (λ (l : ℕ). AnswersOf l (trails.uppers l)) (sym one) there)
     by-kind AMux s out node at link known below among answers =
         let own = own-lower node_kind node_holds net forms sound node (acted_as AMux s out) at s.shape.lower (0, omega arith, refl) in

@@ -1,11 +1,10 @@
 -- The numbers of a plan's network fit trace lines: its links are few and plain, its traffic is small.
-use Rattle.std.proofs.Common.{◌≡◌, ◌<◌, ◌≤◌, ◌==◌, ◌||◌, ◌&&◌, [], ◌∷◌, ℕ, zero, suc, Bool, true, false, not, List, Option, Some, length, map, refl, sym, ap, ◌∙◌, subst, inl, inr, arith}
+use Rattle.std.proofs.Common.{◌≡◌, ◌<◌, [], ℕ, false, List, Option, Some, length, sym, ap, ◌∙◌, subst, inl, inr, arith}
 use Rattle.std.specs.Prelude.{All, IfSome, slice_get, slice_index_or}
-use Rattle.std.proofs.lemmas.Bool.{cases_lt, eqb-true, or_cases}
+use Rattle.std.proofs.lemmas.Bool.{cases_lt}
 use Rattle.std.proofs.lemmas.List.{length-map}
 use Rattle.std.proofs.lemmas.List.Elements.{All-map}
 use Rattle.std.proofs.lemmas.Option.{none-some}
-use Rattle.axi_beats.specs.Bus.{IsBusWidth, is_bus_width}
 use Rattle.elaborate.proofs.Forms.{Form, Part_at, part-at}
 use Rattle.elaborate.proofs.Forms.Form.{Behind, Demux, DemuxError, Input, InputError, Own, Split, Target}
 use Rattle.elaborate.proofs.Lists.{nth-in}
@@ -26,83 +25,26 @@ use Rattle.net_plan.proofs.NodeSound.{of-manager}
 use Rattle.net_plan.proofs.OpeningSound.{openings-are_sound}
 use Rattle.net_plan.proofs.OpeningWired.{node-at, node-is, node-past}
 use Rattle.net_plan.proofs.PartLemmas.{formed-at, is-built, no-split}
-use Rattle.net_plan.proofs.SoundParts.{handed}
+use Rattle.net_plan.proofs.PlainLinks.{plain-kind}
 use Rattle.net_plan.specs.PlanLaws.{CanRun}
 use Rattle.net_ranges.proofs.PortLemmas.{runs-show_lines}
 use Rattle.net_ranges.specs.TraceLines.{FitsItsBeats, FitsLanes, FitsTraces, IsTraceLink, PlansShowTraceLines}
 use Rattle.node_core.specs.Acted.{Acted}
-use Rattle.node_graph.proofs.Members.{in-first}
-use Rattle.node_graph.proofs.Ways.{above-below, links-lead_deeper}
-use Rattle.node_graph.specs.Graph.{depth_of, is_in}
 use Rattle.plan_traffic.specs.Accepted.{IsTraffic, items_of_manager}
 use Rattle.plan_traffic.specs.Scripts.{script_item, script_of}
 use Rattle.plan_traffic.specs.Traffic.{TrafficItem}
-use Rattle.topology.proofs.AcceptedFacts.{accepted-is_acyclic, accepted-is_clean, graph-long}
 use Rattle.topology.proofs.LinkWidths.{accepted-are_narrow}
-use Rattle.topology.specs.Document.{DocumentNode, first_link, graph_of, inputs_of, is_manager, link_below, link_kind_of, node_at, uppers_of}
+use Rattle.topology.specs.Document.{DocumentNode, link_kind_of, node_at, uppers_of}
 use Rattle.topology.specs.declared.link.LinkKind.{LinkKind}
 use Rattle.topology_text.specs.Form.{table_form}
 use Rattle.topology_text.specs.Formed.{IsFormed, IsNumberAt}
-use Rattle.topology_text.specs.Shape.{bus_limits, fill_limits}
+use Rattle.topology_text.specs.Shape.{fill_limits}
 use Rattle.topology_text.specs.declared.kind.Kind.{Kind}
 use Rattle.topology_text.specs.declared.kind.Kind.TheVariants as kind
 
 -- ---- links
 
--- what a link is where it is one of AXI4, with a bus that there is
-record IsPlainLink (link : LinkKind) : Type 0 where
-  axi : link.lite ≡ false
-  width : IsBusWidth link.bus
-
-width-of : (bus : ℕ) → 4 ≤ bus → (bus == 0 || is_bus_width bus) ≡ true → IsBusWidth bus
-width-of bus some is = elim (or_cases (bus == 0) (is_bus_width bus) is) [ inl none ↦ absurd (omega (arith, some, eqb-true bus 0 none)) | inr width ↦ width ]
-
-manager-bus : (bus : ℕ) → IsNumberAt (table_form kind.Manager).bus bus_limits bus → 4 ≤ bus
-unfolding table_form
-manager-bus bus within = within.0
-
--- the first of some links
-first-plain : (f : ℕ → LinkKind) (xs : List ℕ) → 0 < length xs → ((x : ℕ) → is_in xs x ≡ true → IsPlainLink (f x)) → IsPlainLink (first_link (map f xs))
-first-plain f [] some each = absurd (omega (arith, some))
-first-plain f (x ∷ xs) some each = each x (in-first x xs x refl)
-
--- a node that isn't loose has an upper, where it is no manager
-has-upper : (k : Kind) (uppers : List ℕ) → is_manager k ≡ false → (not (is_manager k) && length uppers == 0) ≡ false → 0 < length uppers
-has-upper k (x ∷ xs) other loose = omega arith
-has-upper k [] other loose = let never : true ≡ false = sym (ap (λ (b : Bool). not b && true) other) ∙ loose in absurd (cc)
-
--- what is below a node
-plain-below : (k : Kind) (node : DocumentNode) (links : List LinkKind) → is_unbuilt k ≡ false → (k ≡ kind.Manager → IsBusWidth node.bus) → (is_manager k ≡ false → IsPlainLink (first_link links)) → IsPlainLink (link_below k node links)
-plain-below kind.Manager node links built own above = record { axi = refl; width = own refl }
-plain-below kind.Memory node links built own above = above refl
-plain-below kind.Slice node links built own above = above refl
-plain-below kind.Demux node links built own above = above refl
-plain-below kind.Mux node links built own above = let first = above refl in record { axi = first.axi; width = first.width }
-plain-below kind.Crossbar node links built own above = let first = above refl in record { axi = first.axi; width = first.width }
-plain-below kind.LiteMemory node links built own above = absurd (cc)
-plain-below kind.Remap node links built own above = let first = above refl in record { axi = first.axi; width = first.width }
-plain-below kind.Up node links built own above = absurd (cc)
-plain-below kind.Down node links built own above = absurd (cc)
-plain-below kind.Lite node links built own above = absurd (cc)
-
 module _ (nodes : List DocumentNode) (run : CanRun nodes) where
-  plain-next : (place : ℕ) → place < length nodes → ((upper : ℕ) → is_in (uppers_of nodes place) upper ≡ true → IsPlainLink (link_kind_of nodes upper)) → IsPlainLink (link_kind_of nodes place)
-  plain-next place less above =
-      let node = node_at nodes place in
-      let formed : IsFormed node = formed-at nodes run place less in
-      subst IsPlainLink (sym (handed nodes run place node.kind less refl))
-      (plain-below node.kind node (inputs_of nodes place) (is-built nodes run place less)
-      (λ own. width-of node.bus (manager-bus node.bus (subst (λ (k : Kind). IsNumberAt (table_form k).bus bus_limits node.bus) own formed.bus)) formed.bus_is_width)
-      (λ other. first-plain (link_kind_of nodes) (uppers_of nodes place) (has-upper node.kind (uppers_of nodes place) other (accepted-is_clean nodes run.accepted place less).upper_is_there) above))
-
-  plain-above : (depth place : ℕ) → depth_of (graph_of nodes) place < depth → place < length nodes → IsPlainLink (link_kind_of nodes place)
-  plain-above zero place shallow less = absurd (omega (arith, shallow))
-  plain-above (suc depth) place shallow less =
-      plain-next place less (λ upper there.
-      let deeper : depth_of (graph_of nodes) upper < depth_of (graph_of nodes) place =
-      links-lead_deeper (graph_of nodes) (accepted-is_acyclic nodes run.accepted) upper place (omega (arith, less, graph-long nodes)) (above-below (graph_of nodes) place upper there) in
-      plain-above depth upper (omega (arith, deeper, shallow)) (upper-inside nodes place upper there))
-
   -- a link of the plan is what is below some node of the document
   record IsBelow (link : LinkKind) : Type 0 where
     place : ℕ
@@ -131,7 +73,7 @@ module _ (nodes : List DocumentNode) (run : CanRun nodes) where
       let below : IsBelow facts.node.link =
       below-by spot.place spot.inner facts.port facts.node (plan_link_at nodes link).lower (node_at nodes spot.place).kind spot.within (is-built nodes run spot.place spot.within) spot.form facts.at_port in
       let is : (plan_link_at nodes link).link ≡ link_kind_of nodes below.place = ap (λ (l : PlanLink). l.link) facts.is ∙ below.is in
-      let plain = plain-above (suc (depth_of (graph_of nodes) below.place)) below.place (omega arith) below.within in
+      let plain = plain-kind nodes run below.place below.within in
       let narrow = accepted-are_narrow nodes run.accepted run.formed below.place below.within in
       subst IsTraceLink (sym (form-plain nodes run link less ∙ ap plain_form is)) (record { axi = plain.axi; width = plain.width; narrow = omega (arith, narrow) })
 

@@ -25,7 +25,7 @@ use Rattle.net_history.proofs.ManagerRuns.{IsManagerAt, begins, has-link, run-ke
 use Rattle.net_history.proofs.RunStates.{acted_as}
 use Rattle.net_kinds.specs.NodeHolds.{node_holds}
 use Rattle.net_kinds.specs.NodeKind.{KindName, NodeState, StateOf, node_kind}
-use Rattle.net_kinds.specs.NodeKind.KindName.{ADemux, AManager, AMemory, AMux, ARemap, ASlice, AnError}
+use Rattle.net_kinds.specs.NodeKind.KindName.{ADemux, AManager, AMemory, AMux, ARemap, ASlice, AnError, AnUp}
 use Rattle.net_model.specs.Network.{Network}
 use Rattle.net_ranges.proofs.BeatRanges.{IsAddressInRange, IsPartInRange, data-in_range, request-in_range}
 use Rattle.net_ranges.proofs.FormLemmas.{DataFits, data-along}
@@ -70,6 +70,7 @@ module _ (net : Network NodeState) (forms : ℕ → LinkForm) (sound : IsSound n
   of-kind node AnError s out origin at among = absurd (omega (arith, among.1))
   of-kind node ADemux s out origin at among = absurd (omega (arith, among.1))
   of-kind node ARemap s out origin at among = absurd (omega (arith, among.1))
+  of-kind node AnUp s out origin at among = absurd (omega (arith, among.1))
 
   of-script : (origin : Origin) → Contains (origins_in node_kind net.nodes) origin → IsOfScript origin
   of-script origin among =

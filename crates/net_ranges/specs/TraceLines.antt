@@ -3,7 +3,7 @@ use Rattle.std.specs.Prelude.{◌≡◌, ◌<◌, ◌≤◌, ◌^◌, ℕ, List,
 use Rattle.axi_beats.specs.Bus.{IsBusWidth}
 use Rattle.manager_node.specs.Script.{ScriptItem}
 use Rattle.manager_node.specs.declared.script.WriteByte.{WriteByte}
-use Rattle.net_kinds.specs.NodeKind.{ADemux, AManager, AMemory, AMux, ARemap, ASlice, AnError, KindName, NodeState, StateOf, node_kind}
+use Rattle.net_kinds.specs.NodeKind.{ADemux, AManager, AMemory, AMux, ARemap, ASlice, AnError, AnUp, KindName, NodeState, StateOf, node_kind}
 use Rattle.net_model.specs.Network.{Network}
 use Rattle.net_opening.specs.Opening.{opening}
 use Rattle.net_plan.specs.PlanLaws.{CanRun}
@@ -34,6 +34,7 @@ FitsLanes AMux s = Unit {0}
 FitsLanes AnError s = Unit {0}
 FitsLanes ADemux s = Unit {0}
 FitsLanes ARemap s = Unit {0}
+FitsLanes AnUp s = Unit {0}
 
 -- a link of AXI4 with a bus that there is and IDs of at most 32 bits
 pub record IsTraceLink (form : LinkForm) : Type 0 where

@@ -25,6 +25,32 @@ rounds 9
     }
 }
 
+// Below an up converter the bytes of a beat stand on other lanes.
+fn a_wider_bus() -> Row {
+    Row {
+        words: &["axinet", "run", "--trace=all"],
+        topology: b"version = 1
+node = [
+ {name=\"m\", kind=\"manager\", bus=4, id_width=1, to=\"u\"},
+ {name=\"u\", kind=\"up\", bus=8, to=\"ram\"},
+ {name=\"ram\", kind=\"memory\", bus=8, base=0, size=4096},
+]
+",
+        input: b"%%\nwrite m 0 0x4 4 incr 01020304\n",
+        status: Status::Done,
+        written: b"2 0 axi 4 +0,4,0,2,1,0,1:0:0 - - - -
+3 0 axi 4 - +01020304,f,1,1:0:0 - - -
+3 1 axi 8 +0,4,0,2,1,0,1:0:0 - - - -
+4 1 axi 8 - +0000000001020304,f0,1,1:0:0 - - -
+6 1 axi 8 - - +0,0,1:0:0 - -
+7 0 axi 4 - - +0,0,1:0:0 - -
+%%
+1 write m 1 7 okay
+rounds 7
+",
+    }
+}
+
 fn a_run_without_traffic() -> Row {
     Row {
         words: &["axinet", "run", "--trace=all"],
@@ -139,6 +165,7 @@ fn one_round_more() -> Row {
 #[test]
 fn runs_are_traced(rt: HostRuntime) -> Result<(), Fail> {
     compare(&rt, &a_traced_run())?;
+    compare(&rt, &a_wider_bus())?;
     compare(&rt, &a_run_without_traffic())?;
     compare(&rt, &a_run_without_a_trace())?;
     compare(&rt, &an_unknown_option())

@@ -7,8 +7,8 @@ use Rattle.axi_program.specs.Outcome.{Outcome}
 use Rattle.axi_program.specs.Work.{IsWorkOf}
 use Rattle.axi_program.proofs.preparation.work_of_plan.Goals as goal
 
-pub returns-in-Ok : goal.returns-in-Ok
-returns-in-Ok c = sym (planned-outcome c.args.input.now _ c.in-Ok.ensures.planned)
+pub returns-in_ok-line-in-Ok : goal.returns-in_ok-line-in-Ok
+returns-in_ok-line-in-Ok c = sym (planned-outcome c.args.input.now _ c.in-Ok.ensures.planned)
 
 pub returns-in-Err-Refused : goal.returns-in-Err-Refused
 returns-in-Err-Refused c =
