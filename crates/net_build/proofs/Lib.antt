@@ -4,6 +4,7 @@ pub mod BusLemmas
 pub mod ItemLemmas
 pub mod KeptLemmas
 pub mod LinkLemmas
+pub mod ListLemmas
 pub mod MadeLemmas
 pub mod NetLemmas
 pub mod NoteLemmas

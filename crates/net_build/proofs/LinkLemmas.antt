@@ -1,25 +1,29 @@
 -- The links of a plan: their numbers, and how many beats their queues have room for.
-use Rattle.std.proofs.Common.{◌≡◌, ◌<◌, ◌≤◌, ◌==◌, ℕ, suc, List, [], ◌∷◌, ap, arith, false, inl, inr, length, map}
-use Rattle.std.specs.Prelude.{All}
+use Rattle.std.proofs.Common.{◌≡◌, ◌<◌, ◌≤◌, ◌==◌, ℕ, suc, List, [], ◌∷◌, Some, ap, arith, false, inl, inr, length, map, subst, sym}
+use Rattle.std.specs.Prelude.{All, slice_get}
 use Rattle.std.specs.List.{range_with_len}
 use Rattle.std.proofs.Math.ListN.{get_or-eq_default}
 use Rattle.std.proofs.lemmas.Bool.{cases_lt}
-use Rattle.std.proofs.lemmas.List.Elements.{All-append, All-filter, All-from_get_or, All-get_or, All-map, All-nil}
+use Rattle.std.proofs.lemmas.List.Elements.{All-append, All-filter, All-from_get_or, All-get_or, All-head, All-map, All-nil}
 use Rattle.std.proofs.lemmas.List.FromFn.{length-map-range_with_len}
+use Rattle.std.proofs.lemmas.Option.{slice_get-get_or}
 use Rattle.burst_address.proofs.Runs.{All-run}
-use Rattle.elaborate.specs.Plan.{PlanNode, links_below, links_from, plan_link_at, plan_links, plan_nodes}
+use Rattle.elaborate.specs.Laws.{is_first, is_mux}
+use Rattle.elaborate.specs.Plan.{PlanNode, links_below, links_from, plan_link_at, plan_links, plan_node_at, plan_nodes}
 use Rattle.elaborate.specs.declared.link.PlanLink.{PlanLink}
 use Rattle.net_kinds.specs.NodeKind.{node_kind}
 use Rattle.net_model.specs.Network.{net_link}
 use Rattle.net_model.specs.Wired.{IsWired}
 use Rattle.net_model.specs.declared.net_link.NetLink.{NetLink}
 use Rattle.net_opening.specs.Opening.{opening, state_at}
-use Rattle.net_opening.specs.PlanLinks.{links_into, net_link_of}
+use Rattle.net_opening.specs.PlanLinks.{link_into, links_into, net_link_of}
+use Rattle.net_plan.proofs.NodeLinks.{one-into}
 use Rattle.net_steps.specs.NetView.{HasDepth}
 use Rattle.node_core.specs.Acted.{opened}
 use Rattle.node_graph.specs.Graph.{numbers}
 use Rattle.plan_traffic.specs.Traffic.{TrafficItem}
 use Rattle.topology.specs.Document.{DocumentNode, node_at, node_of_kind}
+use Rattle.topology.specs.Refused.{IsAccepted}
 use Rattle.topology_text.specs.Form.{table_form}
 use Rattle.topology_text.specs.Formed.{AreFormed, IsFormed, IsNumberAt}
 use Rattle.topology_text.specs.Shape.{depth_limits}
@@ -32,6 +36,15 @@ unfolding numbers
 into-known nodes number =
     All-filter (λ link. (plan_link_at nodes link).lower == number) (λ link. link < length (plan_links nodes)) (range_with_len 0 (length (plan_links nodes)))
     (All-run (λ link. link < length (plan_links nodes)) 0 (length (plan_links nodes)) (λ x from below. omega (arith, below)))
+
+-- and so is the one above a part that has one
+pub above-known : (nodes : List DocumentNode) → IsAccepted nodes → (number : ℕ) → number < length (plan_nodes nodes) → is_first (plan_node_at nodes number).part ≡ false →
+    is_mux (plan_node_at nodes number).part ≡ false → link_into nodes number < length (plan_links nodes)
+above-known nodes accepted number less other single =
+    let IsKnown : ℕ → Type 0 = λ link. link < length (plan_links nodes) in
+    let at : slice_get (plan_nodes nodes) number ≡ Some (plan_node_at nodes number) = slice_get-get_or (plan_nodes nodes) number _ less in
+    All-head IsKnown (link_into nodes number) []
+    (subst (All IsKnown) (sym (one-into nodes accepted number (plan_node_at nodes number) at other single)) (into-known nodes number))
 
 -- ---- depths
 

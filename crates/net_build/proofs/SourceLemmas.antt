@@ -19,7 +19,7 @@ use Rattle.mux_node.specs.MuxState.{IsNewMux}
 use Rattle.net_build.specs.Source.{IsSource}
 use Rattle.net_kinds.specs.NodeKind.{NodeState, node_kind}
 use Rattle.net_opening.specs.Opening.{state_at, state_by_part}
-use Rattle.net_opening.specs.States.{demux_at, document_node_of, manager_at, memory_at, mux_at, remap_at}
+use Rattle.net_opening.specs.States.{demux_at, document_node_of, manager_at, memory_at, mux_at, remap_at, up_at}
 use Rattle.net_opening.specs.Touched.{lines_touched}
 use Rattle.node_core.specs.Acted.{Acted, opened}
 use Rattle.node_graph.specs.Graph.{numbers}
@@ -32,6 +32,7 @@ use Rattle.topology_text.specs.Form.{table_form}
 use Rattle.topology_text.specs.Formed.{AreDelays, AreDelaysAt, IsFormed}
 use Rattle.topology_text.specs.declared.kind.Kind.{Kind}
 use Rattle.topology_text.specs.declared.kind.Kind.TheVariants as kind
+use Rattle.up_node.specs.UpTrail.{IsNewUp}
 
 -- ---- a plan node begins as its kind begins
 
@@ -141,6 +142,9 @@ module _ {nodes : List DocumentNode} {items : List TrafficItem} {targets : List 
 
   pub remap-begins : (plan_node_at nodes number).part ≡ part.Remap → IsNewRemap (remap_at nodes number)
   remap-begins same = begins-by nodes items targets number part.Remap source less same
+
+  pub up-begins : (plan_node_at nodes number).part ≡ part.Up → IsNewUp (up_at nodes number)
+  up-begins same = begins-by nodes items targets number part.Up source less same
 
   pub demux-begins : (plan_node_at nodes number).part ≡ part.Demux → IsNewDemux (demux_at nodes number)
   demux-begins same = begins-by nodes items targets number part.Demux source less same

@@ -7,7 +7,7 @@ use Rattle.net_build.proofs.AnswerLemmas.{known-answer, node-within, note-there,
 use Rattle.net_build.proofs.StandLemmas.{node-stands, nodes-count}
 use Rattle.net_build.specs.NetInside.{IsRun, net_run}
 use Rattle.net_build.specs.NetRun.{network_of_run}
-use Rattle.net_build.specs.Noted.{HasPlace, IsAnswerTo, answer_by, answer_noted, manager_of_place}
+use Rattle.net_build.specs.Noted.{HasPlace, IsAnswerTo, answer_by, answer_of_number, manager_of_place}
 use Rattle.net_build.specs.Notes.{note_of}
 use Rattle.net_build.specs.declared.net.Net.TheInside.{Inside}
 use Rattle.net_build.specs.declared.notes.Note.{Note}
@@ -41,10 +41,10 @@ module _ (n : Inside) (is : IsRun n) (number : ℕ) (first : 1 ≤ number) (last
           subst (λ (x : Note). HasPlace (node_view node).state.kind (node_view node).state.state x.place) (sym note-is)
           (place-there (net_run n) is.traffic is.sound (number - 1) less (node_view node) stands)
 
-      pub answer-is : answer_by (node_view node).state.kind (node_view node).state.state note.place ≡ answer_noted (net_run n) number
+      pub answer-is : answer_by (node_view node).state.kind (node_view node).state.state note.place ≡ answer_of_number (net_run n) number
       answer-is =
           ap (λ (x : Note). answer_by (node_view node).state.kind (node_view node).state.state x.place) note-is
           ∙ noted-there (net_run n) is.traffic is.sound (number - 1) less (node_view node) stands
 
-  pub answer-known : (o : Option AnswerView) → o ≡ answer_noted (net_run n) number → IfSome o (IsAnswerTo (net_run n) number)
+  pub answer-known : (o : Option AnswerView) → o ≡ answer_of_number (net_run n) number → IfSome o (IsAnswerTo (net_run n) number)
   answer-known o same = known-answer (net_run n) is.traffic is.sound (number - 1) less number refl o same

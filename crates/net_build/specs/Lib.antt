@@ -1,3 +1,4 @@
+pub mod Linked
 pub mod NetInside
 pub mod NetRun
 pub mod Noted

@@ -37,8 +37,8 @@ noted_at run place =
     (slice_get (network_of_run run).nodes (first_part run.nodes (manager_of_place run.items place)))
 
 -- the answer to a transaction by its number, from 1
-abbrev pub answer_noted : NetRun → ℕ → Option AnswerView
-answer_noted run number = noted_at run (number - 1)
+abbrev pub answer_of_number : NetRun → ℕ → Option AnswerView
+answer_of_number run number = noted_at run (number - 1)
 
 -- What is known of the answer to a transaction by its number: the transaction suits its manager, and no more came for it
 -- than a response for each beat of its burst and the bytes of a page.

@@ -1,67 +1,52 @@
 //! The links above and below the nodes of a plan.
 
-ghost use Rattle.std.specs.Prelude.{◌≡◌, ◌++◌, ◌∷◌, [], IfOk, OnOk, cond, slice_index_or};
-ghost use Rattle.net_opening.specs.PlanLinks.{link_into, link_out_of, links_into, links_out_of};
+ghost use Rattle.std.specs.Prelude.{◌≡◌, ◌<◌, ◌++◌, ◌∷◌, ℕ, [], IfOk, OnOk, length, slice_index_or, slice_set};
+ghost use Rattle.elaborate.specs.Plan.{plan_links};
+ghost use Rattle.net_build.specs.Linked.{AreAbove, AreBelow};
+ghost use Rattle.node_graph.specs.Simple.{lists_in};
 
 use elaborate::Plan;
 use std::alloc::{AllocError, Global};
 
-/// The numbers of the links above a plan node, upwards.
-#[tactic(auto, unfolding(node_graph::specs::Graph::numbers))]
-pub(crate) fn links_into(alloc: Global, plan: &Plan, number: u32) -> Result<Vec<u32>, AllocError>
-    ensures { IfOk result (λ links. links.items ≡ links_into plan.now number) }
+/// Of each plan node the links above it, upwards.
+pub(crate) fn links_above(alloc: Global, plan: &Plan) -> Result<Vec<Vec<u32>>, AllocError>
+    ensures { IfOk result (λ lists. AreAbove plan.now (length (plan_links plan.now)) (lists_in lists.items)) }
 {
-    let mut links = Vec::new(alloc);
+    let mut lists = empty_lists(alloc, plan.nodes())?;
     for link in 0..plan.links() {
-        push_where(&mut links, link, plan.ends(link).1 == number)?;
+        add_link(&mut lists, plan.ends(link).1, link)?;
     }
-    Ok(links)
+    Ok(lists)
 }
 
-/// The numbers of the links below it, upwards.
-#[tactic(auto, unfolding(node_graph::specs::Graph::numbers))]
-pub(crate) fn links_out_of(alloc: Global, plan: &Plan, number: u32) -> Result<Vec<u32>, AllocError>
-    ensures { IfOk result (λ links. links.items ≡ links_out_of plan.now number) }
+/// Of each plan node the links below it, upwards.
+pub(crate) fn links_below(alloc: Global, plan: &Plan) -> Result<Vec<Vec<u32>>, AllocError>
+    ensures { IfOk result (λ lists. AreBelow plan.now (length (plan_links plan.now)) (lists_in lists.items)) }
 {
-    let mut links = Vec::new(alloc);
+    let mut lists = empty_lists(alloc, plan.nodes())?;
     for link in 0..plan.links() {
-        push_where(&mut links, link, plan.ends(link).0 == number)?;
+        add_link(&mut lists, plan.ends(link).0, link)?;
     }
-    Ok(links)
+    Ok(lists)
 }
 
-/// The first link above a plan node, or 0 where there is none.
-pub(crate) fn link_into(alloc: Global, plan: &Plan, number: u32) -> Result<u32, AllocError>
-    ensures { IfOk result (λ link. link ≡ link_into plan.now number) }
+// So many empty lists.
+fn empty_lists(alloc: Global, count: u32) -> Result<Vec<Vec<u32>>, AllocError>
+    ensures long { IfOk result (λ lists. length (lists_in lists.items) ≡ count) }
+    ensures empty { IfOk result (λ lists. (node : ℕ) → slice_index_or (lists_in lists.items) node [] ≡ []) }
 {
-    let links = links_into(alloc, plan, number)?;
-    Ok(first_of(&links))
-}
-
-/// The first link below it, or 0 where there is none.
-pub(crate) fn link_out_of(alloc: Global, plan: &Plan, number: u32) -> Result<u32, AllocError>
-    ensures { IfOk result (λ link. link ≡ link_out_of plan.now number) }
-{
-    let links = links_out_of(alloc, plan, number)?;
-    Ok(first_of(&links))
-}
-
-// The first of some numbers, or 0.
-fn first_of(numbers: &[u32]) -> u32
-    ensures { result ≡ slice_index_or numbers.now 0 0 }
-{
-    match numbers.first() {
-        Some(first) => *first,
-        None => 0,
+    let mut lists = Vec::new(alloc);
+    for _node in 0..count {
+        lists.push(Vec::new(alloc))?;
     }
+    Ok(lists)
 }
 
-// Adds a link where it is wanted.
-fn push_where(links: &mut Vec<u32>, link: u32, wanted: bool) -> Result<(), AllocError>
-    ensures { OnOk result (links.new.items ≡ links.old.items ++ (cond wanted (link ∷ []) [])) }
+// Puts a link at the end of the list of a node.
+fn add_link(lists: &mut [Vec<u32>], node: u32, link: u32) -> Result<(), AllocError>
+    requires { node < length lists.old }
+    ensures { OnOk result (lists_in lists.new ≡ slice_set (lists_in lists.old) node (slice_index_or (lists_in lists.old) node [] ++ link ∷ [])) }
 {
-    if wanted {
-        links.push(link)?;
-    }
+    lists[node as usize].push(link)?;
     Ok(())
 }

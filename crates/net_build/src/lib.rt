@@ -7,6 +7,7 @@
 
 mod ends;
 mod lines;
+mod linked;
 mod links;
 mod net;
 mod nodes;
@@ -15,8 +16,6 @@ mod parts;
 mod ranges;
 mod source;
 mod targets;
-#[cfg(test)]
-mod tests;
 mod told;
 
 pub use net::Net;

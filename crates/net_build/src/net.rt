@@ -6,7 +6,7 @@ ghost use Rattle.axi_link.specs.LinkWords.{link_of};
 ghost use Rattle.elaborate.specs.Plan.{plan_links, plan_nodes};
 ghost use Rattle.net_build.specs.NetRun.{new_run, network_of_run};
 ghost use Rattle.net_build.specs.Stands.{IsOpened};
-ghost use Rattle.net_build.specs.Noted.{IsAnswerTo, answer_noted, byte_noted};
+ghost use Rattle.net_build.specs.Noted.{IsAnswerTo, answer_of_number, byte_noted};
 ghost use Rattle.net_build.specs.Shown.{is_shown};
 ghost use Rattle.net_kinds.specs.NodeKind.{node_kind};
 ghost use Rattle.net_model.specs.Network.{is_finished};
@@ -18,6 +18,7 @@ ghost use Rattle.net_ways.specs.Sound.{IsSound};
 ghost use Rattle.plan_traffic.specs.Accepted.{IsTraffic};
 ghost use Rattle.plan_traffic.specs.Bound.{round_bound};
 
+use crate::linked::LinkedPlan;
 use crate::links::net_links;
 use crate::nodes::net_nodes;
 use crate::notes::{Note, no_counts, notes_of};
@@ -163,7 +164,7 @@ impl Net {
     pub fn answer(&self, number: u32) -> Option<&Answer>
         requires first { 1 ≤ number }
         requires last { number ≤ length self.now.items }
-        ensures answer { option_copied result ≡ answer_noted self.now number }
+        ensures answer { option_copied result ≡ answer_of_number self.now number }
         ensures known { IfSome result (λ answer. IsAnswerTo self.now number answer.now) }
     {
         let note = self.notes[number as usize - 1];
@@ -197,8 +198,9 @@ fn steps_of(alloc: Global, plan: &Plan, traffic: &Traffic) -> Result<net_steps::
     // The document is accepted, and the keys of its nodes are within their limits.
     let _ = plan.wiring().count();
     let targets = targets_of(alloc, plan, traffic)?;
+    let linked = LinkedPlan::new(alloc, plan)?;
     let source = Source {
-        plan,
+        plan: &linked,
         traffic,
         targets: &targets,
     };

@@ -9,13 +9,13 @@ ghost use Rattle.net_opening.specs.Opening.{state_at, state_by_part};
 ghost use Rattle.node_core.specs.Acted.{opened};
 ghost use Rattle.topology.specs.Document.{node_at, widest};
 
-use crate::ends::{link_into, link_out_of, links_into, links_out_of};
 use crate::lines::lines_touched;
+use crate::linked::LinkedPlan;
 use crate::ranges::{map_of, memory_ranges};
 use crate::source::Source;
 use axi_beats::NoMemory;
 use demux_node::DemuxNode;
-use elaborate::{Part, Plan};
+use elaborate::Part;
 use error_node::ErrorNode;
 use manager_node::ManagerNode;
 use memory_node::{MemoryConfig, MemoryNode};
@@ -25,6 +25,7 @@ use remap_node::RemapNode;
 use slice_node::SliceNode;
 use std::alloc::{AllocError, Global};
 use topology::Wiring;
+use up_node::UpNode;
 
 /// The plan node of a number as its kind begins. A part that can't be run yet stands as a slice.
 pub(crate) fn node_of(alloc: Global, source: &Source<'_>, number: u32) -> Result<Node, NoMemory>
@@ -39,29 +40,29 @@ pub(crate) fn node_of(alloc: Global, source: &Source<'_>, number: u32) -> Result
         Part::Demux => demux_node(alloc, source, number),
         Part::Error => error_node(alloc, source, number),
         Part::Remap => remap_node(alloc, source, number),
-        Part::LiteMemory
-        | Part::Slice
-        | Part::Split
-        | Part::Up
-        | Part::Down
-        | Part::Lite => slice_node(alloc, source, number),
+        Part::Up => up_node(alloc, source, number),
+        Part::LiteMemory | Part::Slice | Part::Split | Part::Down | Part::Lite => Ok(slice_node(
+            source, number,
+        )),
     }
 }
 
 // A slice between its two links.
-fn slice_node(alloc: Global, source: &Source<'_>, number: u32) -> Result<Node, NoMemory>
-    ensures { IfOk result (λ node. node_view node ≡ opened (state_by_part source.now.plan.now source.now.traffic.now number part.Slice)) }
+fn slice_node(source: &Source<'_>, number: u32) -> Node
+    requires { number < length (plan_nodes source.now.plan.now) }
+    ensures { node_view result ≡ opened (state_by_part source.now.plan.now source.now.traffic.now number part.Slice) }
 {
-    let upper = link_into(alloc, source.plan, number)?;
-    let lower = link_out_of(alloc, source.plan, number)?;
-    Ok(Node::Slice(SliceNode::new(upper, lower)))
+    let upper = source.plan.link_into(number);
+    let lower = source.plan.link_out_of(number);
+    Node::Slice(SliceNode::new(upper, lower))
 }
 
 // An error subordinate below its link.
 fn error_node(alloc: Global, source: &Source<'_>, number: u32) -> Result<Node, NoMemory>
+    requires { number < length (plan_nodes source.now.plan.now) }
     ensures { IfOk result (λ node. node_view node ≡ opened (state_by_part source.now.plan.now source.now.traffic.now number part.Error)) }
 {
-    let upper = link_into(alloc, source.plan, number)?;
+    let upper = source.plan.link_into(number);
     let node = ErrorNode::new(upper);
     Ok(Node::Error(boxed(alloc, node)?))
 }
@@ -73,14 +74,14 @@ fn mux_node(alloc: Global, source: &Source<'_>, number: u32) -> Result<Node, NoM
     requires mux { (plan_node_at source.now.plan.now number).part ≡ part.Mux }
     ensures { IfOk result (λ node. node_view node ≡ opened (state_by_part source.now.plan.now source.now.traffic.now number part.Mux)) }
 {
-    let uppers = links_into(alloc, source.plan, number)?;
-    let lower = link_out_of(alloc, source.plan, number)?;
-    let width = widest(source.plan, &uppers);
-    Ok(Node::Mux(MuxNode::new(&uppers, lower, width)))
+    let uppers = source.plan.links_into(number);
+    let lower = source.plan.link_out_of(number);
+    let width = widest(source.plan, uppers);
+    Ok(Node::Mux(MuxNode::new(uppers, lower, width)))
 }
 
 // The widest IDs of some links.
-fn widest(plan: &Plan, links: &[u32]) -> u8
+fn widest(plan: &LinkedPlan<'_>, links: &[u32]) -> u8
     requires { All (λ link. link < length (plan_links plan.now)) links.now }
     ensures { result ≡ widest (map (λ link. (plan_link_at plan.now link).link) links.now) }
 {
@@ -98,12 +99,28 @@ fn remap_node(alloc: Global, source: &Source<'_>, number: u32) -> Result<Node, N
     requires remap { (plan_node_at source.now.plan.now number).part ≡ part.Remap }
     ensures { IfOk result (λ node. node_view node ≡ opened (state_by_part source.now.plan.now source.now.traffic.now number part.Remap)) }
 {
-    let upper = link_into(alloc, source.plan, number)?;
-    let lower = link_out_of(alloc, source.plan, number)?;
+    let upper = source.plan.link_into(number);
+    let lower = source.plan.link_out_of(number);
     let document = source.plan.document(number);
     let width = source.plan.wiring().id_width(document);
     let node = RemapNode::new(upper, lower, width);
     Ok(Node::Remap(boxed(alloc, node)?))
+}
+
+// An up converter, from the bus above it to the bus that its document node names.
+fn up_node(alloc: Global, source: &Source<'_>, number: u32) -> Result<Node, NoMemory>
+    requires source { IsSource source.now.plan.now source.now.traffic.now source.now.targets.now }
+    requires known { number < length (plan_nodes source.now.plan.now) }
+    requires up { (plan_node_at source.now.plan.now number).part ≡ part.Up }
+    ensures { IfOk result (λ node. node_view node ≡ opened (state_by_part source.now.plan.now source.now.traffic.now number part.Up)) }
+{
+    let upper = source.plan.link_into(number);
+    let lower = source.plan.link_out_of(number);
+    let above = source.plan.kind(upper);
+    let document = source.plan.document(number);
+    let wide = source.plan.wiring().bus(document);
+    let node = UpNode::new(upper, lower, above.bus, wide);
+    Ok(Node::Up(boxed(alloc, node)?))
 }
 
 // A demux, with the regions of its document node.
@@ -113,11 +130,11 @@ fn demux_node(alloc: Global, source: &Source<'_>, number: u32) -> Result<Node, N
     requires demux { (plan_node_at source.now.plan.now number).part ≡ part.Demux }
     ensures { IfOk result (λ node. node_view node ≡ opened (state_by_part source.now.plan.now source.now.traffic.now number part.Demux)) }
 {
-    let upper = link_into(alloc, source.plan, number)?;
-    let lowers = links_out_of(alloc, source.plan, number)?;
+    let upper = source.plan.link_into(number);
+    let lowers = source.plan.links_out_of(number);
     let document = source.plan.document(number);
     let map = map_of(alloc, source.plan.wiring(), document)?;
-    let node = DemuxNode::new(upper, &lowers, map);
+    let node = DemuxNode::new(upper, lowers, map);
     Ok(Node::Demux(boxed(alloc, node)?))
 }
 
@@ -131,7 +148,7 @@ fn manager_node(alloc: Global, source: &Source<'_>, number: u32) -> Result<Node,
     let wiring = source.plan.wiring();
     let document = source.plan.document(number);
     let script = source.traffic.script(alloc, document)?;
-    let lower = link_out_of(alloc, source.plan, number)?;
+    let lower = source.plan.link_out_of(number);
     let node = ManagerNode::new(
         alloc,
         script,
@@ -154,7 +171,7 @@ fn memory_node(alloc: Global, source: &Source<'_>, number: u32) -> Result<Node, 
     let document = source.plan.document(number);
     let read_only = memory_ranges(alloc, wiring.read_only(document))?;
     let hole = memory_ranges(alloc, wiring.hole(document))?;
-    let upper = link_into(alloc, source.plan, number)?;
+    let upper = source.plan.link_into(number);
     let touched = lines_touched(alloc, source, number)?;
     let node = MemoryNode::new(
         alloc,

@@ -3,7 +3,7 @@ use Rattle.std.proofs.Common.{◌≡◌, ◌<◌, ◌+◌, ◌++◌, ℕ, zero, 
 use Rattle.std.specs.Prelude.{◌||◌, ◌⊎◌, All, is_some, not, slice_get}
 use Rattle.std.specs.Option.{option_and_then, option_map, option_map_or}
 use Rattle.std.proofs.lemmas.Bool.{cases_lt}
-use Rattle.std.proofs.lemmas.List.{get_or-map, get_or-set_same, length-set, map-set}
+use Rattle.std.proofs.lemmas.List.{get_or-map, get_or-set_same, length-map, length-set, map-set}
 use Rattle.std.proofs.lemmas.Option.{slice_get-get_or, slice_get-map}
 use Rattle.axi_link.specs.LinkView.{LinkView, empty_link}
 use Rattle.axi_link.specs.LinkWords.{head_of, link_of}
@@ -20,11 +20,12 @@ use Rattle.net_kinds.proofs.DoLemmas.{nodes-do}
 use Rattle.net_kinds.specs.NodeKind.{NodeState, node_kind, node_view}
 use Rattle.net_kinds.specs.NodeTable.{node_done, node_out, node_table}
 use Rattle.net_kinds.specs.declared.node.Node.{Node}
-use Rattle.net_kinds.specs.declared.node.Node.TheVariants.{Demux, Error, Manager, Memory, Mux, Remap, Slice}
+use Rattle.net_kinds.specs.declared.node.Node.TheVariants.{Demux, Error, Manager, Memory, Mux, Remap, Slice, Up}
 use Rattle.net_model.specs.Network.{lower_node, moves_at, net_link, queue_moved, upper_node}
 use Rattle.net_model.specs.declared.net_link.NetLink.{NetLink}
 use Rattle.net_steps.proofs.PhaseLemmas.{next-is}
-use Rattle.net_steps.specs.Calls.{AreSeen, UncalledStay, acts, makes_moves, is_called, is_noted, noted_too, offers_answer, offers_request, only_passes, seen_too}
+use Rattle.net_steps.specs.Calls.{AreSeen, UncalledStay, acts, makes_moves, is_called, is_noted, noted_too, offers_answer, offers_at, offers_of, offers_request, only_passes, seen_too}
+use Rattle.net_steps.specs.declared.calls.Offers.{Offers}
 use Rattle.net_steps.specs.NetView.{AreJoined, NetView}
 use Rattle.node_core.specs.Acted.{Acted, no_moves}
 use Rattle.node_core.specs.Rows.{beat_where}
@@ -188,6 +189,7 @@ passing-rests round links (Memory n) passes quiet still = absurd (cc)
 passing-rests round links (Manager n) passes quiet still = absurd (cc)
 passing-rests round links (Error n) passes quiet still = absurd (cc)
 passing-rests round links (Remap n) passes quiet still = absurd (cc)
+passing-rests round links (Up n) passes quiet still = absurd (cc)
 
 uncalled : (a b c : Bool) → (a || b || not c) ≡ false → (a ≡ false) × (b ≡ false) × (c ≡ true)
 uncalled false false true is = (refl, refl, refl)
@@ -207,12 +209,20 @@ passing-done (Memory n) is = refl
 passing-done (Error n) is = refl
 passing-done (Manager n) is = absurd (cc)
 passing-done (Remap n) is = absurd (cc)
+passing-done (Up n) is = absurd (cc)
 
 unless : (b : Bool) → (b ≡ true → ⊥) → b ≡ false
 unless true not_so = absurd (not_so refl)
 unless false not_so = refl
 
-others-stay : (net : NetView) → AreJoined net → (round : ℕ) (seen : List Bool) → AreSeen net.links net.queues (length net.queues) seen → UncalledStay round net.queues seen net.nodes
+-- what a link offers, as it is kept
+offers-at : (queues : List LinkView) (link : ℕ) → offers_at (map offers_of queues) link ≡ offers_of (link_of queues link)
+offers-at [] link = refl
+offers-at (queue ∷ queues) zero = refl
+offers-at (queue ∷ queues) (suc link) = offers-at queues link
+
+others-stay : (net : NetView) → AreJoined net → (round : ℕ) (seen : List Bool) → AreSeen net.links (map offers_of net.queues) (length (map offers_of net.queues)) seen →
+    UncalledStay round net.queues seen net.nodes
 others-stay net joined round seen are number node at is =
     let parts = not-called seen number node is in
     let here : slice_get (map node_view net.nodes) number ≡ Some (node_view node) = slice_get-map node_view net.nodes number ∙ ap (option_map node_view) at in
@@ -220,17 +230,17 @@ others-stay net joined round seen are number node at is =
     subst (λ (o : Option (Acted NodeState)). All (λ link. (link < length net.links) × (lower_node net.links link ≡ number)) (option_map_or (λ (a : Acted NodeState). node_kind.uppers a.state) o [])) here (joined.uppers number) in
     let lowers : All (λ link. (link < length net.links) × (upper_node net.links link ≡ number)) (node_kind.lowers (node_view node).state) =
     subst (λ (o : Option (Acted NodeState)). All (λ link. (link < length net.links) × (upper_node net.links link ≡ number)) (option_map_or (λ (a : Acted NodeState). node_kind.lowers a.state) o [])) here (joined.lowers number) in
-    let known : (link : ℕ) → link < length net.links → link < length net.queues = λ link within. omega (arith, within, joined.long) in
+    let known : (link : ℕ) → link < length net.links → link < length (map offers_of net.queues) = λ link within. omega (arith, within, joined.long, length-map net.queues offers_of) in
     passing-rests round net.queues node parts.2
     (record {
       requests = λ k link at_k.
           let own = at-all (λ l. (l < length net.links) × (lower_node net.links l ≡ number)) (node_kind.uppers (node_view node).state) k link uppers at_k in
           no-requests (link_of net.queues link)
-          (unless _ (λ offers. absurd (clash (is_noted seen number) (subst (λ (n : ℕ). is_noted seen n ≡ true) own.1 (are.requests link (known link own.0) offers)) parts.0)));
+          (unless _ (λ offers. absurd (clash (is_noted seen number) (subst (λ (n : ℕ). is_noted seen n ≡ true) own.1 (are.requests link (known link own.0) (ap (λ (o : Offers). o.request) (offers-at net.queues link) ∙ offers))) parts.0)));
       answers = λ k link at_k.
           let own = at-all (λ l. (l < length net.links) × (upper_node net.links l ≡ number)) (node_kind.lowers (node_view node).state) k link lowers at_k in
           no-answers (link_of net.queues link)
-          (unless _ (λ offers. absurd (clash (is_noted seen number) (subst (λ (n : ℕ). is_noted seen n ≡ true) own.1 (are.answers link (known link own.0) offers)) parts.0)));
+          (unless _ (λ offers. absurd (clash (is_noted seen number) (subst (λ (n : ℕ). is_noted seen n ≡ true) own.1 (are.answers link (known link own.0) (ap (λ (o : Offers). o.answer) (offers-at net.queues link) ∙ offers))) parts.0)));
     })
     (moves-none (node_out node) parts.1)
   where
@@ -240,14 +250,14 @@ others-stay net joined round seen are number node at is =
 
 -- the same of what is lent
 pub others-by :
-    (net : NetView) → AreJoined net → (round : ℕ) (seen noted : List Bool) (links : List NetLink) (lent queues : List LinkView) (nodes : List Node) →
-    links ≡ net.links → lent ≡ net.queues → queues ≡ net.queues → nodes ≡ net.nodes → seen ≡ noted → AreSeen links lent (length lent) noted → UncalledStay round queues seen nodes
+    (net : NetView) → AreJoined net → (round : ℕ) (seen noted : List Bool) (links : List NetLink) (lent : List Offers) (queues : List LinkView) (nodes : List Node) →
+    links ≡ net.links → lent ≡ map offers_of net.queues → queues ≡ net.queues → nodes ≡ net.nodes → seen ≡ noted → AreSeen links lent (length lent) noted → UncalledStay round queues seen nodes
 others-by net joined round seen noted links lent queues nodes links_are lent_are queues_are nodes_are seen_is are =
     subst (λ (ns : List Node). UncalledStay round queues seen ns) (sym nodes_are)
     (subst (λ (qs : List LinkView). UncalledStay round qs seen net.nodes) (sym queues_are)
     (subst (λ (s : List Bool). UncalledStay round net.queues s net.nodes) (sym seen_is)
     (others-stay net joined round noted
-    (subst (λ (qs : List LinkView). AreSeen net.links qs (length qs) noted) lent_are (subst (λ (ls : List NetLink). AreSeen ls lent (length lent) noted) links_are are)))))
+    (subst (λ (all : List Offers). AreSeen net.links all (length all) noted) lent_are (subst (λ (ls : List NetLink). AreSeen ls lent (length lent) noted) links_are are)))))
 
 -- a link on which neither node moves
 link-stays : (number : ℕ) (queue : LinkView) (above below : Out) → above ≡ no_moves → below ≡ no_moves → link_after number queue above below ≡ queue
@@ -306,37 +316,36 @@ noted-long : (b : Bool) (place : ℕ) (flags : List Bool) → length (noted_too 
 noted-long true place flags = length-set flags place true
 noted-long false place flags = refl
 
-pub seen-long : (link : NetLink) (queue : LinkView) (seen : List Bool) → length (seen_too link queue seen) ≡ length seen
-seen-long link queue seen =
-    noted-long (offers_answer queue) link.upper (noted_too (offers_request queue) link.lower seen) ∙ noted-long (offers_request queue) link.lower seen
+pub seen-long : (link : NetLink) (offers : Offers) (seen : List Bool) → length (seen_too link offers seen) ≡ length seen
+seen-long link offers seen = noted-long offers.answer link.upper (noted_too offers.request link.lower seen) ∙ noted-long offers.request link.lower seen
 
 -- one link more is seen
-pub seen-more : (links : List NetLink) (queues : List LinkView) (count : ℕ) (seen : List Bool) (link : NetLink) (queue : LinkView) → net_link links count ≡ link → link_of queues count ≡ queue →
-    link.upper < length seen → link.lower < length seen → AreSeen links queues count seen → AreSeen links queues (count + 1) (seen_too link queue seen)
-seen-more links queues count seen link queue link_is queue_is upper lower are = record { requests = requests; answers = answers }
+pub seen-more : (links : List NetLink) (kept : List Offers) (count : ℕ) (seen : List Bool) (link : NetLink) (own : Offers) → net_link links count ≡ link → offers_at kept count ≡ own →
+    link.upper < length seen → link.lower < length seen → AreSeen links kept count seen → AreSeen links kept (count + 1) (seen_too link own seen)
+seen-more links kept count seen link own link_is own_is upper lower are = record { requests = requests; answers = answers }
   where
     first : List Bool
-    first = noted_too (offers_request queue) link.lower seen
+    first = noted_too own.request link.lower seen
 
     last-or : (n : ℕ) → n < count + 1 → (n < count) ⊎ (n ≡ count)
     last-or n less = elim (cases_lt n count) [ inl before ↦ inl before | inr not_before ↦ inr (omega (arith, less, not_before)) ]
 
-    requests : (n : ℕ) → n < count + 1 → offers_request (link_of queues n) ≡ true → is_noted (seen_too link queue seen) (lower_node links n) ≡ true
+    requests : (n : ℕ) → n < count + 1 → (offers_at kept n).request ≡ true → is_noted (seen_too link own seen) (lower_node links n) ≡ true
     requests n less offers = elim (last-or n less) [
-      | inl before ↦ noted-stays (offers_answer queue) link.upper first (lower_node links n) (noted-stays (offers_request queue) link.lower seen (lower_node links n) (are.requests n before offers))
+      | inl before ↦ noted-stays own.answer link.upper first (lower_node links n) (noted-stays own.request link.lower seen (lower_node links n) (are.requests n before offers))
       | inr here ↦
-          noted-stays (offers_answer queue) link.upper first (lower_node links n)
+          noted-stays own.answer link.upper first (lower_node links n)
           (subst (λ (node : ℕ). is_noted first node ≡ true) (sym (ap (lower_node links) here ∙ ap (λ (l : NetLink). l.lower) link_is))
-          (now-noted (offers_request queue) link.lower seen lower (sym (ap offers_request (ap (link_of queues) here ∙ queue_is)) ∙ offers)))
+          (now-noted own.request link.lower seen lower (sym (ap (λ (o : Offers). o.request) (ap (offers_at kept) here ∙ own_is)) ∙ offers)))
     ]
 
-    answers : (n : ℕ) → n < count + 1 → offers_answer (link_of queues n) ≡ true → is_noted (seen_too link queue seen) (upper_node links n) ≡ true
+    answers : (n : ℕ) → n < count + 1 → (offers_at kept n).answer ≡ true → is_noted (seen_too link own seen) (upper_node links n) ≡ true
     answers n less offers = elim (last-or n less) [
-      | inl before ↦ noted-stays (offers_answer queue) link.upper first (upper_node links n) (noted-stays (offers_request queue) link.lower seen (upper_node links n) (are.answers n before offers))
+      | inl before ↦ noted-stays own.answer link.upper first (upper_node links n) (noted-stays own.request link.lower seen (upper_node links n) (are.answers n before offers))
       | inr here ↦
-          subst (λ (node : ℕ). is_noted (seen_too link queue seen) node ≡ true) (sym (ap (upper_node links) here ∙ ap (λ (l : NetLink). l.upper) link_is))
-          (now-noted (offers_answer queue) link.upper first (subst (λ (n : ℕ). link.upper < n) (sym (noted-long (offers_request queue) link.lower seen)) upper)
-          (sym (ap offers_answer (ap (link_of queues) here ∙ queue_is)) ∙ offers))
+          subst (λ (node : ℕ). is_noted (seen_too link own seen) node ≡ true) (sym (ap (upper_node links) here ∙ ap (λ (l : NetLink). l.upper) link_is))
+          (now-noted own.answer link.upper first (subst (λ (n : ℕ). link.upper < n) (sym (noted-long own.request link.lower seen)) upper)
+          (sym (ap (λ (o : Offers). o.answer) (ap (offers_at kept) here ∙ own_is)) ∙ offers))
     ]
 
 -- an item that is there is the same by any default
@@ -353,6 +362,17 @@ called-as seen acting nodes place i node dn ds da called few within same are is 
     ∙ ap (λ (n : ℕ). get_or seen n ds || get_or acting n da || not (only_passes node)) same
     ∙ ap (λ (b : Bool). b || get_or acting i da || not (only_passes node)) (at-any seen i ds true few)
     ∙ ap (λ (b : Bool). is_noted seen i || b || not (only_passes node)) (ap (λ (flags : List Bool). get_or flags i da) are ∙ get_or-map acts nodes i dn da within ∙ ap acts (sym is))
+
+-- of each link it is kept what it offers
+pub offers-set : (queues : List LinkView) (kept : List Offers) (place i : ℕ) (queue : LinkView) (own : Offers) → kept ≡ map offers_of queues → place ≡ i → own ≡ offers_of queue →
+    set kept place own ≡ map offers_of (set queues i queue)
+offers-set queues kept place i queue own are same is =
+    ap (λ (all : List Offers). set all place own) are ∙ ap (λ (n : ℕ). set (map offers_of queues) n own) same ∙ ap (λ (o : Offers). set (map offers_of queues) i o) is ∙ sym (map-set offers_of queues i queue)
+
+pub offers-get : (queues : List LinkView) (kept : List Offers) (place i : ℕ) (queue : LinkView) (d : Offers) → i < length queues → kept ≡ map offers_of queues → place ≡ i →
+    get_or kept place d ≡ offers_of (get_or queues i queue)
+offers-get queues kept place i queue d within are same =
+    ap (λ (all : List Offers). get_or all place d) are ∙ ap (λ (n : ℕ). get_or (map offers_of queues) n d) same ∙ get_or-map offers_of queues i queue d within
 
 -- of each node it is noted whether it acts
 pub acting-set : (nodes : List Node) (acting : List Bool) (place i : ℕ) (node : Node) (flag : Bool) → acting ≡ map acts nodes → place ≡ i → flag ≡ acts node →

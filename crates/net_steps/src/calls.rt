@@ -4,7 +4,7 @@ ghost use Rattle.std.specs.Prelude.{◌≡◌, ◌<◌, ◌^◌, ◌++◌, ◌�
 ghost use Rattle.axi_link.specs.LinkWords.{link_of};
 ghost use Rattle.net_kinds.specs.NodeTable.{node_out};
 ghost use Rattle.net_model.specs.Network.{net_link};
-ghost use Rattle.net_steps.specs.Calls.{AreSeen, HaveEnds, acts, makes_moves, is_noted, offers_answer, offers_request, only_passes, noted_too, seen_too};
+ghost use Rattle.net_steps.specs.Calls.{AreSeen, HaveEnds, acts, makes_moves, is_noted, offers_answer, offers_of, offers_request, only_passes, noted_too, seen_too};
 
 use axi_beats::NoMemory;
 use axi_link::{Link, Out};
@@ -13,18 +13,47 @@ use net_model::NetLink;
 use node_core::Step;
 use std::alloc::{AllocError, Global};
 
+/// Whether a link offers its lower node a beat, and its upper one. It is kept of each link, so that a
+/// round asks no queue on which nothing moves.
+#[derive(Clone, Copy)]
+pub(crate) struct Offers {
+    pub request: bool,
+    pub answer: bool,
+}
+
+/// What a link offers.
+pub(crate) fn offers_of(link: &Link) -> Offers
+    ensures { result ≡ offers_of link.now }
+{
+    Offers {
+        request: offers_request(link),
+        answer: offers_answer(link),
+    }
+}
+
+/// What each link offers.
+pub(crate) fn offers_of_each(alloc: Global, queues: &[Link]) -> Result<Vec<Offers>, AllocError>
+    ensures { IfOk result (λ offers. offers.items ≡ map offers_of queues.now) }
+{
+    let mut offers = Vec::new(alloc);
+    for queue in queues {
+        offers.push(offers_of(queue))?;
+    }
+    Ok(offers)
+}
+
 /// Notes to which nodes the links offer a beat, in place of what is noted. `seen` has a place for each
 /// node.
-pub(crate) fn see_each(seen: &mut [bool], links: &[NetLink], queues: &[Link])
-    requires long { length queues.now ≡ length links.now }
-    requires few { length queues.now < 2 ^ 32 }
-    requires ends { (link : ℕ) → link < length queues.now → HaveEnds links.now (length seen.old) link }
+pub(crate) fn see_each(seen: &mut [bool], links: &[NetLink], offers: &[Offers])
+    requires long { length offers.now ≡ length links.now }
+    requires few { length offers.now < 2 ^ 32 }
+    requires ends { (link : ℕ) → link < length offers.now → HaveEnds links.now (length seen.old) link }
     ensures long { length seen.new ≡ length seen.old }
-    ensures seen { AreSeen links.now queues.now (length queues.now) seen.new }
+    ensures seen { AreSeen links.now offers.now (length offers.now) seen.new }
 {
     forget(seen);
-    for number in 0..queues.len() {
-        see(seen, &links[number], &queues[number]);
+    for number in 0..offers.len() {
+        see(seen, &links[number], offers[number]);
     }
 }
 
@@ -38,13 +67,13 @@ fn forget(seen: &mut [bool])
 }
 
 // Notes the nodes to which one link offers a beat.
-fn see(seen: &mut [bool], link: &NetLink, queue: &Link)
+fn see(seen: &mut [bool], link: &NetLink, offers: Offers)
     requires upper { link.now.upper < length seen.old }
     requires lower { link.now.lower < length seen.old }
-    ensures { seen.new ≡ seen_too link.now queue.now seen.old }
+    ensures { seen.new ≡ seen_too link.now offers seen.old }
 {
-    note(seen, link.lower, offers_request(queue));
-    note(seen, link.upper, offers_answer(queue));
+    note(seen, link.lower, offers.request);
+    note(seen, link.upper, offers.answer);
 }
 
 // Notes a node where a link offers it a beat.
@@ -83,6 +112,7 @@ pub(crate) fn only_passes(node: &Node) -> bool
         Node::Manager(_) => false,
         Node::Memory(_) => false,
         Node::Remap(_) => false,
+        Node::Up(_) => false,
     }
 }
 

@@ -9,7 +9,7 @@ ghost use Rattle.net_runs.specs.Ports.{port_at};
 ghost use Rattle.net_steps.specs.NetView.{CanCommit, CanDecide, HasDepth, decided_in, network_of, opened_net};
 ghost use Rattle.net_steps.specs.Offers.{offers_beat as is_offering};
 
-use crate::calls::{acting_of, see_each};
+use crate::calls::{Offers, acting_of, offers_of_each, see_each};
 use crate::offers::offers_beat;
 use crate::phase::{commit_each, count_unfinished, decide_each};
 use axi_beats::NoMemory;
@@ -37,6 +37,8 @@ pub struct Net {
     acting: Vec<bool>,
     // And whether a link offers it a beat in the round in which it decides.
     seen: Vec<bool>,
+    // What each link offers.
+    offers: Vec<Offers>,
 }
 
 impl Model for Net {
@@ -68,6 +70,7 @@ impl Net {
         let unfinished = count_unfinished(&nodes);
         let acting = acting_of(alloc, &nodes)?;
         let seen = acting_of(alloc, &nodes)?;
+        let offers = offers_of_each(alloc, &queues)?;
         Ok(Net {
             nodes,
             links,
@@ -77,6 +80,7 @@ impl Net {
             unfinished,
             acting,
             seen,
+            offers,
         })
     }
 
@@ -156,7 +160,7 @@ impl Net {
         ensures net { self.new ≡ decided_in self.old }
         ensures network { network_of self.new ≡ after_decide node_kind (self.old.rounds + 1) (network_of self.old) }
     {
-        see_each(&mut self.seen, &self.links, &self.queues);
+        see_each(&mut self.seen, &self.links, &self.offers);
         self.unfinished = decide_each(
             &mut self.nodes,
             &mut self.acting,
@@ -174,7 +178,14 @@ impl Net {
         ensures rounds { self.new.rounds ≡ self.old.rounds + 1 }
         ensures decided { self.new.decided ≡ false }
     {
-        commit_each(&mut self.queues, 0, &self.links, &self.nodes, &self.acting);
+        commit_each(
+            &mut self.queues,
+            &mut self.offers,
+            0,
+            &self.links,
+            &self.nodes,
+            &self.acting,
+        );
         self.rounds += 1;
         self.decided = false;
     }

@@ -5,11 +5,11 @@ ghost use Rattle.axi_link.specs.Moves.{CanMove, link_after};
 ghost use Rattle.net_kinds.specs.NodeKind.{node_view};
 ghost use Rattle.net_kinds.specs.NodeTable.{CanNode, node_done, node_table};
 ghost use Rattle.net_model.specs.Network.{CanMoveQueue, moves_at, queue_moved};
-ghost use Rattle.net_steps.specs.Calls.{UncalledStay, acts, only_passes};
+ghost use Rattle.net_steps.specs.Calls.{UncalledStay, acts, offers_of, only_passes};
 ghost use Rattle.net_steps.specs.Unfinished.{one_unless, unfinished_in};
 ghost use Rattle.plain_lists.specs.Numbered.{AllNumbered, numbered};
 
-use crate::calls::{acts, only_passes};
+use crate::calls::{Offers, acts, offers_of, only_passes};
 use axi_link::Link;
 use net_kinds::Node;
 use net_model::NetLink;
@@ -96,36 +96,51 @@ pub fn count_unfinished(nodes: &[Node]) -> u32
     unfinished
 }
 
-/// Phase two: each link makes the moves of its two nodes. The first of `queues` is that of link number
-/// `first`. A link is passed over where neither of its nodes acts.
-pub fn commit_each(
+/// Phase two: each link makes the moves of its two nodes, and what it offers then is kept. The first of
+/// `queues` is that of link number `first`. A link is passed over where neither of its nodes acts.
+pub(crate) fn commit_each(
     queues: &mut [Link],
+    offers: &mut [Offers],
     first: u32,
     links: &[NetLink],
     nodes: &[Node],
     acting: &[bool],
 )
     requires acting { acting.now ≡ map acts nodes.now }
+    requires offers { offers.old ≡ map offers_of queues.old }
     requires numbers { first + length queues.old < 2 ^ 32 }
     requires ready { AllNumbered (CanMoveQueue links.now (map node_view nodes.now)) first queues.old }
-    ensures { queues.new ≡ numbered (queue_moved links.now (map node_view nodes.now)) first queues.old }
+    ensures queues { queues.new ≡ numbered (queue_moved links.now (map node_view nodes.now)) first queues.old }
+    ensures offers { offers.new ≡ map offers_of queues.new }
 {
     let mut number = first;
+    let mut place: usize = 0;
     for queue in queues.iter_mut() {
-        commit_one(queue, number, links, nodes, acting);
+        commit_one(queue, &mut offers[place], number, links, nodes, acting);
         number += 1;
+        place += 1;
     }
 }
 
 /// The moves on one link, where one of its nodes acts.
-fn commit_one(queue: &mut Link, number: u32, links: &[NetLink], nodes: &[Node], acting: &[bool])
+fn commit_one(
+    queue: &mut Link,
+    offers: &mut Offers,
+    number: u32,
+    links: &[NetLink],
+    nodes: &[Node],
+    acting: &[bool],
+)
     requires acting { acting.now ≡ map acts nodes.now }
+    requires offers { offers.old ≡ offers_of queue.old }
     requires ready { CanMoveQueue links.now (map node_view nodes.now) number queue.old }
-    ensures { queue.new ≡ queue_moved links.now (map node_view nodes.now) number queue.old }
+    ensures queue { queue.new ≡ queue_moved links.now (map node_view nodes.now) number queue.old }
+    ensures offers { offers.new ≡ offers_of queue.new }
 {
     let link = &links[number as usize];
     if acting[link.upper as usize] || acting[link.lower as usize] {
         move_on(queue, number, link, nodes);
+        *offers = offers_of(queue);
     }
 }
 

@@ -8,7 +8,7 @@ use Rattle.net_opening.specs.Opening.{state_at}
 use Rattle.node_core.specs.Acted.{Acted, opened}
 
 pub node_of-requires-clause-known : goal.node_of-requires-clause-known
-node_of-requires-clause-known c = omega (arith, c.loop-number-test.true, c.nodes-number-end.ensures.count)
+node_of-requires-clause-known c = omega (arith, c.loop-number-test.true, c.nodes-number-end.ensures)
 
 pub loop-number-preserved : goal.loop-number-preserved
 loop-number-preserved c =

@@ -20,12 +20,12 @@ map_of-requires-clause-known c = subst (λ (nodes : List DocumentNode). c.docume
 pub new-node-requires-clause-some : goal.new-node-requires-clause-some
 new-node-requires-clause-some c =
     let begins : IsNewDemux (demux_at c.args.source.now.plan.now c.args.number) = demux-begins c.args.number c.requires.source c.requires.known c.requires.demux in
-    subst (λ (links : List ℕ). 0 < length links) (sym (c.deref.ensures.value ∙ c.in_ok-lowers.ensures)) begins.shape.some
+    subst (λ (links : List ℕ). 0 < length links) (sym c.links_out_of-lowers.ensures) begins.shape.some
 
 pub new-node-requires-clause-most : goal.new-node-requires-clause-most
 new-node-requires-clause-most c =
     let begins : IsNewDemux (demux_at c.args.source.now.plan.now c.args.number) = demux-begins c.args.number c.requires.source c.requires.known c.requires.demux in
-    subst (λ (links : List ℕ). length links ≤ 17) (sym (c.deref.ensures.value ∙ c.in_ok-lowers.ensures)) begins.shape.most
+    subst (λ (links : List ℕ). length links ≤ 17) (sym c.links_out_of-lowers.ensures) begins.shape.most
 
 pub new-node-requires-clause-regions : goal.new-node-requires-clause-regions
 new-node-requires-clause-regions c =
@@ -33,7 +33,7 @@ new-node-requires-clause-regions c =
     let placed : c.in_ok-map.map ≡ ported_regions c.args.source.now.plan.now (document_node_of c.args.source.now.plan.now c.args.number) =
     c.in_ok-map.ensures ∙ ap (λ (nodes : List DocumentNode). ported_regions nodes (node_at nodes c.document-document.result)) c.wiring.ensures
     ∙ ap (λ (document : ℕ). ported_regions c.args.source.now.plan.now (node_at c.args.source.now.plan.now document)) c.document-document.ensures.document in
-    subst (λ (links : List ℕ). All (λ (region : Region). region.port < length links) c.in_ok-map.map) (sym (c.deref.ensures.value ∙ c.in_ok-lowers.ensures))
+    subst (λ (links : List ℕ). All (λ (region : Region). region.port < length links) c.in_ok-map.map) (sym c.links_out_of-lowers.ensures)
     (subst (All (λ (region : Region). region.port < length (demux_at c.args.source.now.plan.now c.args.number).shape.lowers)) (sym placed) begins.shape.regions)
 
 pub returns : goal.returns
@@ -43,5 +43,5 @@ returns c =
     ∙ ap (λ (document : ℕ). ported_regions c.args.source.now.plan.now (node_at c.args.source.now.plan.now document)) c.document-document.ensures.document in
     ap (as_node ADemux)
     (c.in_ok-boxed.ensures
-    ∙ demux-made c.args.source.now.plan.now c.args.source.now.traffic.now c.args.number c.in_ok-upper.upper c.deref.result.now c.in_ok-map.map c.new-node.result
-    c.in_ok-upper.ensures (c.deref.ensures.value ∙ c.in_ok-lowers.ensures) placed c.new-node.ensures)
+    ∙ demux-made c.args.source.now.plan.now c.args.source.now.traffic.now c.args.number c.link_into-upper.result c.links_out_of-lowers.result.now c.in_ok-map.map c.new-node.result
+    c.link_into-upper.ensures c.links_out_of-lowers.ensures placed c.new-node.ensures)

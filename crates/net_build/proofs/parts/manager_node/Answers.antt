@@ -62,8 +62,8 @@ pub returns : goal.returns
 returns c =
     ap (as_node AManager)
     (c.in_ok-boxed.ensures
-    ∙ manager-made c.args.source.now.plan.now c.args.source.now.traffic.now c.args.number c.in_ok-script.script c.in_ok-lower.lower c.bus.result c.give.result.now c.accept.result.now c.in_ok-node.node
-    (c.in_ok-script.ensures ∙ ap (script_of c.args.source.now.traffic.now) c.document-document.ensures.document) c.in_ok-lower.ensures
+    ∙ manager-made c.args.source.now.plan.now c.args.source.now.traffic.now c.args.number c.in_ok-script.script c.link_out_of-lower.result c.bus.result c.give.result.now c.accept.result.now c.in_ok-node.node
+    (c.in_ok-script.ensures ∙ ap (script_of c.args.source.now.traffic.now) c.document-document.ensures.document) c.link_out_of-lower.ensures
     (c.bus.ensures ∙ ap (λ (node : DocumentNode). node.bus) (own-node c.args.number c.wiring-wiring.ensures c.document-document.ensures.document))
     (c.give.ensures ∙ ap (λ (node : DocumentNode). node.give) (own-node c.args.number c.wiring-wiring.ensures c.document-document.ensures.document))
     (c.accept.ensures ∙ ap (λ (node : DocumentNode). node.accept) (own-node c.args.number c.wiring-wiring.ensures c.document-document.ensures.document)) c.in_ok-node.ensures)

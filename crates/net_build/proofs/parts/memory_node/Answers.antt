@@ -65,11 +65,11 @@ returns c =
     ap (as_node AMemory)
     (c.in_ok-boxed.ensures
     ∙ memory-made c.args.source.now.plan.now c.args.source.now.traffic.now c.args.number
-    (area_of c.memory_config.result c.deref.result.now c.deref-2.result.now) c.accept.result.now c.give.result.now c.in_ok-upper.upper c.deref-3.result.now c.in_ok-node.node
+    (area_of c.memory_config.result c.deref.result.now c.deref-2.result.now) c.accept.result.now c.give.result.now c.link_into-upper.result c.deref-3.result.now c.in_ok-node.node
     (area-made (node_at c.wiring-wiring.result.now c.document-document.result) (document_node_of c.args.source.now.plan.now c.args.number) c.memory_config.result
     c.deref.result.now c.deref-2.result.now (own-node c.args.number c.wiring-wiring.ensures c.document-document.ensures.document) c.memory_config.ensures
     (c.deref.ensures.value ∙ c.in_ok-read_only.ensures ∙ ap (map memory_range) c.read_only.ensures)
     (c.deref-2.ensures.value ∙ c.in_ok-hole.ensures ∙ ap (map memory_range) c.hole.ensures))
     (c.accept.ensures ∙ ap (λ (node : DocumentNode). node.accept) (own-node c.args.number c.wiring-wiring.ensures c.document-document.ensures.document))
     (c.give.ensures ∙ ap (λ (node : DocumentNode). node.give) (own-node c.args.number c.wiring-wiring.ensures c.document-document.ensures.document))
-    c.in_ok-upper.ensures (c.deref-3.ensures.value ∙ c.in_ok-touched.ensures) c.in_ok-node.ensures)
+    c.link_into-upper.ensures (c.deref-3.ensures.value ∙ c.in_ok-touched.ensures) c.in_ok-node.ensures)

@@ -10,29 +10,27 @@ use Rattle.topology.specs.Document.{widest}
 
 pub widest-width-requires : goal.widest-width-requires
 widest-width-requires c =
-    subst (All (λ link. link < length (plan_links c.args.source.now.plan.now))) (sym (c.deref.ensures.value ∙ c.in_ok-uppers.ensures)) (into-known c.args.source.now.plan.now c.args.number)
+    subst (All (λ link. link < length (plan_links c.args.source.now.plan.now))) (sym c.links_into-uppers.ensures) (into-known c.args.source.now.plan.now c.args.number)
 
 pub new-requires-clause-some : goal.new-requires-clause-some
 new-requires-clause-some c =
-    subst (λ (links : List ℕ). 0 < length links) (sym (c.deref-2.ensures.value ∙ c.in_ok-uppers.ensures))
+    subst (λ (links : List ℕ). 0 < length links) (sym c.links_into-uppers.ensures)
     (mux-begins c.args.number c.requires.source c.requires.known c.requires.mux).shape.some
 
 pub new-requires-clause-most : goal.new-requires-clause-most
 new-requires-clause-most c =
-    subst (λ (links : List ℕ). length links ≤ 16) (sym (c.deref-2.ensures.value ∙ c.in_ok-uppers.ensures))
+    subst (λ (links : List ℕ). length links ≤ 16) (sym c.links_into-uppers.ensures)
     (mux-begins c.args.number c.requires.source c.requires.known c.requires.mux).shape.most
 
 pub new-requires-clause-narrow : goal.new-requires-clause-narrow
 new-requires-clause-narrow c =
     subst (λ (width : ℕ). width ≤ 16)
-    (sym (c.widest-width.ensures ∙ ap (λ (links : List ℕ). widest (map (λ link. (plan_link_at c.args.source.now.plan.now link).link) links)) (c.deref.ensures.value ∙ c.in_ok-uppers.ensures)))
+    (sym (c.widest-width.ensures ∙ ap (λ (links : List ℕ). widest (map (λ link. (plan_link_at c.args.source.now.plan.now link).link) links)) c.links_into-uppers.ensures))
     (mux-begins c.args.number c.requires.source c.requires.known c.requires.mux).shape.narrow
 
 pub returns : goal.returns
 returns c =
     ap (as_node AMux)
-    (mux-made c.args.source.now.plan.now c.args.source.now.traffic.now c.args.number c.deref-2.result.now c.in_ok-lower.lower c.widest-width.result c.new.result
-    (c.deref-2.ensures.value ∙ c.in_ok-uppers.ensures) c.in_ok-lower.ensures
-    (c.widest-width.ensures
-    ∙ ap (λ (links : List ℕ). widest (map (λ link. (plan_link_at c.args.source.now.plan.now link).link) links)) (c.deref.ensures.value ∙ sym c.deref-2.ensures.value))
-    c.new.ensures)
+    (mux-made c.args.source.now.plan.now c.args.source.now.traffic.now c.args.number c.links_into-uppers.result.now c.link_out_of-lower.result c.widest-width.result c.new.result
+    c.links_into-uppers.ensures c.link_out_of-lower.ensures
+    c.widest-width.ensures c.new.ensures)

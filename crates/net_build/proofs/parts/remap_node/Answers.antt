@@ -19,8 +19,8 @@ pub returns : goal.returns
 returns c =
     ap (as_node ARemap)
     (c.in_ok-boxed.ensures
-    ∙ remap-made c.args.source.now.plan.now c.args.source.now.traffic.now c.args.number c.in_ok-upper.upper c.in_ok-lower.lower c.id_width-width.result c.new-node.result
-    c.in_ok-upper.ensures c.in_ok-lower.ensures
+    ∙ remap-made c.args.source.now.plan.now c.args.source.now.traffic.now c.args.number c.link_into-upper.result c.link_out_of-lower.result c.id_width-width.result c.new-node.result
+    c.link_into-upper.ensures c.link_out_of-lower.ensures
     (c.id_width-width.ensures ∙ ap (λ (nodes : List DocumentNode). (node_at nodes c.document-document.result).id_width) c.wiring.ensures
     ∙ ap (λ (document : ℕ). (node_at c.args.source.now.plan.now document).id_width) c.document-document.ensures.document)
     c.new-node.ensures)

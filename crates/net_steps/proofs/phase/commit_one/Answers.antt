@@ -12,10 +12,10 @@ move_on-requires c = record {
   ready = c.requires.ready.moves;
 }
 
-pub returns-then-acting-link : goal.returns-then-acting-link
-returns-then-acting-link c = c.move_on.ensures ∙ moved-is c.args.links.now (map node_view c.args.nodes.now) c.args.number c.args.queue.now
+pub returns-then-acting-link-clause-queue : goal.returns-then-acting-link-clause-queue
+returns-then-acting-link-clause-queue c = c.move_on.ensures ∙ moved-is c.args.links.now (map node_view c.args.nodes.now) c.args.number c.args.queue.now
 
-pub returns-else-acting-link-2 : goal.returns-else-acting-link-2
-returns-else-acting-link-2 c =
+pub returns-else-acting-link-2-clause-queue : goal.returns-else-acting-link-2-clause-queue
+returns-else-acting-link-2-clause-queue c =
     others-moved c.args.links.now c.args.nodes.now c.args.acting.now c.args.number c.args.queue.now _ _ c.requires.acting c.requires.ready.upper c.requires.ready.lower c.if-acting-link.false
     c.if-acting-link-2.false

@@ -5,7 +5,7 @@ use Rattle.net_build.proofs.AnswerLemmas.{lent-some}
 use Rattle.net_build.proofs.TellLemmas.{answer-is, answer-known, node-inside, note-inside, place-inside}
 use Rattle.net_build.proofs.net.Net.answer.Goals as goal
 use Rattle.net_build.specs.NetRun.{NetRun}
-use Rattle.net_build.specs.Noted.{IsAnswerTo, answer_noted}
+use Rattle.net_build.specs.Noted.{IsAnswerTo, answer_of_number}
 
 pub index-note-requires : goal.index-note-requires
 index-note-requires c =
@@ -28,7 +28,7 @@ returns-clause-answer c =
     let last = subst (λ (run : NetRun). c.args.number ≤ length run.items) (sym c.self.view_is) c.requires.last in
     c.answer_of.ensures
     ∙ answer-is c.self.inside c.self.invariant c.args.number c.requires.first last c.index-note.result.now c.index-note.ensures c.node.result.now c.node.ensures
-    ∙ ap (λ (run : NetRun). answer_noted run c.args.number) c.self.view_is
+    ∙ ap (λ (run : NetRun). answer_of_number run c.args.number) c.self.view_is
 
 pub returns-clause-known : goal.returns-clause-known
 returns-clause-known c =

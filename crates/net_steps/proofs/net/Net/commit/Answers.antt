@@ -11,5 +11,5 @@ returns-clause-network c =
     let many : length c.commit_each.new.queues ≡ c.self.inside.queues.len = omega arith in
     network-committed (network_of (net_view c.self.inside)) _
     (taken-back c.commit_each.new.queues c.self.inside.queues.items c.self.inside.queues.len many
-    ∙ committed-by _ _ _ _ _ _ _ c.commit_each.ensures c.deref.ensures.value c.deref-2.ensures.value c.deref_mut.ensures.value)
+    ∙ committed-by _ _ _ _ _ _ _ c.commit_each.ensures.queues c.deref.ensures.value c.deref-2.ensures.value c.deref_mut.ensures.value)
     ∙ ap (λ (v : NetView). after_commit (network_of v)) c.self.view_is

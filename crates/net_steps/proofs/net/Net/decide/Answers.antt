@@ -33,5 +33,5 @@ decide_each-self-inside-requires-clause-others c =
     let seen = c.see_each.new.seen in
     let long : length seen ≡ c.self.inside.seen.len = c.see_each.ensures.long ∙ c.deref_mut.ensures.len in
     others-by (net_view c.self.inside) (subst AreJoined (sym c.self.view_is) c.requires.joined) (c.self.inside.rounds + 1) c.deref-3.result.now seen c.deref.result.now
-    c.deref-2.result.now c.deref-4.result.now c.deref_mut-2.result.now c.deref.ensures.value c.deref-2.ensures.value c.deref-4.ensures.value c.deref_mut-2.ensures.value
+    c.deref-2.result.now c.deref-4.result.now c.deref_mut-2.result.now c.deref.ensures.value (c.deref-2.ensures.value ∙ c.self.invariant.offers) c.deref-4.ensures.value c.deref_mut-2.ensures.value
     (c.deref-3.ensures.value ∙ taken-back seen c.self.inside.seen.items c.self.inside.seen.len long) c.see_each.ensures.seen
