@@ -48,6 +48,7 @@ def main():
     scale, bottom = WIDTH / rounds, TOP + len(answers) * ROW_HEIGHT
     print(f'<svg xmlns="http://www.w3.org/2000/svg" width="{LEFT + WIDTH + 20}" height="{bottom + 8}" '
           'font-family="Helvetica, sans-serif" font-size="10">')
+    print('<rect width="100%" height="100%" fill="white"/>')
     for mark in range(0, rounds + 1, step_of(rounds)):
         x = LEFT + mark * scale
         print(f'<line x1="{x:.1f}" y1="{TOP - 6}" x2="{x:.1f}" y2="{bottom}" stroke="#ddd"/>')

@@ -59,9 +59,8 @@ def rank_line(nodes, part, rank):
 def link_lines(nodes, links):
     parts = {node["number"]: node["part"] for node in nodes}
     for link in links:
-        label = f'{link["number"]}: {link["kind"]}, {link["bus"]} bytes, depth {link["depth"]}'
-        if link["kind"] == "axi":
-            label += f', ID {link["id_width"]} bits'
+        ids = f', ID {link["id_width"]} bits' if link["kind"] == "axi" else ""
+        label = f'{link["number"]}: {link["kind"]}{ids}\\n{link["bus"]} bytes ({8 * link["bus"]} bits), depth {link["depth"]}'
         looks = ["style=dashed"] if link["kind"] == "lite" else []
         looks.append("color=gray" if parts[link["lower"]] == "error" else f'penwidth={0.5 + link["bus"] ** 0.5 / 2:.1f}')
         yield f'  n{link["upper"]} -> n{link["lower"]} [label="{label}" {" ".join(looks)}];'
@@ -72,7 +71,7 @@ def main():
     nodes, links, bound = texts.read_plan(sys.stdin)
     print("digraph axinet {")
     print('  node [fontname="Helvetica" fontsize=10 style=filled]; edge [fontname="Helvetica" fontsize=9];')
-    if bound is not None:
+    if bound:
         print(f'  label="finished within {bound} rounds";')
     for line in [*node_lines(nodes), *rank_line(nodes, "manager", "source"), *link_lines(nodes, links)]:
         print(line)
