@@ -4,7 +4,8 @@
     bench/measure.py [OTHER] [TRANSACTIONS]
 
 Counts the instructions (valgrind's callgrind) and takes the processor time of a start, of a run of mixed bursts,
-of the same run with its trace, and of the check of that trace; prints them with the ratios to OTHER's,
+of the same run with its trace, of the check of that trace, of inputs of 16 MiB that are refused as too much
+traffic or that are comments alone, and of 1,024 writes of 256 beats; prints them with the ratios to OTHER's,
 which is a program with the same words and texts. Then it tells what one more round costs in which all
 five channels move. The built program is measured as `./axinet` leaves it. Without valgrind nothing is measured.
 """
@@ -21,6 +22,9 @@ node = [
 ]
 %%
 """
+
+# The most bytes of an input.
+LIMIT = 1 << 24
 
 
 def burst(r):
@@ -66,6 +70,17 @@ def long_bursts(count):
     return NETWORK + ((write + '\nread m 1 0x1000 4 incr 256\n') * count).encode()
 
 
+def filled(line):
+    """As many of these lines as an input may have in all."""
+    return NETWORK + line * ((LIMIT - len(NETWORK)) // len(line))
+
+
+def long_writes(count):
+    """Writes of 256 beats each; 1,024 of them have as many beats as one input may have."""
+    return NETWORK + b'write m 0 0x0 4 incr' + ((' 0123abcd' * 256 + '\nwrite m 0 0x0 4 incr') * (count - 1)
+                                                + ' 0123abcd' * 256 + '\n').encode()
+
+
 def busy_round(program):
     """The instructions of one more busy round."""
     few, many = (instructions(program, ['run'], long_bursts(count)) for count in (4, 12))
@@ -97,6 +112,9 @@ def main():
     measure('run', ['run'], document, other)
     measure('run --trace=all', ['run', '--trace=all'], document, other)
     measure('check', ['check'], traced, other)
+    measure('16 MiB refused', ['run'], filled(b'read m 1 0x40 4 incr 2\n'), other)
+    measure('16 MiB comments', ['run'], filled(b'# a line that says nothing\n'), other)
+    measure('256 beats', ['run'], long_writes(1024), other)
     own = busy_round(PROGRAM)
     line = '%-16s %14d' % ('a busy round', own)
     if other is not None:

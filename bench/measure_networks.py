@@ -130,11 +130,16 @@ def kilobytes(program, data):
     return most
 
 
+def ratio(mine, theirs):
+    """One number by the other, or a dash where a run was too short for its memory to be seen."""
+    return '%.2f' % (mine / theirs) if mine and theirs else '-'
+
+
 def line(name, nodes, own, other):
     """A row: its numbers, and their ratios to the other program's."""
     text = '%-28s %5d nodes  %12.1f instructions  %8d kB' % (name, nodes, *own)
     if other is not None:
-        text += '  ratios %.2f %.2f' % tuple(mine / theirs for mine, theirs in zip(own, other))
+        text += '  ratios %s %s' % tuple(ratio(mine, theirs) for mine, theirs in zip(own, other))
     print(text, flush=True)
 
 
