@@ -1,4 +1,4 @@
--- That the run of every plain document that is accepted is right.
+-- That the run of every document that is accepted is right.
 use Rattle.std.specs.Prelude.{◌≡◌, ◌<◌, ◌^◌, ℕ, List, None, Ok, length}
 use Rattle.document.specs.Document.{Asked, document_of}
 use Rattle.lite_rules.specs.PortFaults.{history_fault}
@@ -26,7 +26,6 @@ pub record RunIsRight (asked : Asked) : Type 0 where
   -- What each port shows is within the ranges of a trace line, so that its line is one, in as many rounds as have numbers.
   pub traced : (rounds : ℕ) → rounds < 2 ^ 63 → ShowsTraceLines (opened_network asked) rounds
 
--- So is the run of every plain document that is accepted: one with nodes of kinds that cut bursts or speak AXI4-Lite, `down`,
--- `lite` and `lite_memory`, isn't accepted yet.
-abbrev pub PlainDocumentsRunRight : Type 0
-PlainDocumentsRunRight = (input : List ℕ) (asked : Asked) → document_of input ≡ Ok asked → RunIsRight asked
+-- So is the run of every document that is accepted. One with a node of the kind `down` isn't accepted yet.
+abbrev pub DocumentsRunRight : Type 0
+DocumentsRunRight = (input : List ℕ) (asked : Asked) → document_of input ≡ Ok asked → RunIsRight asked

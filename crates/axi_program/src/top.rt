@@ -4,7 +4,7 @@ ghost use Rattle.std.specs.Prelude.{◌≤◌, map, string_bytes};
 ghost use Rattle.axi_program.specs.Call.{IsComplete, ReadsWhole, Tells};
 ghost use Rattle.axi_program.specs.Faults.{Rose};
 ghost use Rattle.axi_program.specs.Planning.{PlansTellBounds};
-ghost use Rattle.axi_program.specs.Right.{PlainDocumentsRunRight};
+ghost use Rattle.axi_program.specs.Right.{DocumentsRunRight};
 
 use crate::outside::gate::Gate;
 use crate::outside::sink::Sink;
@@ -38,16 +38,16 @@ pub fn axinet<S: Source, K: Sink, G: Gate>(
         source.old source.new sink.old sink.new result }
     ensures reads_whole { ReadsWhole S.left source.old source.new result }
 
-    // The run of every plain document that isn't refused, one in which no node cuts bursts or speaks
-    // AXI4-Lite, is right, after any number of rounds: of each transaction the bytes that may be accessed are
-    // accessed at the subordinate that its address names, from the first on, each once, in burst order, and
-    // all of them where it is answered; it is issued at most once and answered at most once, with the bytes
-    // that were read and the defined responses, in order, and in the round that is told; all transactions are
-    // answered once the network is finished; and every port keeps the rules of its kind, AXI4 or AXI4-Lite.
+    // The run of every document that isn't refused is right, after any number of rounds: of each transaction
+    // the bytes that may be accessed are accessed at the subordinate that its address names, from the first
+    // on, each once, in burst order, and all of them where it is answered; it is issued at most once and
+    // answered at most once, with the bytes that were read and the defined responses, in order, and in the
+    // round that is told; all transactions are answered once the network is finished; and every port keeps
+    // the rules of its kind, AXI4 or AXI4-Lite.
     // The run ends after the least number of rounds after which all is answered, which is within its bound,
     // and what a port shows in a round of it is within the ranges of a trace line. `tells` says that what is
     // written is the text of that run.
-    ensures right { PlainDocumentsRunRight }
+    ensures right { DocumentsRunRight }
 
     // The bound that `plan` writes of a document that isn't refused is the one that its run keeps.
     ensures planned { PlansTellBounds }

@@ -49,7 +49,7 @@ fn no_topology() -> Row {
 // A node that is refused goes before one that isn't built yet and before the traffic.
 fn a_loose_node() -> Row {
     Row {
-        text: "version = 1\nnode = [\n {name=\"m\", kind=\"manager\", bus=4, id_width=4, to=\"l\"},\n {name=\"l\", kind=\"lite\", to=\"ram\"},\n {name=\"ram\", kind=\"lite_memory\", base=0, size=4096},\n {name=\"rom\", kind=\"memory\", bus=4, base=0, size=4096},\n]\n%%\nread\n",
+        text: "version = 1\nnode = [\n {name=\"m\", kind=\"manager\", bus=8, id_width=4, to=\"d\"},\n {name=\"d\", kind=\"down\", bus=4, to=\"ram\"},\n {name=\"ram\", kind=\"memory\", bus=4, base=0, size=4096},\n {name=\"rom\", kind=\"memory\", bus=4, base=0, size=4096},\n]\n%%\nread\n",
         refusal: Refusal::at(Cause::Loose, 4),
     }
 }
@@ -57,7 +57,7 @@ fn a_loose_node() -> Row {
 // The first node of a kind that isn't built yet goes before the traffic.
 fn an_unbuilt_node() -> Row {
     Row {
-        text: "version = 1\nnode = [\n {name=\"m\", kind=\"manager\", bus=4, id_width=4, to=\"l\"},\n {name=\"l\", kind=\"lite\", to=\"ram\"},\n {name=\"ram\", kind=\"lite_memory\", base=0, size=4096},\n]\n%%\nread\n",
+        text: "version = 1\nnode = [\n {name=\"m\", kind=\"manager\", bus=8, id_width=4, to=\"d\"},\n {name=\"d\", kind=\"down\", bus=4, to=\"ram\"},\n {name=\"ram\", kind=\"memory\", bus=4, base=0, size=4096},\n]\n%%\nread\n",
         refusal: Refusal::at(Cause::NotBuilt, 2),
     }
 }

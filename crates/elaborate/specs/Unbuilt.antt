@@ -2,13 +2,11 @@
 use Rattle.std.specs.Prelude.{ℕ, List, Bool, true, false, Option, position}
 use Rattle.topology.specs.Document.{DocumentNode}
 use Rattle.topology_text.specs.declared.kind.Kind.{Kind}
-use Rattle.topology_text.specs.declared.kind.Kind.TheVariants.{LiteMemory, Down, Lite}
+use Rattle.topology_text.specs.declared.kind.Kind.TheVariants.{Down}
 
 -- the kinds that don't run yet
 abbrev pub is_unbuilt : Kind → Bool
-is_unbuilt LiteMemory = true
 is_unbuilt Down = true
-is_unbuilt Lite = true
 is_unbuilt other = false
 
 -- the first node of such a kind, by its number from 0

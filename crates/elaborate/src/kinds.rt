@@ -22,7 +22,7 @@ fn is_unbuilt(kind: Kind) -> bool
     ensures { result ≡ is_unbuilt kind }
 {
     match kind {
-        Kind::LiteMemory | Kind::Down | Kind::Lite => true,
+        Kind::Down => true,
         _ => false,
     }
 }

@@ -1,17 +1,13 @@
 //! `LiteMemoryNode`, seen in clauses as its state and its takes and puts of the round.
 
-ghost use Rattle.std.specs.Prelude.{◌≡◌, ◌<◌, ◌≤◌, All, AllPairs, IfOk, IsTrue, length};
+ghost use Rattle.std.specs.Prelude.{◌≡◌, IsTrue};
 ghost use Rattle.lite_memory_node.specs.LiteMemoryTable.{lite_memory_table};
-ghost use Rattle.memory_node.specs.MemoryArea.{IsMemoryArea, area_of};
-ghost use Rattle.memory_node.specs.MemoryState.{IsMemory, memory_byte, new_memory};
+ghost use Rattle.memory_node.specs.MemoryState.{IsMemory, memory_byte};
 ghost use Rattle.memory_node.specs.MemoryTable.{CanMemory};
-ghost use Rattle.node_core.specs.Acted.{opened};
 
-use axi_beats::NoMemory;
 use axi_link::{Link, Out};
-use memory_node::{MemoryConfig, MemoryNode, Range};
+use memory_node::MemoryNode;
 use node_core::Step;
-use std::alloc::Global;
 use std::marker::{Model, Send, Sync};
 
 /// A memory at the lower end of an AXI4-Lite link.
@@ -32,34 +28,11 @@ impl Model for LiteMemoryNode {
 }
 
 impl LiteMemoryNode {
-    /// A Lite memory below link `upper` that nothing has asked yet, of the same parts as a memory
-    /// ([`MemoryNode::new`]). All memory is taken here.
-    ///
-    /// # Errors
-    ///
-    /// `NoMemory` where there isn't enough.
-    pub fn new(
-        alloc: Global,
-        config: MemoryConfig,
-        read_only: &[Range],
-        hole: &[Range],
-        accept: &[u8],
-        give: &[u8],
-        upper: u32,
-        touched: &[u64],
-    ) -> Result<LiteMemoryNode, NoMemory>
-        requires area { IsMemoryArea (area_of config read_only.now hole.now) }
-        requires some_accept { 0 < length accept.now }
-        requires most_accept { length accept.now ≤ 64 }
-        requires short_accept { All (λ delay. delay < 64) accept.now }
-        requires some_give { 0 < length give.now }
-        requires most_give { length give.now ≤ 64 }
-        requires short_give { All (λ delay. delay < 64) give.now }
-        requires touched { AllPairs (λ a b. a < b) touched.now }
-        ensures { IfOk result (λ memory. memory ≡ opened (new_memory (area_of config read_only.now hole.now) accept.now give.now upper touched.now)) }
+    /// A Lite memory that is this memory, below an AXI4-Lite link.
+    pub fn new(memory: MemoryNode) -> LiteMemoryNode
+        ensures { result ≡ memory }
     {
-        let memory = MemoryNode::new(alloc, config, read_only, hole, accept, give, upper, touched)?;
-        Ok(LiteMemoryNode { memory })
+        LiteMemoryNode { memory }
     }
 
     /// The byte at an address; None exactly outside the memory.

@@ -90,7 +90,7 @@ module _ (area : MemoryArea) (refused : List Range) (is : IsMemoryArea area) (ra
         ap status_at sum ∙ status-lane word (beat_at request beat % area.bus) (omega (arith, fits))
 
     -- and so have all bytes of its word
-    one-status : (lane : ℕ) → lane < area.bus → status_at (lane_address request beat area.bus lane) ≡ status_at (beat_at request beat)
+    pub one-status : (lane : ℕ) → lane < area.bus → status_at (lane_address request beat area.bus lane) ≡ status_at (beat_at request beat)
     one-status lane lt = status-lane word lane (omega (arith, fits)) ∙ sym status-beat
 
 module _ (area : MemoryArea) (request : Addr) (beat : ℕ) (is : IsMemoryArea area) where

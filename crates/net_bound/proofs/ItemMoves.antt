@@ -3,6 +3,7 @@ use Rattle.std.proofs.Common.{◌≡◌, ◌<◌, ◌≤◌, ◌-◌, ◌*◌, �
 use Rattle.std.proofs.Math.Nat.{mul-le-mul, mul-le-mul_left}
 use Rattle.std.proofs.lemmas.Bool.{eqb-true, false≢true}
 use Rattle.std.proofs.lemmas.List.{length-append}
+use Rattle.std.proofs.lemmas.Option.{slice_get_within}
 use Rattle.std.proofs.lemmas.List.FromFn.{length-map-range_with_len}
 use Rattle.std.specs.List.{range_with_len}
 use Rattle.std.specs.Prelude.{Contains, slice_get, sum_by, if◌then◌else◌}
@@ -26,6 +27,8 @@ use Rattle.net_model.specs.Network.{Network}
 use Rattle.net_opening.specs.Opening.{opening, state_at, state_by_part}
 use Rattle.net_opening.specs.PlanLinks.{form_of_link, link_out_of}
 use Rattle.net_opening.specs.States.{manager_at}
+use Rattle.net_plan.proofs.BurstParts.{of-itself}
+use Rattle.net_plan.proofs.LinkLists.{at-some}
 use Rattle.net_plan.proofs.OnceLemmas.{manager-first}
 use Rattle.net_plan.proofs.OpeningSound.{openings-are_sound}
 use Rattle.net_plan.proofs.OpeningWired.{node-is}
@@ -40,7 +43,7 @@ use Rattle.node_graph.specs.Graph.{numbers}
 use Rattle.node_shape.specs.LinkForm.{LinkForm}
 use Rattle.node_shape.specs.Way.{Origin}
 use Rattle.plain_lists.proofs.CutLemmas.{contains-map}
-use Rattle.plan_traffic.specs.Accepted.{IsTraffic, items_of_manager}
+use Rattle.plan_traffic.specs.Accepted.{IsTraffic, Suits, items_of_manager}
 use Rattle.plan_traffic.specs.Bound.{most_moves, pieces_of, words_of_beat}
 use Rattle.plan_traffic.specs.Scripts.{script_item, script_of}
 use Rattle.plan_traffic.specs.Traffic.{TrafficItem}
@@ -93,6 +96,9 @@ module _ (nodes : List DocumentNode) (items : List TrafficItem) (run : CanRun no
         (contains-map script_item (items_of_manager (plan_node_at nodes number).document items) item
         (among-passing (λ (i : TrafficItem). i.manager == (plan_node_at nodes number).document) items place item at its_own))))
 
+    suits : Suits nodes item
+    suits = subst (Suits nodes) (at-some items place item item at) (traffic.suit place item (slice_get_within items place item at))
+
     first : first_part nodes item.manager ≡ number
     first =
         ap (first_part nodes) (eqb-true item.manager (plan_node_at nodes number).document its_own) ∙ sym (manager-first nodes items run number less (ap is_first manager))
@@ -106,7 +112,7 @@ module _ (nodes : List DocumentNode) (items : List TrafficItem) (run : CanRun no
     hops-few : sum_by hop_beats (way_of node_kind net origin) ≤ link_most * length rest
     hops-few =
         let few = few-from nodes items run origin.write request origin.share.write_data (suc (length net.nodes)) (link_out_of nodes number) (length (plan_nodes nodes) - 1) origin.share
-        (start-known nodes items run number less manager) refl (omega arith) (start-deep nodes items run number less manager) in
+        (start-known nodes items run number less manager) (of-itself request suits.legal_on_widest) (omega arith) (omega arith) (start-deep nodes items run number less manager) in
         omega (arith, few.0, sum-each link_most rest)
 
     rest-long : length rest ≤ length (path_of nodes item.manager item.txn.request.addr)

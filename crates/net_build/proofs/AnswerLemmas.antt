@@ -1,5 +1,5 @@
 -- What a network has noted of a transaction is what its manager has.
-use Rattle.std.proofs.Common.{◌≡◌, ◌<◌, ◌≤◌, ◌+◌, ◌-◌, ◌++◌, ◌==◌, ℕ, zero, suc, List, [], ◌∷◌, Bool, Option, None, Some, IfSome, ap, arith, cond, drop, false, get_or, length, map, refl, subst, sym, take, true, ◌∙◌}
+use Rattle.std.proofs.Common.{◌≡◌, ◌<◌, ◌+◌, ◌-◌, ◌++◌, ◌==◌, ℕ, zero, suc, List, [], ◌∷◌, Bool, Option, None, Some, IfSome, ap, arith, cond, drop, false, get_or, length, map, refl, subst, sym, take, true, ◌∙◌}
 use Rattle.std.specs.Borrow.{Bor}
 use Rattle.std.specs.Prelude.{slice_get}
 use Rattle.std.specs.Option.{option_and_then, option_copied, option_map}

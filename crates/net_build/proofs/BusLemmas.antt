@@ -1,11 +1,11 @@
 -- No link of a plan has a bus of more than 128 bytes.
-use Rattle.std.proofs.Common.{◌≡◌, ◌<◌, ◌≤◌, ℕ, zero, suc, true, List, [], ◌∷◌, length, map, ap, arith, refl, subst, sym}
+use Rattle.std.proofs.Common.{◌≡◌, ◌<◌, ◌≤◌, ℕ, zero, suc, true, List, [], ◌∷◌, length, map, arith, refl, subst, sym}
 use Rattle.std.specs.Prelude.{slice_index_or}
 use Rattle.std.proofs.lemmas.List.Elements.{All-get_or}
 use Rattle.elaborate.proofs.Forms.{Form, Part_at, part-at}
 use Rattle.elaborate.proofs.Forms.Form.{Behind, Demux, DemuxError, Input, InputError, Own, Split, Target}
 use Rattle.elaborate.specs.declared.link.PlanLink.{PlanLink}
-use Rattle.elaborate.specs.Plan.{PlanNode, plan_link_at, plan_links, plan_nodes}
+use Rattle.elaborate.specs.Plan.{PlanNode, plan_link_at, plan_links}
 use Rattle.net_plan.proofs.LinkPlaces.{LinkFacts, link-facts}
 use Rattle.node_graph.proofs.Members.{in-first, in-rest}
 use Rattle.node_graph.proofs.Ways.{above-below, handed-local, links-lead_deeper, upper-known}

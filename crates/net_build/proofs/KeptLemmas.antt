@@ -1,6 +1,5 @@
 -- The nodes of a network over its rounds, and the managers of its document among them.
-use Rattle.std.proofs.Common.{◌≡◌, ◌<◌, ◌+◌, ℕ, suc, Bool, List, Option, Some, ap, arith, cond, false, length, refl, sym, true, ◌∙◌}
-use Rattle.std.specs.Prelude.{slice_get}
+use Rattle.std.proofs.Common.{◌≡◌, ◌<◌, ◌+◌, ℕ, suc, Bool, List, Some, ap, arith, cond, false, length, refl, true, ◌∙◌}
 use Rattle.std.proofs.lemmas.Bool.{false≢true}
 use Rattle.std.proofs.lemmas.Option.{get_or_from_slice_get}
 use Rattle.elaborate.proofs.Forms.{at-part, get-own, own_part}
@@ -12,8 +11,8 @@ use Rattle.elaborate.specs.declared.part.Part.TheVariants as part
 use Rattle.manager_node.specs.ManagerState.{ManagerState}
 use Rattle.net_build.specs.NetRun.{NetRun, network_of_run}
 use Rattle.net_history.proofs.ManagerRuns.{IsManagerAt}
-use Rattle.net_kinds.specs.NodeKind.{NodeState, node_kind}
-use Rattle.net_model.specs.Network.{Network, after_commit, after_decide, after_rounds}
+use Rattle.net_kinds.specs.NodeKind.{node_kind}
+use Rattle.net_model.specs.Network.{after_commit, after_decide, after_rounds}
 use Rattle.net_opening.specs.Opening.{opening, state_at, state_by_part}
 use Rattle.net_opening.specs.States.{manager_at as manager_state}
 use Rattle.net_runs.specs.Run.{nodes_after}

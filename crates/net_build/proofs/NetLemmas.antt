@@ -1,17 +1,17 @@
 -- A network stands where the rounds of its run lead.
-use Rattle.std.proofs.Common.{◌≡◌, ◌<◌, ◌+◌, ◌-◌, ◌^◌, ℕ, suc, Bool, List, [], false, true, ap, ap₂, arith, map, refl, subst, sym, ◌∙◌}
+use Rattle.std.proofs.Common.{◌≡◌, ◌<◌, ◌+◌, ◌-◌, ◌^◌, ℕ, suc, Bool, List, false, true, ap, ap₂, arith, map, subst, sym, ◌∙◌}
 use Rattle.std.proofs.lemmas.Bool.{false≢true}
 use Rattle.std.proofs.lemmas.Simd.{map-map}
 use Rattle.axi_link.specs.LinkView.{LinkView, empty_link}
 use Rattle.elaborate.specs.Plan.{plan_links}
-use Rattle.net_build.specs.Stands.{IsOpened, StandsAt}
+use Rattle.net_build.specs.Stands.{StandsAt}
 use Rattle.net_build.specs.NetRun.{network_of_run}
 use Rattle.net_kinds.specs.NodeKind.{NodeState, node_kind, node_view}
 use Rattle.net_kinds.specs.declared.node.Node.{Node}
 use Rattle.net_model.specs.Network.{Network, after_commit, after_decide, after_rounds}
 use Rattle.net_model.specs.declared.net_link.NetLink.{NetLink}
 use Rattle.net_opening.specs.Opening.{opening}
-use Rattle.net_opening.specs.PlanLinks.{form_of_link, net_link_of, queue_of}
+use Rattle.net_opening.specs.PlanLinks.{form_of_link, net_link_of}
 use Rattle.net_steps.proofs.RunLemmas.{sound-nets_commit, sound-nets_decide}
 use Rattle.net_steps.specs.NetView.{CanCommit, CanDecide, NetView, decided_in, network_of, opened_net}
 use Rattle.net_ways.specs.Sound.{IsSound}

@@ -1,6 +1,6 @@
 -- Where the answers to transactions are noted.
-use Rattle.std.proofs.Common.{◌≡◌, ◌≢◌, ◌<◌, ◌≤◌, ◌+◌, ◌++◌, ◌==◌, ℕ, List, [], ◌∷◌, false, true, ap, ap₂, arith, drop, get_or, length, map, refl, set, sym, take, ◌∙◌, inl, inr}
-use Rattle.std.specs.Prelude.{filter, replicate, slice_get}
+use Rattle.std.proofs.Common.{◌≡◌, ◌≢◌, ◌<◌, ◌≤◌, ◌+◌, ◌++◌, ◌==◌, ℕ, List, [], ◌∷◌, ap, ap₂, arith, drop, get_or, length, map, refl, set, sym, take, ◌∙◌, inl, inr}
+use Rattle.std.specs.Prelude.{replicate}
 use Rattle.std.specs.List.{range_with_len}
 use Rattle.std.specs.Option.{option_map_or}
 use Rattle.std.proofs.lemmas.Bool.{cases_Bool, eq-eqb, eqb-true, false≢true, ne_eqb}

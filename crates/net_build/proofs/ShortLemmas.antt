@@ -1,6 +1,6 @@
 -- No more comes for a transaction than a response for each beat of its burst and the burst's bytes.
-use Rattle.std.proofs.Common.{◌≡◌, ◌≤◌, ◌<◌, ◌+◌, ◌-◌, ◌++◌, ℕ, zero, suc, Bool, true, false, cond, List, [], ◌∷◌, Option, Some, length, ap, arith, refl, subst, sym, ◌∙◌, length-append, length-take}
-use Rattle.std.specs.Prelude.{All, drop, slice_get}
+use Rattle.std.proofs.Common.{◌≡◌, ◌≤◌, ◌+◌, ◌-◌, ◌++◌, ℕ, Bool, true, false, cond, List, [], ◌∷◌, Some, length, ap, arith, subst, sym, ◌∙◌, length-append, length-take}
+use Rattle.std.specs.Prelude.{drop, slice_get}
 use Rattle.std.proofs.lemmas.Option.{same_Some}
 use Rattle.axi_beats.specs.Bus.{IsBusWidth}
 use Rattle.axi_beats.specs.declared.beat.RBeat.{RBeat}
@@ -12,7 +12,7 @@ use Rattle.burst_address.specs.Legal.{IsLegal}
 use Rattle.manager_node.proofs.BurstLemmas.{beat-within, lane-count, lane-order}
 use Rattle.manager_node.proofs.IssueLemmas.{new-note}
 use Rattle.manager_node.proofs.NoteLemmas.{Change, Issued, Kept, Read, Wrote, b-taken, change-of, r-taken, taken-waits}
-use Rattle.manager_node.specs.Answer.{AnswerView, answered_in, awaited_of, unanswered}
+use Rattle.manager_node.specs.Answer.{AnswerView, answered_in}
 use Rattle.manager_node.specs.Beats.{bytes_on_valid_lanes}
 use Rattle.manager_node.specs.ManagerOrder.{note_at}
 use Rattle.manager_node.specs.ManagerState.{IsDue, IsManager, ManagerState, new_manager}

@@ -12,14 +12,15 @@ use Rattle.elaborate.proofs.Lists.{None-Some, Some-same, get-mapped}
 use Rattle.elaborate.specs.Plan.{PlanNode, plan_node_at, plan_nodes}
 use Rattle.elaborate.specs.declared.part.Part.{Part}
 use Rattle.elaborate.specs.declared.part.Part.TheVariants as part
+use Rattle.lite_node.specs.LiteState.{IsNewLite}
 use Rattle.manager_node.specs.ManagerTrail.{IsNewManager}
 use Rattle.memory_node.specs.MemoryState.{MemoryState}
 use Rattle.memory_node.specs.MemoryTrail.{BeginsMemory}
 use Rattle.mux_node.specs.MuxState.{IsNewMux}
-use Rattle.net_build.specs.Source.{IsSource}
+use Rattle.net_build.specs.Source.{IsSource, memory_on}
 use Rattle.net_kinds.specs.NodeKind.{NodeState, node_kind}
 use Rattle.net_opening.specs.Opening.{state_at, state_by_part}
-use Rattle.net_opening.specs.States.{demux_at, document_node_of, manager_at, memory_at, mux_at, remap_at, up_at}
+use Rattle.net_opening.specs.States.{demux_at, document_node_of, lite_at, lite_memory_at, manager_at, memory_at, mux_at, remap_at, up_at}
 use Rattle.net_opening.specs.Touched.{lines_touched}
 use Rattle.node_core.specs.Acted.{Acted, opened}
 use Rattle.node_graph.specs.Graph.{numbers}
@@ -54,12 +55,13 @@ begins-by nodes items targets number p source less same =
 abbrev pub own_kind : Part → Option Kind
 own_kind part.Manager = Some kind.Manager
 own_kind part.Memory = Some kind.Memory
+own_kind part.LiteMemory = Some kind.LiteMemory
 own_kind other = None
 
 own-kind : (k : Kind) (p : Part) (wanted : Kind) → own_part k ≡ Some p → own_kind p ≡ Some wanted → k ≡ wanted
 own-kind kind.Manager p wanted own e = Some-same kind.Manager wanted (subst (λ (q : Part). own_kind q ≡ Some wanted) (sym (Some-same part.Manager p own)) e)
 own-kind kind.Memory p wanted own e = Some-same kind.Memory wanted (subst (λ (q : Part). own_kind q ≡ Some wanted) (sym (Some-same part.Memory p own)) e)
-own-kind kind.LiteMemory p wanted own e = absurd (None-Some wanted (subst (λ (q : Part). own_kind q ≡ Some wanted) (sym (Some-same part.LiteMemory p own)) e))
+own-kind kind.LiteMemory p wanted own e = Some-same kind.LiteMemory wanted (subst (λ (q : Part). own_kind q ≡ Some wanted) (sym (Some-same part.LiteMemory p own)) e)
 own-kind kind.Slice p wanted own e = absurd (None-Some wanted (subst (λ (q : Part). own_kind q ≡ Some wanted) (sym (Some-same part.Slice p own)) e))
 own-kind kind.Mux p wanted own e = absurd (None-Some wanted (subst (λ (q : Part). own_kind q ≡ Some wanted) (sym (Some-same part.Mux p own)) e))
 own-kind kind.Remap p wanted own e = absurd (None-Some wanted (subst (λ (q : Part). own_kind q ≡ Some wanted) (sym (Some-same part.Remap p own)) e))
@@ -113,14 +115,14 @@ are-short delays are = record { some = omega (arith, are.some); most = are.few; 
 
 -- a manager or a memory has lists of delays
 pub record HasDelays (node : DocumentNode) : Type 0 where
-  pub accept : AreShort node.accept
-  pub give : AreShort node.give
+  pub accept : AreDelays node.accept
+  pub give : AreDelays node.give
 
 delays-by : (node : DocumentNode) (k : Kind) → (AreDelaysAt (table_form k).accept node.accept → AreDelays node.accept) → (AreDelaysAt (table_form k).give node.give → AreDelays node.give) →
     IsFormed node → node.kind ≡ k → HasDelays node
 delays-by node k accept give formed same = record {
-  accept = are-short node.accept (accept (subst (λ (k : Kind). AreDelaysAt (table_form k).accept node.accept) same formed.accept));
-  give = are-short node.give (give (subst (λ (k : Kind). AreDelaysAt (table_form k).give node.give) same formed.give));
+  accept = accept (subst (λ (k : Kind). AreDelaysAt (table_form k).accept node.accept) same formed.accept);
+  give = give (subst (λ (k : Kind). AreDelaysAt (table_form k).give node.give) same formed.give);
 }
 
 pub manager-delays : (node : DocumentNode) → IsFormed node → node.kind ≡ kind.Manager → HasDelays node
@@ -130,6 +132,10 @@ manager-delays node formed same = delays-by node kind.Manager (λ are. are) (λ 
 pub memory-delays : (node : DocumentNode) → IsFormed node → node.kind ≡ kind.Memory → HasDelays node
 unfolding table_form
 memory-delays node formed same = delays-by node kind.Memory (λ are. are) (λ are. are) formed same
+
+pub lite_memory-delays : (node : DocumentNode) → IsFormed node → node.kind ≡ kind.LiteMemory → HasDelays node
+unfolding table_form
+lite_memory-delays node formed same = delays-by node kind.LiteMemory (λ are. are) (λ are. are) formed same
 
 pub formed-at : (nodes : List DocumentNode) (document : ℕ) → All IsFormed nodes → document < length nodes → IsFormed (node_at nodes document)
 formed-at nodes document formed less = All-get_or IsFormed nodes document _ less formed
@@ -146,6 +152,9 @@ module _ {nodes : List DocumentNode} {items : List TrafficItem} {targets : List 
   pub up-begins : (plan_node_at nodes number).part ≡ part.Up → IsNewUp (up_at nodes number)
   up-begins same = begins-by nodes items targets number part.Up source less same
 
+  pub lite-begins : (plan_node_at nodes number).part ≡ part.Lite → IsNewLite (lite_at nodes number)
+  lite-begins same = begins-by nodes items targets number part.Lite source less same
+
   pub demux-begins : (plan_node_at nodes number).part ≡ part.Demux → IsNewDemux (demux_at nodes number)
   demux-begins same = begins-by nodes items targets number part.Demux source less same
 
@@ -155,10 +164,8 @@ module _ {nodes : List DocumentNode} {items : List TrafficItem} {targets : List 
   pub memory-begins : (plan_node_at nodes number).part ≡ part.Memory → BeginsMemory (memory_at nodes number items)
   memory-begins same = begins-by nodes items targets number part.Memory source less same
 
-  pub lines-rise : (plan_node_at nodes number).part ≡ part.Memory → AllPairs (λ a b. a < b) (lines_touched nodes items number)
-  lines-rise same =
-      let begins : BeginsMemory (memory_at nodes number items) = memory-begins same in
-      subst (λ (lines : List ℕ). AllPairs (λ a b. a < b) lines) (sym (ap (λ (s : MemoryState). s.inner.kept.lines) begins.is_new)) begins.ascending
+  pub lite_memory-begins : (plan_node_at nodes number).part ≡ part.LiteMemory → BeginsMemory (lite_memory_at nodes number items)
+  lite_memory-begins same = begins-by nodes items targets number part.LiteMemory source less same
 
   document-less : (plan_node_at nodes number).document < length nodes
   document-less = document-known nodes number less
@@ -173,6 +180,17 @@ module _ {nodes : List DocumentNode} {items : List TrafficItem} {targets : List 
       memory-delays (document_node_of nodes number) (formed-at nodes (plan_node_at nodes number).document source.formed document-less)
       (kind-at nodes number part.Memory kind.Memory less same refl)
 
+  pub lite_memory-has_delays : (plan_node_at nodes number).part ≡ part.LiteMemory → HasDelays (document_node_of nodes number)
+  lite_memory-has_delays same =
+      lite_memory-delays (document_node_of nodes number) (formed-at nodes (plan_node_at nodes number).document source.formed document-less)
+      (kind-at nodes number part.LiteMemory kind.LiteMemory less same refl)
+
+-- the lines that a memory keeps rise
+pub lines-rise : (nodes : List DocumentNode) (items : List TrafficItem) (number bus : ℕ) → BeginsMemory (memory_on nodes items number bus) →
+    AllPairs (λ a b. a < b) (lines_touched nodes items number)
+lines-rise nodes items number bus begins =
+    subst (λ (lines : List ℕ). AllPairs (λ a b. a < b) lines) (sym (ap (λ (s : MemoryState). s.inner.kept.lines) begins.is_new)) begins.ascending
+
 -- ---- the document node of a plan node, as it was looked up
 
 module _ {nodes wiring : List DocumentNode} {document : ℕ} (number : ℕ) (same : wiring ≡ nodes) (is : document ≡ (plan_node_at nodes number).document) where
@@ -180,10 +198,10 @@ module _ {nodes wiring : List DocumentNode} {document : ℕ} (number : ℕ) (sam
   own-node = ap (λ (all : List DocumentNode). node_at all document) same ∙ ap (node_at nodes) is
 
   pub accepts : (delays : List ℕ) → delays ≡ (node_at wiring document).accept → HasDelays (document_node_of nodes number) → AreShort delays
-  accepts delays are has = subst AreShort (sym (are ∙ ap (λ (node : DocumentNode). node.accept) own-node)) has.accept
+  accepts delays are has = subst AreShort (sym (are ∙ ap (λ (node : DocumentNode). node.accept) own-node)) (are-short (document_node_of nodes number).accept has.accept)
 
   pub gives : (delays : List ℕ) → delays ≡ (node_at wiring document).give → HasDelays (document_node_of nodes number) → AreShort delays
-  gives delays are has = subst AreShort (sym (are ∙ ap (λ (node : DocumentNode). node.give) own-node)) has.give
+  gives delays are has = subst AreShort (sym (are ∙ ap (λ (node : DocumentNode). node.give) own-node)) (are-short (document_node_of nodes number).give has.give)
 
 -- ---- the regions of a document node are few
 

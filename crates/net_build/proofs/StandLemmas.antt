@@ -1,10 +1,9 @@
 -- What is known of a network that stands where the rounds of its run lead.
-use Rattle.std.proofs.Common.{◌≡◌, ◌<◌, ◌≤◌, ◌+◌, ◌||◌, ℕ, zero, suc, Bool, List, [], ◌∷◌, Option, None, Some, ap, ap₂, arith, false, is_some, length, map, refl, subst, sym, true, ◌∙◌}
-use Rattle.std.specs.Prelude.{slice_get, slice_index_or}
+use Rattle.std.proofs.Common.{◌≡◌, ◌<◌, ◌≤◌, ℕ, zero, suc, Bool, List, [], ◌∷◌, Some, ap, false, is_some, length, map, refl, subst, sym, true, ◌∙◌}
+use Rattle.std.specs.Prelude.{slice_get}
 use Rattle.std.specs.Option.{option_and_then}
 use Rattle.std.proofs.lemmas.List.{length-map}
 use Rattle.std.proofs.lemmas.List.FromFn.{length-map-range_with_len}
-use Rattle.axi_history.specs.declared.port.PortRound.{PortRound}
 use Rattle.axi_link.specs.LinkView.{LinkView}
 use Rattle.axi_link.specs.LinkWords.{head_of, link_of}
 use Rattle.axi_link.specs.Moves.{takes_from}
@@ -28,7 +27,7 @@ use Rattle.net_plan.proofs.LinkLists.{at-some, made-into, some-at}
 use Rattle.net_runs.proofs.RoundLemmas.{links-stay, nodes-after, queues-long}
 use Rattle.net_runs.specs.Ports.{port_at, port_kind}
 use Rattle.net_runs.specs.Run.{nodes_after, queues_after}
-use Rattle.net_steps.specs.NetView.{NetView, network_of}
+use Rattle.net_steps.specs.NetView.{NetView}
 use Rattle.net_steps.specs.Offers.{offers_beat}
 use Rattle.node_core.specs.Acted.{Acted, opened}
 use Rattle.node_graph.specs.Graph.{numbers}

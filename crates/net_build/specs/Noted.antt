@@ -6,7 +6,7 @@ use Rattle.manager_node.specs.Answer.{AnswerView}
 use Rattle.manager_node.specs.ManagerState.{answer_of}
 use Rattle.memory_node.specs.MemoryState.{memory_byte}
 use Rattle.net_build.specs.NetRun.{NetRun, network_of_run}
-use Rattle.net_kinds.specs.NodeKind.{AManager, AMemory, KindName, NodeState, StateOf}
+use Rattle.net_kinds.specs.NodeKind.{ALiteMemory, AManager, AMemory, KindName, NodeState, StateOf}
 use Rattle.node_core.specs.Acted.{Acted}
 use Rattle.plan_traffic.specs.Accepted.{Suits, items_of_manager}
 use Rattle.plan_traffic.specs.Traffic.{TrafficItem}
@@ -54,6 +54,7 @@ pub record IsAnswerTo (run : NetRun) (number : ℕ) (answer : AnswerView) : Type
 -- the byte of an address, where the node is a memory and has the address
 abbrev pub byte_by : (name : KindName) → StateOf name → ℕ → Option ℕ
 byte_by AMemory s address = memory_byte s address
+byte_by ALiteMemory s address = memory_byte s address
 byte_by other s address = None
 
 -- the byte of an address at a plan node

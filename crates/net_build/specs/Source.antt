@@ -1,8 +1,10 @@
 -- What a network is built of.
 use Rattle.std.specs.Prelude.{◌≡◌, ℕ, List, filter, flat_map, map}
+use Rattle.memory_node.specs.MemoryState.{MemoryState}
 use Rattle.net_kinds.specs.NodeKind.{node_kind}
 use Rattle.net_opening.specs.Opening.{opening}
 use Rattle.net_opening.specs.PlanLinks.{form_of_link}
+use Rattle.net_opening.specs.States.{area_on, document_node_of, memory_at}
 use Rattle.net_opening.specs.Touched.{is_write_to, lines_of_burst}
 use Rattle.net_ways.specs.Sound.{IsSound}
 use Rattle.plan_traffic.specs.Accepted.{IsTraffic}
@@ -24,3 +26,7 @@ pub record IsSource (nodes : List DocumentNode) (items : List TrafficItem) (targ
 -- the lines that writes to a plan node touch, in order of transaction and beat
 abbrev pub lines_written : List DocumentNode → ℕ → List TrafficItem → List ℕ
 lines_written nodes number items = flat_map (λ (item : TrafficItem). lines_of_burst item.txn.request) (filter (is_write_to nodes items number) items)
+
+-- the memory of a plan node, on a bus that its document node need not name
+abbrev pub memory_on : List DocumentNode → List TrafficItem → ℕ → ℕ → MemoryState
+memory_on nodes items number bus = record (memory_at nodes number items) { area = area_on bus (document_node_of nodes number) }

@@ -9,6 +9,7 @@ mod ends;
 mod lines;
 mod linked;
 mod links;
+mod memories;
 mod net;
 mod nodes;
 mod notes;

@@ -7,27 +7,29 @@ ghost use Rattle.net_build.specs.Source.{IsSource};
 ghost use Rattle.net_kinds.specs.NodeKind.{node_view};
 ghost use Rattle.net_opening.specs.Opening.{state_at, state_by_part};
 ghost use Rattle.node_core.specs.Acted.{opened};
-ghost use Rattle.topology.specs.Document.{node_at, widest};
+ghost use Rattle.topology.specs.Document.{widest};
 
-use crate::lines::lines_touched;
 use crate::linked::LinkedPlan;
-use crate::ranges::{map_of, memory_ranges};
+use crate::memories::memory_on;
+use crate::ranges::map_of;
 use crate::source::Source;
 use axi_beats::NoMemory;
 use demux_node::DemuxNode;
 use elaborate::Part;
 use error_node::ErrorNode;
+use lite_memory_node::LiteMemoryNode;
+use lite_node::LiteNode;
 use manager_node::ManagerNode;
-use memory_node::{MemoryConfig, MemoryNode};
 use mux_node::MuxNode;
 use net_kinds::Node;
 use remap_node::RemapNode;
 use slice_node::SliceNode;
+use split_node::SplitNode;
 use std::alloc::{AllocError, Global};
-use topology::Wiring;
 use up_node::UpNode;
 
-/// The plan node of a number as its kind begins. A part that can't be run yet stands as a slice.
+/// The plan node of a number as its kind begins. A down converter, which can't be run yet, stands as a
+/// slice.
 pub(crate) fn node_of(alloc: Global, source: &Source<'_>, number: u32) -> Result<Node, NoMemory>
     requires source { IsSource source.now.plan.now source.now.traffic.now source.now.targets.now }
     requires known { number < length (plan_nodes source.now.plan.now) }
@@ -41,9 +43,10 @@ pub(crate) fn node_of(alloc: Global, source: &Source<'_>, number: u32) -> Result
         Part::Error => error_node(alloc, source, number),
         Part::Remap => remap_node(alloc, source, number),
         Part::Up => up_node(alloc, source, number),
-        Part::LiteMemory | Part::Slice | Part::Split | Part::Down | Part::Lite => Ok(slice_node(
-            source, number,
-        )),
+        Part::Split => split_node(alloc, source, number),
+        Part::Lite => lite_node(alloc, source, number),
+        Part::LiteMemory => lite_memory_node(alloc, source, number),
+        Part::Slice | Part::Down => Ok(slice_node(source, number)),
     }
 }
 
@@ -123,6 +126,31 @@ fn up_node(alloc: Global, source: &Source<'_>, number: u32) -> Result<Node, NoMe
     Ok(Node::Up(boxed(alloc, node)?))
 }
 
+// A burst splitter between its two links.
+fn split_node(alloc: Global, source: &Source<'_>, number: u32) -> Result<Node, NoMemory>
+    requires { number < length (plan_nodes source.now.plan.now) }
+    ensures { IfOk result (λ node. node_view node ≡ opened (state_by_part source.now.plan.now source.now.traffic.now number part.Split)) }
+{
+    let upper = source.plan.link_into(number);
+    let lower = source.plan.link_out_of(number);
+    let node = SplitNode::new(upper, lower);
+    Ok(Node::Split(boxed(alloc, node)?))
+}
+
+// A Lite bridge, with the bus of the links around it.
+fn lite_node(alloc: Global, source: &Source<'_>, number: u32) -> Result<Node, NoMemory>
+    requires source { IsSource source.now.plan.now source.now.traffic.now source.now.targets.now }
+    requires known { number < length (plan_nodes source.now.plan.now) }
+    requires lite { (plan_node_at source.now.plan.now number).part ≡ part.Lite }
+    ensures { IfOk result (λ node. node_view node ≡ opened (state_by_part source.now.plan.now source.now.traffic.now number part.Lite)) }
+{
+    let upper = source.plan.link_into(number);
+    let lower = source.plan.link_out_of(number);
+    let above = source.plan.kind(upper);
+    let node = LiteNode::new(upper, lower, above.bus);
+    Ok(Node::Lite(boxed(alloc, node)?))
+}
+
 // A demux, with the regions of its document node.
 fn demux_node(alloc: Global, source: &Source<'_>, number: u32) -> Result<Node, NoMemory>
     requires source { IsSource source.now.plan.now source.now.traffic.now source.now.targets.now }
@@ -160,48 +188,31 @@ fn manager_node(alloc: Global, source: &Source<'_>, number: u32) -> Result<Node,
     Ok(Node::Manager(boxed(alloc, node)?))
 }
 
-// A memory, which keeps the lines that the traffic touches.
+// A memory, with the bus that its document node names.
 fn memory_node(alloc: Global, source: &Source<'_>, number: u32) -> Result<Node, NoMemory>
     requires source { IsSource source.now.plan.now source.now.traffic.now source.now.targets.now }
     requires known { number < length (plan_nodes source.now.plan.now) }
     requires memory { (plan_node_at source.now.plan.now number).part ≡ part.Memory }
     ensures { IfOk result (λ node. node_view node ≡ opened (state_by_part source.now.plan.now source.now.traffic.now number part.Memory)) }
 {
-    let wiring = source.plan.wiring();
     let document = source.plan.document(number);
-    let read_only = memory_ranges(alloc, wiring.read_only(document))?;
-    let hole = memory_ranges(alloc, wiring.hole(document))?;
-    let upper = source.plan.link_into(number);
-    let touched = lines_touched(alloc, source, number)?;
-    let node = MemoryNode::new(
-        alloc,
-        memory_config(wiring, document),
-        &read_only,
-        &hole,
-        wiring.accept(document),
-        wiring.give(document),
-        upper,
-        &touched,
-    )?;
-    Ok(Node::Memory(boxed(alloc, node)?))
+    let bus = source.plan.wiring().bus(document);
+    let memory = memory_on(alloc, source, number, bus)?;
+    Ok(Node::Memory(boxed(alloc, memory)?))
 }
 
-// What the keys of a document node say of a memory.
-fn memory_config(wiring: &Wiring, document: u32) -> MemoryConfig
-    requires { document < length wiring.now }
-    ensures { result ≡ record {
-      base = (node_at wiring.now document).base;
-      size = (node_at wiring.now document).size;
-      bus = (node_at wiring.now document).bus;
-      fill = (node_at wiring.now document).fill;
-    } }
+// A Lite memory, with the bus of the link above it.
+fn lite_memory_node(alloc: Global, source: &Source<'_>, number: u32) -> Result<Node, NoMemory>
+    requires source { IsSource source.now.plan.now source.now.traffic.now source.now.targets.now }
+    requires known { number < length (plan_nodes source.now.plan.now) }
+    requires memory { (plan_node_at source.now.plan.now number).part ≡ part.LiteMemory }
+    ensures { IfOk result (λ node. node_view node ≡ opened (state_by_part source.now.plan.now source.now.traffic.now number part.LiteMemory)) }
 {
-    MemoryConfig {
-        base: wiring.base(document),
-        size: wiring.size(document),
-        bus: wiring.bus(document),
-        fill: wiring.fill(document),
-    }
+    let upper = source.plan.link_into(number);
+    let above = source.plan.kind(upper);
+    let memory = memory_on(alloc, source, number, above.bus)?;
+    let node = LiteMemoryNode::new(memory);
+    Ok(Node::LiteMemory(boxed(alloc, node)?))
 }
 
 // A value in a block of its own.

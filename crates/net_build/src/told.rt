@@ -26,6 +26,7 @@ pub(crate) fn byte_of(node: &Node, address: u64) -> Option<u8>
 {
     match node {
         Node::Memory(memory) => memory.byte(address),
+        Node::LiteMemory(memory) => memory.byte(address),
         _ => None,
     }
 }

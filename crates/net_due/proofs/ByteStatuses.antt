@@ -4,12 +4,11 @@ use Rattle.std.specs.Prelude.{map}
 use Rattle.std.specs.List.{list_any}
 use Rattle.axi_beats.specs.declared.response.Resp.{Resp}
 use Rattle.axi_beats.specs.declared.response.Resp.TheVariants.{DecErr, Okay, SlvErr}
-use Rattle.elaborate.specs.declared.part.Part.TheVariants as part
 use Rattle.memory_node.specs.MemoryArea.{is_in_range}
 use Rattle.memory_node.specs.Status.{is_okay, may_read, may_write, read_status, status_but_in, write_status}
 use Rattle.memory_node.specs.declared.config.Range.{Range}
-use Rattle.net_opening.specs.States.{area_of_node, memory_range}
-use Rattle.plan_traffic.specs.Due.{given_status, is_accessed, is_spanned, written_status}
+use Rattle.net_opening.specs.States.{area_on, memory_range}
+use Rattle.plan_traffic.specs.Due.{is_accessed, is_spanned, status_by}
 use Rattle.topology.specs.Document.{DocumentNode}
 use Rattle.topology_text.specs.declared.kind.Span.{Span}
 
@@ -27,15 +26,16 @@ okay-accessed Okay = refl
 okay-accessed SlvErr = refl
 okay-accessed DecErr = refl
 
-module _ (node : DocumentNode) (address : ℕ) where
-  pub written-same : write_status (area_of_node node) address ≡ written_status node part.Memory address
+-- of a memory on any bus, of AXI4 or AXI4-Lite
+module _ (bus : ℕ) (node : DocumentNode) (address : ℕ) where
+  pub written-same : write_status (area_on bus node) address ≡ status_by node node.read_only address
   written-same = ap (status_but_in (is_spanned node.base node.size address)) (ranges-same address node.read_only)
 
-  pub given-same : read_status (area_of_node node) address ≡ given_status node part.Memory address
+  pub given-same : read_status (area_on bus node) address ≡ status_by node node.hole address
   given-same = ap (status_but_in (is_spanned node.base node.size address)) (ranges-same address node.hole)
 
-  pub may-write : may_write (area_of_node node) address ≡ is_accessed (written_status node part.Memory address)
-  may-write = okay-accessed (write_status (area_of_node node) address) ∙ ap is_accessed written-same
+  pub may-write : may_write (area_on bus node) address ≡ is_accessed (status_by node node.read_only address)
+  may-write = okay-accessed (write_status (area_on bus node) address) ∙ ap is_accessed written-same
 
-  pub may-read : may_read (area_of_node node) address ≡ is_accessed (given_status node part.Memory address)
-  may-read = okay-accessed (read_status (area_of_node node) address) ∙ ap is_accessed given-same
+  pub may-read : may_read (area_on bus node) address ≡ is_accessed (status_by node node.hole address)
+  may-read = okay-accessed (read_status (area_on bus node) address) ∙ ap is_accessed given-same

@@ -1,7 +1,7 @@
 -- The document node of an error subordinate has no fill byte.
 use Rattle.std.proofs.Common.{◌≡◌, ◌<◌, ℕ, Bool, true, false, List, length, Some, sym, ◌∙◌, ap}
 use Rattle.std.proofs.lemmas.Bool.{false≢true}
-use Rattle.elaborate.proofs.Forms.{Form, Part_at, own_part, part-at}
+use Rattle.elaborate.proofs.Forms.{Form, Part_at, own_part, part-at, split_kind}
 use Rattle.elaborate.proofs.Forms.Form.{Behind, Demux, DemuxError, Input, InputError, Own, Split, Target}
 use Rattle.elaborate.proofs.Lists.{None-Some, Some-same}
 use Rattle.elaborate.proofs.PlanFacts.{form-document}
@@ -9,7 +9,7 @@ use Rattle.elaborate.specs.Plan.{PlanNode, plan_node_at, plan_nodes}
 use Rattle.elaborate.specs.declared.part.Part.{Part}
 use Rattle.elaborate.specs.declared.part.Part.TheVariants as part
 use Rattle.net_plan.proofs.OpeningWired.{node-at}
-use Rattle.net_plan.proofs.PartLemmas.{formed-at, is-built, no-split}
+use Rattle.net_plan.proofs.PartLemmas.{formed-at}
 use Rattle.net_plan.specs.PlanLaws.{CanRun}
 use Rattle.plan_traffic.specs.Traffic.{TrafficItem}
 use Rattle.topology.specs.Document.{DocumentNode, node_at}
@@ -33,6 +33,11 @@ own-error kind.Remap p own is = false≢true (ap is_error (Some-same part.Remap 
 own-error kind.Up p own is = false≢true (ap is_error (Some-same part.Up p own) ∙ is)
 own-error other p own is = None-Some p own
 
+split-error : (k : Kind) (p : Part) → split_kind k ≡ Some p → is_error p ≡ true → ⊥
+split-error kind.Down p split is = false≢true (ap is_error (Some-same part.Down p split) ∙ is)
+split-error kind.Lite p split is = false≢true (ap is_error (Some-same part.Lite p split) ∙ is)
+split-error other p split is = None-Some p split
+
 demux-fill : (k : Kind) (fill : ℕ) → k ≡ kind.Demux → IsNumberAt (table_form k).fill fill_limits fill → fill ≡ 0
 unfolding table_form
 demux-fill kind.Demux fill is formed = formed
@@ -46,8 +51,8 @@ crossbar-fill other fill is formed = absurd (cc)
 module _ (nodes : List DocumentNode) (items : List TrafficItem) (run : CanRun nodes) where
   fill-by : (place inner : ℕ) (node : PlanNode) → place < length nodes → Form nodes place inner node (node_at nodes place).kind → is_error node.part ≡ true → (node_at nodes place).fill ≡ 0
   fill-by place inner node less (Own p own first is) error = absurd (own-error (node_at nodes place).kind p own (sym (ap (λ (n : PlanNode). is_error n.part) is) ∙ error))
-  fill-by place inner node less (Split p split first is) error = absurd (no-split (node_at nodes place).kind p split (is-built nodes run place less))
-  fill-by place inner node less (Behind p split first is) error = absurd (no-split (node_at nodes place).kind p split (is-built nodes run place less))
+  fill-by place inner node less (Split p split first is) error = absurd (false≢true (sym (ap (λ (n : PlanNode). is_error n.part) is) ∙ error))
+  fill-by place inner node less (Behind p split first is) error = absurd (split-error (node_at nodes place).kind p split (sym (ap (λ (n : PlanNode). is_error n.part) is) ∙ error))
   fill-by place inner node less (Demux own first is) error = absurd (false≢true (sym (ap (λ (n : PlanNode). is_error n.part) is) ∙ error))
   fill-by place inner node less (DemuxError own first is) error = demux-fill (node_at nodes place).kind (node_at nodes place).fill own (formed-at nodes run place less).fill
   fill-by place inner node less (Input i own within first is) error = absurd (false≢true (sym (ap (λ (n : PlanNode). is_error n.part) is) ∙ error))

@@ -1,27 +1,24 @@
--- The way of a transaction ends at the target that its address has in the plan, which is a memory or an error subordinate.
-use Rattle.std.proofs.Common.{◌≡◌, ◌<◌, ◌-◌, ℕ, suc, true, List, [], ◌∷◌, length, Option, Some, None, refl, sym, ◌∙◌, ap, subst, inl, inr, arith}
-use Rattle.std.specs.Prelude.{◌⊎◌, slice_get, slice_index_or, unwrap_or}
+-- The way of a transaction ends at the target that its address has in the plan, which is a memory of AXI4 or AXI4-Lite or an
+-- error subordinate.
+use Rattle.std.proofs.Common.{◌≡◌, ◌<◌, ℕ, true, List, length, Option, Some, None, refl, sym, ◌∙◌, ap, subst, inl, inr, arith}
+use Rattle.std.specs.Prelude.{◌⊎◌, slice_get}
 use Rattle.std.specs.Option.{option_map_or}
-use Rattle.std.proofs.lemmas.Bool.{cases_lt, false≢true}
-use Rattle.std.proofs.lemmas.List.FromFn.{length-range_with_len}
+use Rattle.std.proofs.lemmas.Bool.{false≢true}
 use Rattle.std.proofs.lemmas.Option.{slice_get_past, slice_get_within}
-use Rattle.address_map.specs.Regions.{serving_port}
-use Rattle.axi_beats.specs.declared.beat.Addr.{Addr}
-use Rattle.axi_trail.specs.LinkContracts.{without_id}
 use Rattle.axi_trail.specs.Schedule.{Share}
+use Rattle.demux_node.proofs.AnswerLemmas.{lower-at, port_of_parts-within}
 use Rattle.demux_node.specs.DemuxTrail.{port_of_parts}
 use Rattle.elaborate.proofs.Lists.{None-Some, Some-same}
 use Rattle.elaborate.proofs.PathFacts.{onward, path-ends_at_endpoint}
 use Rattle.elaborate.specs.Laws.{is_first}
-use Rattle.elaborate.specs.Path.{next_by_part, ported_regions, target_of}
+use Rattle.elaborate.specs.Path.{next_by_part, target_of}
 use Rattle.elaborate.specs.PathLaws.{EndsAtEndpoint, is_endpoint}
 use Rattle.elaborate.specs.Plan.{PlanNode, plan_link_at, plan_links, plan_node_at, plan_nodes}
 use Rattle.elaborate.specs.declared.part.Part.{Part}
 use Rattle.elaborate.specs.declared.part.Part.TheVariants as part
-use Rattle.manager_node.specs.Beats.{item_request}
 use Rattle.manager_node.specs.ManagerState.{ManagerState}
 use Rattle.manager_node.specs.ManagerTrail.{item_origin}
-use Rattle.net_due.proofs.WayForms.{end-parts, end-stops, end-there}
+use Rattle.net_due.proofs.WayForms.{end-stops, end-there}
 use Rattle.net_history.proofs.EndLemmas.{end-known}
 use Rattle.net_history.proofs.ItemLemmas.{among}
 use Rattle.net_history.proofs.RoundLemmas.{IsItem}
@@ -30,85 +27,73 @@ use Rattle.net_kinds.specs.NodeKind.{KindName, NodeState, StateOf, node_kind}
 use Rattle.net_model.specs.Network.{Network}
 use Rattle.net_model.specs.declared.net_link.NetLink.{NetLink}
 use Rattle.net_opening.specs.Opening.{opening, state_at, state_by_part}
-use Rattle.net_opening.specs.PlanLinks.{form_of_link, links_into, links_out_of}
+use Rattle.net_opening.specs.PlanLinks.{form_of_link, links_into}
 use Rattle.net_opening.specs.States.{demux_at, manager_at}
 use Rattle.net_plan.proofs.LineLemmas.{comes-to}
 use Rattle.net_plan.proofs.LinkLists.{some-at}
-use Rattle.net_plan.proofs.LinkPlaces.{links-out, links_before}
 use Rattle.net_plan.proofs.NodeLinks.{is-into, none-into}
 use Rattle.net_plan.proofs.OnceLemmas.{Started}
 use Rattle.net_plan.proofs.OpeningSound.{openings-are_sound}
 use Rattle.net_plan.proofs.OpeningWired.{link-is, node-at, node-is, within}
 use Rattle.net_plan.proofs.PartLemmas.{LowersSuit, lowers-suit}
-use Rattle.net_plan.proofs.WayEnds.{below-is, lower-known, onward-is, ports-long}
+use Rattle.net_plan.proofs.WayEnds.{below-is, lower-known, onward-is}
 use Rattle.net_plan.specs.PlanLaws.{CanRun}
+use Rattle.net_runs.proofs.ContractFacts.{at-some}
 use Rattle.net_ways.specs.Sound.{IsSound}
 use Rattle.net_ways.specs.Ways.{Hop}
-use Rattle.node_core.specs.Acted.{Acted}
+use Rattle.node_core.specs.Acted.{Acted, opened}
 use Rattle.node_graph.specs.Graph.{is_in}
 use Rattle.node_shape.specs.LinkForm.{LinkForm}
 use Rattle.node_shape.specs.Way.{Origin, Way}
 use Rattle.plan_traffic.specs.Accepted.{IsTraffic, Suits}
 use Rattle.plan_traffic.specs.Scripts.{script_item}
 use Rattle.plan_traffic.specs.Traffic.{TrafficItem}
-use Rattle.topology.specs.Document.{DocumentNode, is_manager, node_at, targets_of}
+use Rattle.topology.specs.Document.{DocumentNode, is_manager, node_at}
 
 module _ (nodes : List DocumentNode) (items : List TrafficItem) (run : CanRun nodes) where
-  -- where a node sends a transaction no further, its path ends
-  stops-by : (number : ℕ) (node : PlanNode) (p : Part) (share : Share) (request : Addr) → slice_get (plan_nodes nodes) number ≡ Some node → plan_node_at nodes number ≡ node → share.parts ≡ request ∷ [] → LowersSuit p node.lower →
-      (p ≡ part.Demux → length node.lower ≡ suc (length (targets_of nodes (node_at nodes node.document)))) → (is_first p ≡ true → ⊥) → (node_kind.way (state_by_part nodes items number p)).goes_on share ≡ None →
-      next_by_part nodes request.addr node p ≡ None
-  stops-by number node part.Manager share request at is parts suits long other e = absurd (other refl)
-  stops-by number node part.Memory share request at is parts suits long other e = slice_get_past node.lower 0 (omega (arith, suits))
-  stops-by number node part.Error share request at is parts suits long other e = slice_get_past node.lower 0 (omega (arith, suits))
-  stops-by number node part.Mux share request at is parts suits long other e = absurd (None-Some _ (sym e))
-  stops-by number node part.Slice share request at is parts suits long other e = absurd (None-Some _ (sym e))
-  stops-by number node part.Demux share request at is parts suits long other e =
-      let out : length (links_out_of nodes number) ≡ length node.lower = ap length (links-out nodes number node at) ∙ length-range_with_len (links_before (plan_nodes nodes) number) (length node.lower) in
-      let last : length (links_out_of nodes number) - 1 ≡ length (targets_of nodes (node_at nodes node.document)) = omega (arith, out, long refl) in
-      let port : ℕ = unwrap_or (serving_port (ported_regions nodes (node_at nodes node.document)) request.addr) (length (targets_of nodes (node_at nodes node.document))) in
-      let e_parts = ap (λ (ps : List Addr). slice_get (links_out_of nodes number) (port_of_parts (demux_at nodes number).shape ps)) (sym parts) ∙ e in
-      let e_port =
-      ap (λ (k : ℕ). slice_get (links_out_of nodes number) (unwrap_or (serving_port (ported_regions nodes (node_at nodes k)) request.addr) (length (links_out_of nodes number) - 1)))
-      (sym (ap (λ (n : PlanNode). n.document) is)) ∙ e_parts in
-      let e_last : slice_get (links_out_of nodes number) port ≡ None =
-      ap (λ (k : ℕ). slice_get (links_out_of nodes number) (unwrap_or (serving_port (ported_regions nodes (node_at nodes node.document)) request.addr) k)) (sym last) ∙ e_port in
-      elim (cases_lt port (length node.lower)) [
-        | inl less ↦ absurd (None-Some (slice_index_or (links_out_of nodes number) port 0) (sym e_last ∙ some-at (links_out_of nodes number) port 0 (omega (arith, less, out))))
-        | inr past ↦ slice_get_past node.lower port past
-      ]
-  stops-by number node part.LiteMemory share request at is parts suits long other e = absurd suits
-  stops-by number node part.Remap share request at is parts suits long other e = absurd (None-Some _ (sym e))
-  stops-by number node part.Split share request at is parts suits long other e = absurd suits
-  stops-by number node part.Up share request at is parts suits long other e = absurd (None-Some _ (sym e))
-  stops-by number node part.Down share request at is parts suits long other e = absurd suits
-  stops-by number node part.Lite share request at is parts suits long other e = absurd suits
+  -- where a node sends a transaction no further, the path of any address ends
+  stops-by : (number : ℕ) (node : PlanNode) (p : Part) (share : Share) (address : ℕ) → LowersSuit p node.lower → (is_first p ≡ true → ⊥) → node_kind.begins (state_by_part nodes items number p) →
+      (node_kind.way (state_by_part nodes items number p)).goes_on share ≡ None → next_by_part nodes address node p ≡ None
+  stops-by number node part.Manager share address suits other begins e = absurd (other refl)
+  stops-by number node part.Memory share address suits other begins e = slice_get_past node.lower 0 (omega (arith, suits))
+  stops-by number node part.Error share address suits other begins e = slice_get_past node.lower 0 (omega (arith, suits))
+  stops-by number node part.LiteMemory share address suits other begins e = slice_get_past node.lower 0 (omega (arith, suits))
+  stops-by number node part.Mux share address suits other begins e = absurd (None-Some _ (sym e))
+  stops-by number node part.Slice share address suits other begins e = absurd (None-Some _ (sym e))
+  stops-by number node part.Demux share address suits other begins e =
+      let shape = (demux_at nodes number).shape in
+      absurd (None-Some _ (sym e ∙ lower-at shape (port_of_parts shape share.parts) (port_of_parts-within shape begins.shape share.parts)))
+  stops-by number node part.Remap share address suits other begins e = absurd (None-Some _ (sym e))
+  stops-by number node part.Split share address suits other begins e = absurd (None-Some _ (sym e))
+  stops-by number node part.Up share address suits other begins e = absurd (None-Some _ (sym e))
+  stops-by number node part.Down share address suits other begins e = absurd suits
+  stops-by number node part.Lite share address suits other begins e = absurd (None-Some _ (sym e))
 
-  path-stops_below : (link : ℕ) (share : Share) (request : Addr) → link < length (plan_links nodes) → share.parts ≡ request ∷ [] →
-      (node_kind.way (state_at nodes items (plan_link_at nodes link).lower)).goes_on share ≡ None → onward nodes request.addr (plan_link_at nodes link).lower ≡ None
-  path-stops_below link share request less parts stops =
+  path-stops_below : (link : ℕ) (share : Share) (address : ℕ) → link < length (plan_links nodes) → node_kind.begins (state_at nodes items (plan_link_at nodes link).lower) →
+      (node_kind.way (state_at nodes items (plan_link_at nodes link).lower)).goes_on share ≡ None → onward nodes address (plan_link_at nodes link).lower ≡ None
+  path-stops_below link share address less begins stops =
       let number : ℕ = (plan_link_at nodes link).lower in
       let node : PlanNode = plan_node_at nodes (plan_link_at nodes link).lower in
       let at = node-at nodes items number (lower-known nodes items run link less) in
       let above : is_in (links_into nodes number) link ≡ true = is-into nodes number link less refl in
-      onward-is nodes items run request.addr number node at
-      ∙ stops-by number node node.part share request at refl parts (lowers-suit nodes run number node at) (ports-long nodes items run number node at)
-      (λ first. false≢true (sym (ap (λ (links : List ℕ). is_in links link) (none-into nodes run.accepted number node at first)) ∙ above)) stops
+      onward-is nodes items run address number node at
+      ∙ stops-by number node node.part share address (lowers-suit nodes run number node at)
+      (λ first. false≢true (sym (ap (λ (links : List ℕ). is_in links link) (none-into nodes run.accepted number node at first)) ∙ above)) begins stops
 
--- the parts that answer and can run
-endpoint-is : (p : Part) (lower : List ℕ) → is_endpoint p ≡ true → LowersSuit p lower → (p ≡ part.Memory) ⊎ (p ≡ part.Error)
-endpoint-is part.Memory lower e suits = inl refl
-endpoint-is part.Error lower e suits = inr refl
-endpoint-is part.LiteMemory lower e suits = absurd suits
-endpoint-is part.Manager lower e suits = absurd (false≢true e)
-endpoint-is part.Mux lower e suits = absurd (false≢true e)
-endpoint-is part.Demux lower e suits = absurd (false≢true e)
-endpoint-is part.Slice lower e suits = absurd (false≢true e)
-endpoint-is part.Remap lower e suits = absurd (false≢true e)
-endpoint-is part.Split lower e suits = absurd (false≢true e)
-endpoint-is part.Up lower e suits = absurd (false≢true e)
-endpoint-is part.Down lower e suits = absurd (false≢true e)
-endpoint-is part.Lite lower e suits = absurd (false≢true e)
+-- the parts that answer
+endpoint-is : (p : Part) → is_endpoint p ≡ true → (p ≡ part.Memory) ⊎ ((p ≡ part.LiteMemory) ⊎ (p ≡ part.Error))
+endpoint-is part.Memory e = inl refl
+endpoint-is part.LiteMemory e = inr (inl refl)
+endpoint-is part.Error e = inr (inr refl)
+endpoint-is part.Manager e = absurd (false≢true e)
+endpoint-is part.Mux e = absurd (false≢true e)
+endpoint-is part.Demux e = absurd (false≢true e)
+endpoint-is part.Slice e = absurd (false≢true e)
+endpoint-is part.Remap e = absurd (false≢true e)
+endpoint-is part.Split e = absurd (false≢true e)
+endpoint-is part.Up e = absurd (false≢true e)
+endpoint-is part.Down e = absurd (false≢true e)
+endpoint-is part.Lite e = absurd (false≢true e)
 
 -- a transaction of the traffic at its manager in the network: the manager's plan node, and its place in the script and in
 -- the traffic
@@ -157,10 +142,13 @@ module _ (nodes : List DocumentNode) (items : List TrafficItem) (run : CanRun no
         manager = planned.manager;
         is = refl;
       } in
-      let parts = end-parts net forms sound number s inner (script_item item) planned.own in
-      let stops = ap (λ (w : Way). w.goes_on end.share) (sym (below-is nodes items run end.link (lower-known nodes items run end.link end-less))) ∙ end-stops net forms sound number s inner (script_item item) planned.own in
-      let path = path-stops_below nodes items run end.link end.share (without_id (item_request (script_item item))) end-less parts stops in
-      let come = comes-to nodes items run starts from end.link end.share (end-there net forms sound number s inner (script_item item) planned.own) path in
+      let below = lower-known nodes items run end.link end-less in
+      let stops = ap (λ (w : Way). w.goes_on end.share) (sym (below-is nodes items run end.link below)) ∙ end-stops net forms sound number s inner (script_item item) planned.own in
+      let begins =
+      at-some (λ (a : Acted NodeState). node_kind.begins a.state) (slice_get net.nodes (plan_link_at nodes end.link).lower) (opened (state_at nodes items (plan_link_at nodes end.link).lower))
+      (node-is nodes items (plan_link_at nodes end.link).lower below) (sound.begins (plan_link_at nodes end.link).lower) in
+      let path = path-stops_below nodes items run end.link end.share item.txn.request.addr end-less begins stops in
+      let come = comes-to nodes items run traffic starts from end.link end.share (end-there net forms sound number s inner (script_item item) planned.own) path in
       ap (λ (l : NetLink). l.lower) (link-is nodes items end.link) ∙ sym come.0
 
   -- ---- the plan node there
@@ -179,12 +167,11 @@ module _ (nodes : List DocumentNode) (items : List TrafficItem) (run : CanRun no
   pub target-less : target < length (plan_nodes nodes)
   target-less = slice_get_within (plan_nodes nodes) target ends.node ends.at
 
-  pub target-kind : ((plan_node_at nodes target).part ≡ part.Memory) ⊎ ((plan_node_at nodes target).part ≡ part.Error)
+  pub target-kind : ((plan_node_at nodes target).part ≡ part.Memory) ⊎ (((plan_node_at nodes target).part ≡ part.LiteMemory) ⊎ ((plan_node_at nodes target).part ≡ part.Error))
   target-kind =
       let at = node-at nodes items target target-less in
       let same : ends.node ≡ plan_node_at nodes target = Some-same ends.node (plan_node_at nodes target) (sym ends.at ∙ at) in
-      endpoint-is (plan_node_at nodes target).part (plan_node_at nodes target).lower (ap (λ (n : PlanNode). is_endpoint n.part) (sym same) ∙ ends.endpoint)
-      (lowers-suit nodes run target (plan_node_at nodes target) at)
+      endpoint-is (plan_node_at nodes target).part (ap (λ (n : PlanNode). is_endpoint n.part) (sym same) ∙ ends.endpoint)
 
   -- what is of the node where it ends is of the target
   pub at-target : {Y : Type 0} (other : Y) (of_node : (name : KindName) → StateOf name → Y) (p : Part) → (plan_node_at nodes target).part ≡ p →

@@ -5,7 +5,7 @@ use Rattle.std.specs.Prelude.{All, Contains, IsTrue, filter, find, flat_map, get
 use Rattle.std.specs.List.{list_any, range_with_len}
 use Rattle.std.specs.Option.{option_map_or}
 use Rattle.std.proofs.lemmas.Bool.{and_from, cases_Bool, cases_eq, eq-eqb, eqb-true}
-use Rattle.memory_node.specs.Accesses.{read_addresses}
+use Rattle.axi_beats.specs.Lanes.{Span}
 use Rattle.memory_node.specs.Beats.{stored_bytes}
 use Rattle.subordinate.specs.Parts.{BeatOf, beats_of_parts, beats_with_data}
 use Rattle.std.proofs.lemmas.List.{length-map}
@@ -26,20 +26,21 @@ use Rattle.manager_node.specs.Beats.{item_request}
 use Rattle.manager_node.specs.ManagerState.{ManagerState, issued_of, of_direction}
 use Rattle.manager_node.specs.ManagerTrail.{has_issued, item_origin}
 use Rattle.manager_node.specs.Script.{ScriptItem}
-use Rattle.memory_node.specs.Accesses.{accesses_of, due_reads, due_writes}
+use Rattle.memory_node.specs.Accesses.{accesses_of, due_writes}
+use Rattle.memory_node.specs.WantedReads.{wanted_addresses, wanted_due}
 use Rattle.memory_node.specs.Events.{Access}
 use Rattle.memory_node.specs.MemoryArea.{MemoryArea}
 use Rattle.memory_node.specs.MemoryState.{MemoryState}
 use Rattle.net_history.proofs.EndLemmas.{end-at}
 use Rattle.net_history.proofs.ItemLemmas.{grows-itself, link-run, now, schedules}
 use Rattle.net_history.proofs.ManagerRuns.{IsManagerAt, at-run, from-first, has-origin, lower-is, manager-keeps, manager_run, note_after, own-link, run-keeps, script-is}
-use Rattle.net_history.proofs.MemoryRuns.{IsMemoryAt, ends-here, memory-keeps, memory_run, upper-link}
+use Rattle.net_history.proofs.MemoryRuns.{IsMemoryAt, ends-here, memory-keeps, memory_run, upper-link, wanted_by}
 use Rattle.net_history.proofs.RoundLemmas.{IsItem}
 use Rattle.net_history.proofs.RunStates.{acted_as, run_state, stands-at}
 use Rattle.net_history.specs.Due.{way_end, way_target}
 use Rattle.net_kinds.specs.NodeHolds.{node_holds}
 use Rattle.net_kinds.specs.NodeKind.{KindName, NodeState, StateOf, node_kind}
-use Rattle.net_kinds.specs.NodeKind.KindName.{ADemux, AManager, AMemory, AMux, ARemap, ASlice, AnError, AnUp}
+use Rattle.net_kinds.specs.NodeKind.KindName.{ADemux, ALite, ALiteMemory, AManager, AMemory, AMux, ARemap, ASlice, ASplit, AnError, AnUp}
 use Rattle.net_model.specs.Network.{Network, lower_node, upper_node}
 use Rattle.net_runs.specs.Run.{chosen, lower_end, nodes_after, noted_by, passed_by, queues_after, upper_end}
 use Rattle.net_history.proofs.ShownLemmas.{beq-itself, beq-true}
@@ -167,11 +168,14 @@ module _ (net : Network NodeState) (forms : ℕ → LinkForm) (sound : IsSound n
           (subst (λ (l : ℕ). IsTrue (has_issued (trail_above (chosen node_kind net k) (queues_after node_kind net) m l) number)) (lower-is net forms sound k s here m) is))
       of-kind k ASlice s out at is = absurd (cc)
       of-kind k AMemory s out at is = absurd (cc)
+      of-kind k ALiteMemory s out at is = absurd (cc)
       of-kind k AMux s out at is = absurd (cc)
       of-kind k AnError s out at is = absurd (cc)
       of-kind k ADemux s out at is = absurd (cc)
       of-kind k ARemap s out at is = absurd (cc)
       of-kind k AnUp s out at is = absurd (cc)
+      of-kind k ASplit s out at is = absurd (cc)
+      of-kind k ALite s out at is = absurd (cc)
 
       at-some_node : (k : ℕ) (o : Option (Acted NodeState)) → slice_get (nodes_after node_kind net m) k ≡ o →
           (option_map_or (λ (a : Acted NodeState). node_kind.knows (schedules net forms sound) a.state (passed_by node_kind net k m)) o nothing_known).issued number ≡ true → IsIssuedBy m number
@@ -240,9 +244,9 @@ module _ (net : Network NodeState) (forms : ℕ → LinkForm) (sound : IsSound n
     some-writes area count None some = absurd (omega (arith, (some-count (λ (b : BeatOf × WBeat). stored_bytes area b.0.request b.0.beat b.1) count [] some).1))
     some-writes area count (Some share) some = ((some-count (λ (b : BeatOf × WBeat). stored_bytes area b.0.request b.0.beat b.1) count (beats_with_data share) some).0, share, refl)
 
-    some-reads : (area : MemoryArea) (count : ℕ) (o : Option Share) → 0 < length (due_reads area (unwrap_or o no_share) count) → (0 < count) × (share : Share) × (o ≡ Some share)
-    some-reads area count None some = absurd (omega (arith, (some-count (read_addresses area) count [] some).1))
-    some-reads area count (Some share) some = ((some-count (read_addresses area) count (beats_of_parts share.parts) some).0, share, refl)
+    some-reads : (area : MemoryArea) (wanted : BeatOf → Span) (count : ℕ) (o : Option Share) → 0 < length (wanted_due area wanted (unwrap_or o no_share) count) → (0 < count) × (share : Share) × (o ≡ Some share)
+    some-reads area wanted count None some = absurd (omega (arith, (some-count (wanted_addresses area wanted) count [] some).1))
+    some-reads area wanted count (Some share) some = ((some-count (wanted_addresses area wanted) count (beats_of_parts share.parts) some).0, share, refl)
 
     -- an access is of a transaction of a manager, which was issued by the round before, and ends here, where its request stands
     -- after the round
@@ -285,7 +289,7 @@ module _ (net : Network NodeState) (forms : ℕ → LinkForm) (sound : IsSound n
               (data-known (λ (t : ℕ). is_asked true t seen ≡ true) (all-asked true seen) a.number due.0) due.1 due.2
           | inr reads ↦
               let some = some-all (λ (x : Access). beq x.write false && x.number == a.number) all a among (test-passes false a reads) in
-              let due = some-reads area (length (of_key number_of_read_data a.number seen.r)) (carried node_kind net false link a.number)
+              let due = some-reads area (wanted_by is.lite area) (length (of_key number_of_read_data a.number seen.r)) (carried node_kind net false link a.number)
               (omega (arith, some, ap length (accessed.read a.number), length-map (accesses_of false a.number all) (λ (x : Access). x.byte.address))) in
               asked-as false a reads (answer-known Issued asked-below.reads.was_issued a.number due.0)
               (answer-known (λ (t : ℕ). is_asked false t seen ≡ true) (all-asked false seen) a.number due.0) due.1 due.2

@@ -1,6 +1,6 @@
 -- Each event is of a transaction of the network, at its target, which was issued before; so those of a transaction are what its
 -- target has noted.
-use Rattle.std.proofs.Common.{◌≡◌, ◌<◌, [], ◌∷◌, ℕ, zero, suc, true, List, Option, Some, None, length, refl, sym, ap, ◌∙◌, subst, inl, inr, arith}
+use Rattle.std.proofs.Common.{◌≡◌, ◌<◌, [], ◌∷◌, ℕ, zero, suc, false, true, List, Option, Some, None, length, refl, sym, ap, ◌∙◌, subst, inl, inr, arith}
 use Rattle.std.specs.Prelude.{◌⊎◌, All, get_or, slice_get}
 use Rattle.std.specs.Option.{option_map_or}
 use Rattle.std.proofs.lemmas.List.Elements.{All-nil, All-weaker, Contains-append_right}
@@ -23,7 +23,7 @@ use Rattle.net_history.proofs.RunStates.{acted_as, run_state, stands-at}
 use Rattle.net_history.specs.Due.{transactions_of, way_end, way_target}
 use Rattle.net_history.specs.History.{event_of, events_after, issues_after}
 use Rattle.net_kinds.specs.NodeKind.{KindName, NodeState, StateOf, node_kind}
-use Rattle.net_kinds.specs.NodeKind.KindName.{ADemux, AManager, AMemory, AMux, ARemap, ASlice, AnError, AnUp}
+use Rattle.net_kinds.specs.NodeKind.KindName.{ADemux, ALite, ALiteMemory, AManager, AMemory, AMux, ARemap, ASlice, ASplit, AnError, AnUp}
 use Rattle.net_model.specs.Network.{Network}
 use Rattle.net_runs.specs.Run.{lower_end, nodes_after, noted_by, noted_in, queues_after}
 use Rattle.net_ways.specs.Sound.{IsSound}
@@ -70,7 +70,8 @@ module _ (net : Network NodeState) (forms : ℕ → LinkForm) (sound : IsSound n
   -- only memories note anything
   of-kind : (m node : ℕ) (name : KindName) (s : StateOf name) (out : Out) → slice_get net.nodes node ≡ Some (acted_as name s out) →
       All (IsOfItem m node) (noted_in node_kind net node m) ⊎ (node_kind.notes (queues_after node_kind net m) (record { kind = name; state = run_state net name s m }) ≡ [])
-  of-kind m node AMemory s out at = inl (of-memory m node s (record { out = out; at = at }))
+  of-kind m node AMemory s out at = inl (of-memory m node s (record { lite = false; out = out; at = at }))
+  of-kind m node ALiteMemory s out at = inl (of-memory m node s (record { lite = true; out = out; at = at }))
   of-kind m node ASlice s out at = inr refl
   of-kind m node AManager s out at = inr refl
   of-kind m node AMux s out at = inr refl
@@ -78,6 +79,8 @@ module _ (net : Network NodeState) (forms : ℕ → LinkForm) (sound : IsSound n
   of-kind m node ADemux s out at = inr refl
   of-kind m node ARemap s out at = inr refl
   of-kind m node AnUp s out at = inr refl
+  of-kind m node ASplit s out at = inr refl
+  of-kind m node ALite s out at = inr refl
 
   pub of-item : (m node : ℕ) → All (IsOfItem m node) (noted_in node_kind net node m)
   of-item m node = go (slice_get (nodes_after node_kind net m) node) refl

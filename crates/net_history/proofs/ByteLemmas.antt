@@ -21,9 +21,13 @@ use Rattle.burst_address.specs.Accesses.{answered_bytes}
 use Rattle.burst_address.specs.Formulas.{beats_of}
 use Rattle.burst_address.specs.Lanes.{valid_span, word_address}
 use Rattle.burst_address.specs.Legal.{IsLegal}
-use Rattle.memory_node.specs.Accesses.{accesses_of, allowed_before}
+use Rattle.lite_memory_node.specs.LiteMemoryTable.{tag_span}
+use Rattle.memory_node.specs.Accesses.{accesses_of, beat_span}
 use Rattle.memory_node.specs.Events.{Access}
+use Rattle.memory_node.specs.MemoryArea.{MemoryArea}
 use Rattle.memory_node.specs.MemoryState.{MemoryState}
+use Rattle.memory_node.specs.MemoryTrail.{knows_on}
+use Rattle.memory_node.specs.WantedReads.{wanted_before}
 use Rattle.net_history.proofs.MemoryRuns.{IsMemoryAt}
 use Rattle.manager_node.specs.ManagerState.{ManagerState}
 use Rattle.manager_node.specs.ManagerTrail.{spans_of}
@@ -31,7 +35,7 @@ use Rattle.manager_node.specs.Script.{ScriptItem}
 use Rattle.net_history.proofs.DoneLemmas.{all-read, keeps-on}
 use Rattle.net_history.proofs.DueLemmas.{is_allowed}
 use Rattle.net_history.proofs.EndLemmas.{end-carried, first-carried, first_share}
-use Rattle.net_history.proofs.ItemLemmas.{among, answers-above, now, origin, own-reads as first-reads, read-note, schedules}
+use Rattle.net_history.proofs.ItemLemmas.{among, answers-above, beat-count, now, origin, own-reads as first-reads, read-note, schedules}
 use Rattle.net_history.proofs.ListLemmas.{All-flat}
 use Rattle.net_history.proofs.ManagerRuns.{begins, from-first, note_after, own-link, run-keeps}
 use Rattle.net_history.proofs.NetTransactions.{due_of}
@@ -44,7 +48,7 @@ use Rattle.net_history.specs.Due.{bytes_carried, byte_named, wanted_of_beat, way
 use Rattle.net_history.specs.History.{events_after}
 use Rattle.net_kinds.specs.NodeHolds.{node_holds}
 use Rattle.net_kinds.specs.NodeKind.{KindName, NodeState, StateOf, node_kind}
-use Rattle.net_kinds.specs.NodeKind.KindName.{ADemux, AManager, AMemory, AMux, ARemap, ASlice, AnError, AnUp}
+use Rattle.net_kinds.specs.NodeKind.KindName.{ADemux, ALite, ALiteMemory, AManager, AMemory, AMux, ARemap, ASlice, ASplit, AnError, AnUp}
 use Rattle.net_model.specs.Network.{Network}
 use Rattle.net_runs.specs.Run.{nodes_after, noted_by, passed_by, upper_end}
 use Rattle.net_ways.proofs.WayLemmas.{is-carried}
@@ -140,6 +144,13 @@ module _ (form : LinkForm) (may : ℕ → Bool) where
 module _ (net : Network NodeState) (forms : ℕ → LinkForm) (sound : IsSound node_kind net forms) where
   -- ---- a node that is no memory reads nothing but zeros
 
+  zeros-memory : (n number k : ℕ) (c : MemoryState) (wanted : MemoryArea → BeatOf → Span) → noted_by node_kind net k n ≡ [] →
+      All IsZero ((knows_on wanted (schedules net forms sound) c (passed_by node_kind net k n)).filled number)
+  zeros-memory n number k c wanted none =
+      let share = (schedules net forms sound c.inner.upper).reads number in
+      let allowed = wanted_before c.area (wanted c.area) share (length (beats_of_parts share.parts)) in
+      subst (λ (all : List Access). All IsZero (answered_bytes allowed (map (λ (a : Access). a.byte.value) (accesses_of false number all)))) (sym none) (zeros-unread allowed)
+
   zeros-kind : (n number k : ℕ) (name : KindName) (s : StateOf name) (out : Out) → slice_get net.nodes k ≡ Some (acted_as name s out) → noted_by node_kind net k n ≡ [] →
       All IsZero ((node_kind.knows (schedules net forms sound) (record { kind = name; state = run_state net name s n }) (passed_by node_kind net k n)).filled number)
   zeros-kind n number k AnError s out at none =
@@ -149,16 +160,16 @@ module _ (net : Network NodeState) (forms : ℕ → LinkForm) (sound : IsSound n
       let trail = (passed_by node_kind net k n).uppers link in
       zeros-on (of_key number_of_read_data number trail.r) ((schedule link).reads number).lanes
       (All-filter (λ (r : RBeat). number_of_read_data r == number) (λ (r : RBeat). r.lanes ≡ replicate 128 0) trail.r here.zeros)
-  zeros-kind n number k AMemory s out at none =
-      let share = (schedules net forms sound (run_state net AMemory s n).inner.upper).reads number in
-      let allowed = allowed_before (run_state net AMemory s n).area share (length (beats_of_parts share.parts)) in
-      subst (λ (all : List Access). All IsZero (answered_bytes allowed (map (λ (a : Access). a.byte.value) (accesses_of false number all)))) (sym none) (zeros-unread allowed)
+  zeros-kind n number k AMemory s out at none = zeros-memory n number k (run_state net AMemory s n) beat_span none
+  zeros-kind n number k ALiteMemory s out at none = zeros-memory n number k (run_state net ALiteMemory s n) (λ area. tag_span) none
   zeros-kind n number k AManager s out at none = All-nil IsZero
   zeros-kind n number k ASlice s out at none = All-nil IsZero
   zeros-kind n number k AMux s out at none = All-nil IsZero
   zeros-kind n number k ADemux s out at none = All-nil IsZero
   zeros-kind n number k ARemap s out at none = All-nil IsZero
   zeros-kind n number k AnUp s out at none = All-nil IsZero
+  zeros-kind n number k ASplit s out at none = All-nil IsZero
+  zeros-kind n number k ALite s out at none = All-nil IsZero
 
   abbrev filled_by : ℕ → ℕ → ℕ → Option (Acted NodeState) → List ℕ
   filled_by n number k o = (option_map_or (λ (a : Acted NodeState). node_kind.knows (schedules net forms sound) a.state (passed_by node_kind net k n)) o nothing_known).filled number
@@ -203,7 +214,7 @@ module _ (net : Network NodeState) (forms : ℕ → LinkForm) (sound : IsSound n
     bytes-there c is =
         let its_origin = origin net forms sound node s place item own in
         let its = among net forms sound node s place item own in
-        (all-read net forms sound node s place item own c is reads s.lower (first_share net forms sound its_origin its) (first-carried net forms sound its_origin its) n beats whole (omega (arith, came)) (above.bytes_are_filled number)).0
+        (all-read net forms sound node s place item own c is reads s.lower (first_share net forms sound its_origin its) (first-carried net forms sound its_origin its) n beats whole (omega (arith, came, beat-count net forms sound node s place item own)) (above.bytes_are_filled number)).0
         ∙ ap₂ (λ (allowed : List Bool) (values : List ℕ). answered_bytes allowed values)
         (sym (reads-named_allowed net forms sound node s place item own c is reads)) (sym (item-values net forms sound node s place item own c is reads n))
 

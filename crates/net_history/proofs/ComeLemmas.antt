@@ -27,7 +27,7 @@ use Rattle.net_history.proofs.ShownLemmas.{beq-true}
 use Rattle.net_history.specs.Due.{last_hop, way_end}
 use Rattle.net_kinds.specs.NodeHolds.{node_holds}
 use Rattle.net_kinds.specs.NodeKind.{KindName, NodeState, StateOf, kind_by_name, node_kind}
-use Rattle.net_kinds.specs.NodeKind.KindName.{ADemux, AManager, AMemory, AMux, ARemap, ASlice, AnError, AnUp}
+use Rattle.net_kinds.specs.NodeKind.KindName.{ADemux, ALite, ALiteMemory, AManager, AMemory, AMux, ARemap, ASlice, ASplit, AnError, AnUp}
 use Rattle.net_model.specs.Network.{Network, lower_node, upper_node}
 use Rattle.net_model.specs.Wired.{lowers_at}
 use Rattle.net_runs.proofs.ContractFacts.{asked-below, uppers-are}
@@ -75,11 +75,14 @@ no-issues : (name : KindName) (s : StateOf name) (schedules : ℕ → _) (passed
 no-issues AManager s schedules passed link among t = absurd (omega (arith, among.1))
 no-issues ASlice s schedules passed link among t = refl
 no-issues AMemory s schedules passed link among t = refl
+no-issues ALiteMemory s schedules passed link among t = refl
 no-issues AMux s schedules passed link among t = refl
 no-issues AnError s schedules passed link among t = refl
 no-issues ADemux s schedules passed link among t = refl
 no-issues ARemap s schedules passed link among t = refl
 no-issues AnUp s schedules passed link among t = refl
+no-issues ASplit s schedules passed link among t = refl
+no-issues ALite s schedules passed link among t = refl
 
 module _ (net : Network NodeState) (forms : ℕ → LinkForm) (sound : IsSound node_kind net forms) (origin : Origin) (among : Contains (origins_in node_kind net.nodes) origin) where
   abbrev number : ℕ

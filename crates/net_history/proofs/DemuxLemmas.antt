@@ -1,26 +1,27 @@
 -- Where two transactions of a chain part at a demux, all answers to the earlier one have been put on the link above it when
 -- the later one has come there.
-use Rattle.std.proofs.Common.{◌≡◌, ◌≢◌, ◌<◌, ◌==◌, ◌++◌, [], ◌∷◌, ℕ, zero, suc, Bool, true, false, List, Option, Some, length, refl, sym, ap, ◌∙◌, subst, inl, inr, arith, append_assoc}
-use Rattle.std.specs.Prelude.{All, Contains, slice_get}
+use Rattle.std.proofs.Common.{◌≡◌, ◌≢◌, ◌<◌, ◌≤◌, ◌==◌, ◌++◌, [], ◌∷◌, ℕ, zero, suc, Bool, true, false, List, Option, Some, append-nil, append_assoc, length, length-append, map, refl, sym, ap, ◌∙◌, subst, inl, inr, arith}
+use Rattle.std.specs.Prelude.{◌⊎◌, Contains}
+use Rattle.std.specs.List.{range_with_len}
 use Rattle.std.specs.Option.{option_map_or}
-use Rattle.std.proofs.lemmas.Bool.{eq-eqb}
+use Rattle.std.proofs.lemmas.Bool.{cases_eq}
 use Rattle.std.proofs.lemmas.List.{length-map}
-use Rattle.std.proofs.lemmas.List.Elements.{All-cons, All-nil}
+use Rattle.std.proofs.lemmas.List.FromFn.{length-range_with_len}
 use Rattle.std.proofs.lemmas.List.Folds.{Any-from_list_any}
 use Rattle.axi_beats.specs.declared.beat.Addr.{Addr}
-use Rattle.axi_trail.proofs.FilterFacts.{beats_due-append}
 use Rattle.axi_trail.proofs.OrderFacts.{own_requests_in_order}
 use Rattle.axi_trail.specs.LinkContracts.{Asks, OneIdAtATime, WholeBeforeTheNext, without_id}
 use Rattle.axi_trail.specs.Schedule.{ComesBefore, SameChain, Schedule, Share}
 use Rattle.axi_trail.specs.Trail.{Beats, trail_below}
 use Rattle.axi_trail.specs.Words.{Asked, InOrderOfId, Reply, beats_due, burst_asked, number_of_address, number_of_asked, number_of_read_data, number_of_reply, number_of_response, read_replies, read_reply, reads_asked, write_asked, write_replies, write_reply, writes_asked}
+use Rattle.burst_address.specs.Formulas.{beats_of}
+use Rattle.burst_cuts.proofs.ShownLemmas.{same-beats}
 use Rattle.demux_node.specs.DemuxState.{DemuxShape, DemuxState}
 use Rattle.demux_node.specs.DemuxTrail.{OthersAreAnswered, lower_of_parts}
-use Rattle.manager_node.specs.Beats.{item_request}
 use Rattle.manager_node.specs.ManagerState.{ManagerState}
 use Rattle.manager_node.specs.Script.{ScriptItem}
 use Rattle.net_history.proofs.AskedLemmas.{asked_on, is_asked, some-all}
-use Rattle.net_history.proofs.DoneLemmas.{AreAnswersThere, same-on, written-share, read-share}
+use Rattle.net_history.proofs.DoneLemmas.{AreAnswersThere, read-share, some-on, written-share}
 use Rattle.net_history.proofs.ItemLemmas.{carried-is, now, schedules}
 use Rattle.net_history.proofs.ManagerRuns.{run-keeps}
 use Rattle.net_history.proofs.PartLemmas.{IsDemuxAt}
@@ -37,57 +38,99 @@ use Rattle.net_ways.specs.Sound.{IsSound}
 use Rattle.net_ways.specs.Ways.{carried}
 use Rattle.node_core.specs.Acted.{Acted}
 use Rattle.node_shape.specs.LinkForm.{LinkForm}
-use Rattle.plain_lists.proofs.CutLemmas.{all-unmap}
-use Rattle.plain_lists.proofs.KeyLemmas.{find_key, of_key-map, of_key-push}
-use Rattle.plain_lists.proofs.PlaceLemmas.{at-all, filter-has, map-from, middle}
-use Rattle.plain_lists.proofs.PrefixLemmas.{All_front}
+use Rattle.plain_lists.proofs.KeyLemmas.{find_key, of_key-append, of_key-map, of_key-skip}
+use Rattle.plain_lists.proofs.PrefixLemmas.{prefix_append, prefix_length, prefix_of_key, prefix_whole}
 use Rattle.plain_lists.specs.Keys.{of_key}
+use Rattle.plain_lists.specs.Prefixes.{IsPrefix}
+use Rattle.subordinate.specs.Parts.{BeatOf, beats_of_parts}
 
 -- ---- over plain lists
 
--- a request of a transaction, all of whose answers have come
-pub record IsWhollyAnswered (asked : List Asked) (replies : List Reply) (t : ℕ) : Type 0 where
-  pub place : ℕ
-  pub request : Asked
-  pub at : slice_get asked place ≡ Some request
-  pub same_number : request.number ≡ t
-  pub answers : request.len < length (of_key number_of_reply t replies)
+-- the last element of a key
+find-last : {X : Type 0} (key_of : X → ℕ) (key : ℕ) (xs : List X) →
+    (of_key key_of key xs ≡ []) ⊎ ((before : List X) × (x : X) × (after : List X) × (xs ≡ before ++ x ∷ after) × (key_of x ≡ key) × (of_key key_of key after ≡ []))
+find-last key_of key [] = inl refl
+find-last {X} key_of key (y ∷ xs) = elim (find-last key_of key xs) [
+  | inr found ↦ inr (y ∷ found.0, found.1, found.2, ap (λ (l : List X). y ∷ l) found.3, found.4, found.5)
+  | inl none ↦ elim (cases_eq (key_of y) key) [
+    | inl own ↦ inr ([], y, xs, refl, own, none)
+    | inr other ↦ inl (of_key-skip key_of key y xs other ∙ none)
+  ]
+]
+
+-- The requests that a transaction is cut into, among the first ones: all of them, and all their answers have come.
+pub record AreWhollyAnswered (shares : ℕ → Share) (asked : List Asked) (replies : List Reply) (t : ℕ) : Type 0 where
+  pub front : List Asked
+  pub first : IsPrefix (of_key number_of_asked t front) (of_key number_of_asked t asked)
+  pub many : length (of_key number_of_asked t front) ≡ length (shares t).parts
+  pub answers : beats_due (of_key number_of_asked t front) ≤ length (of_key number_of_reply t replies)
 
 module _ (shares : ℕ → Share) (lower : ℕ → ℕ) (asked : List Asked) (replies : List Reply) (whole : WholeBeforeTheNext shares asked) (one_id : OneIdAtATime shares asked replies) (order : InOrderOfId asked replies)
     (others : OthersAreAnswered shares lower asked replies) where
-  -- two requests at their places
-  answered-at : (before : List Asked) (a : Asked) (between : List Asked) (next : Asked) (after : List Asked) → asked ≡ (before ++ a ∷ between) ++ next ∷ after → SameChain shares a.number next.number →
-      lower a.number ≢ lower next.number → IsWhollyAnswered asked replies a.number
-  answered-at before a between next after are chain apart =
-      let cut : asked ≡ before ++ a ∷ (between ++ next ∷ after) = are ∙ append_assoc before (a ∷ between) (next ∷ after) in
-      let enough = (own_requests_in_order shares asked replies one_id order before a (between ++ next ∷ after) cut).0 (others before a between next after are chain apart) in
-      let due : beats_due (of_key number_of_asked a.number (before ++ a ∷ [])) ≡ beats_due (of_key number_of_asked a.number before ++ a ∷ []) = ap beats_due (of_key-push number_of_asked a.number before a refl) in
-      record {
-        place = length before;
-        request = a;
-        at = ap (λ (xs : List Asked). slice_get xs (length before)) cut ∙ middle before a (between ++ next ∷ after);
-        same_number = refl;
-        answers = omega (arith, enough, due, beats_due-append (of_key number_of_asked a.number before) (a ∷ []));
-      }
+  -- where the last of some requests of a transaction is answered, all of them are
+  answered-last : (front : List Asked) (next : Asked) (after : List Asked) → asked ≡ front ++ next ∷ after →
+      (before : List Asked) (a : Asked) (between : List Asked) → front ≡ before ++ a ∷ between → of_key number_of_asked a.number between ≡ [] → SameChain shares a.number next.number → lower a.number ≢ lower next.number →
+      beats_due (of_key number_of_asked a.number front) ≤ length (of_key number_of_reply a.number replies)
+  answered-last front next after are before a between is last chain apart =
+      let key = a.number in
+      let own = of_key number_of_asked key (before ++ a ∷ []) in
+      let split : asked ≡ (before ++ a ∷ between) ++ next ∷ after = are ∙ ap (λ (xs : List Asked). xs ++ next ∷ after) is in
+      let cut : asked ≡ before ++ a ∷ (between ++ next ∷ after) = split ∙ append_assoc before (a ∷ between) (next ∷ after) in
+      let enough = (own_requests_in_order shares asked replies one_id order before a (between ++ next ∷ after) cut).0 (others before a between next after split chain apart) in
+      let all : of_key number_of_asked key front ≡ own =
+      ap (of_key number_of_asked key) (is ∙ sym (append_assoc before (a ∷ []) between)) ∙ of_key-append number_of_asked key (before ++ a ∷ []) between
+      ∙ ap (λ (xs : List Asked). own ++ xs) last ∙ append-nil own in
+      subst (λ (xs : List Asked). beats_due xs ≤ length (of_key number_of_reply key replies)) (sym all) enough
 
-  -- of a transaction that comes before another one in its chain and goes another way, where a request of the other one is there
-  answered-before : (t u : ℕ) → ComesBefore shares t u → 0 < length (shares t).parts → lower t ≢ lower u → 0 < length (of_key number_of_asked u asked) → IsWhollyAnswered asked replies t
+  -- so it is of a transaction that comes before another one in its chain and goes another way, where a request of the other
+  -- one is there
+  answered-before : (t u : ℕ) → ComesBefore shares t u → 0 < length (shares t).parts → lower t ≢ lower u → 0 < length (of_key number_of_asked u asked) → AreWhollyAnswered shares asked replies t
   answered-before t u first some apart there = elim (find_key number_of_asked u asked) [
     | inl none ↦ absurd (omega (arith, there, ap length none))
     | inr later ↦
         let next = later.1 in
         let before : ComesBefore shares t next.number = subst (λ (k : ℕ). ComesBefore shares t k) (sym later.4) first in
         let count = whole later.0 next later.2 t later.3 before in
-        elim (find_key number_of_asked t later.0) [
+        elim (find-last number_of_asked t later.0) [
           | inl none ↦ absurd (omega (arith, count, some, ap length none))
           | inr found ↦
               let a = found.1 in
-              let are : asked ≡ (found.0 ++ a ∷ found.2) ++ next ∷ later.2 = later.3 ∙ ap (λ (xs : List Asked). xs ++ next ∷ later.2) found.3 in
-              subst (λ (k : ℕ). IsWhollyAnswered asked replies k) found.4
-              (answered-at found.0 a found.2 next later.2 are (subst (λ (k : ℕ). SameChain shares k next.number) (sym found.4) before.1)
-              (λ same. apart (sym (ap lower found.4) ∙ same ∙ ap lower later.4)))
+              let answers =
+              answered-last later.0 next later.2 later.3 found.0 a found.2 found.3 (subst (λ (k : ℕ). of_key number_of_asked k found.2 ≡ []) (sym found.4) found.5)
+              (subst (λ (k : ℕ). SameChain shares k next.number) (sym found.4) before.1) (λ same. apart (sym (ap lower found.4) ∙ same ∙ ap lower later.4)) in
+              record {
+                front = later.0;
+                first = subst (λ (xs : List Asked). IsPrefix (of_key number_of_asked t later.0) (of_key number_of_asked t xs)) (sym later.3) (prefix_of_key number_of_asked t (prefix_append later.0 (next ∷ later.2)));
+                many = count;
+                answers = subst (λ (k : ℕ). beats_due (of_key number_of_asked k later.0) ≤ length (of_key number_of_reply k replies)) found.4 answers;
+              }
         ]
   ]
+
+-- each request has an answer
+beats-some : (asked : List Asked) → length asked ≤ beats_due asked
+beats-some [] = omega arith
+beats-some (a ∷ asked) = omega (arith, beats-some asked)
+
+-- and a burst one for each of its beats
+beats-counted : (parts : List Addr) → beats_due (map burst_asked parts) ≡ length (beats_of_parts parts)
+beats-counted [] = refl
+beats-counted (a ∷ parts) =
+    let beat : ℕ → BeatOf = λ n. record { request = a; beat = n } in
+    let own = map beat (range_with_len 0 (beats_of a)) in
+    let count : length own ≡ suc a.len = length-map (range_with_len 0 (beats_of a)) beat ∙ length-range_with_len 0 (beats_of a) ∙ omega arith in
+    omega (arith, beats-counted parts, count, length-append own (beats_of_parts parts))
+
+-- the addresses of a transaction, of which there are as many as it has parts, ask for its beats
+whole-beats : (addresses : List Addr) (front : List Asked) (parts : List Addr) → IsPrefix (map without_id addresses) parts → IsPrefix front (map burst_asked addresses) → length front ≡ length parts → beats_due front ≡ length (beats_of_parts parts)
+whole-beats addresses front parts few first many =
+    let most = prefix_length few in
+    let shown = length-map addresses without_id in
+    let asked = length-map addresses burst_asked in
+    let least = prefix_length first in
+    let all : map burst_asked addresses ≡ front = prefix_whole front (map burst_asked addresses) first (omega (arith, most, shown, asked, many)) in
+    let are : parts ≡ map without_id addresses = prefix_whole (map without_id addresses) parts few (omega (arith, shown, asked, least, many)) in
+    ap beats_due (sym all) ∙ sym (same-beats addresses) ∙ ap (λ (ps : List Addr). beats_due (map burst_asked ps)) (sym are) ∙ beats-counted parts
 
 -- a transaction of which an address is there has some
 some-asked : (write : Bool) (u : ℕ) (trail : Beats) → is_asked write u trail ≡ true → 0 < length (of_key number_of_address u (asked_on write trail))
@@ -146,7 +189,7 @@ module _ (net : Network NodeState) (forms : ℕ → LinkForm) (sound : IsSound n
 
     module _ (t u : ℕ) where
       writes-answered : ComesBefore schedule.writes t u → 0 < length (schedule.writes t).parts → lower_of_parts s.shape (schedule.writes t).parts ≢ lower_of_parts s.shape (schedule.writes u).parts →
-          is_asked true u trail ≡ true → 0 < length (of_key number_of_response t trail.b)
+          is_asked true u trail ≡ true → length (schedule.writes t).parts ≤ length (of_key number_of_response t trail.b)
       writes-answered before some apart come =
           let there : length (of_key number_of_asked u (writes_asked trail)) ≡ length (of_key number_of_address u trail.aw) =
           ap length (of_key-map number_of_asked write_asked u trail.aw) ∙ length-map (of_key number_of_address u trail.aw) write_asked in
@@ -155,27 +198,23 @@ module _ (net : Network NodeState) (forms : ℕ → LinkForm) (sound : IsSound n
           both-in_order.0.0 both-in_order.0.1 t u before some apart (omega (arith, there, some-asked true u trail come)) in
           let answers : length (of_key number_of_reply t (write_replies trail)) ≡ length (of_key number_of_response t trail.b) =
           ap length (of_key-map number_of_reply write_reply t trail.b) ∙ length-map (of_key number_of_response t trail.b) write_reply in
-          omega (arith, done.answers, answers)
+          omega (arith, done.answers, done.many, beats-some (of_key number_of_asked t done.front), answers)
 
-      -- of a read of one part
-      reads-answered : (part : Addr) → (schedule.reads t).parts ≡ part ∷ [] → ComesBefore schedule.reads t u → lower_of_parts s.shape (schedule.reads t).parts ≢ lower_of_parts s.shape (schedule.reads u).parts →
-          is_asked false u trail ≡ true → part.len < length (of_key number_of_read_data t trail.r)
-      reads-answered part one before apart come =
+      reads-answered : ComesBefore schedule.reads t u → 0 < length (schedule.reads t).parts → lower_of_parts s.shape (schedule.reads t).parts ≢ lower_of_parts s.shape (schedule.reads u).parts →
+          is_asked false u trail ≡ true → length (beats_of_parts (schedule.reads t).parts) ≤ length (of_key number_of_read_data t trail.r)
+      reads-answered before some apart come =
           let there : length (of_key number_of_asked u (reads_asked trail)) ≡ length (of_key number_of_address u trail.ar) =
           ap length (of_key-map number_of_asked burst_asked u trail.ar) ∙ length-map (of_key number_of_address u trail.ar) burst_asked in
           let done =
           answered-before schedule.reads (λ k. lower_of_parts s.shape (schedule.reads k).parts) (reads_asked trail) (read_replies trail) asks.reads.whole_before_the_next asks.reads.one_id_at_a_time
-          both-in_order.1.0 both-in_order.1.1 t u before (omega (arith, ap length one)) apart (omega (arith, there, some-asked false u trail come)) in
+          both-in_order.1.0 both-in_order.1.1 t u before some apart (omega (arith, there, some-asked false u trail come)) in
           let answers : length (of_key number_of_reply t (read_replies trail)) ≡ length (of_key number_of_read_data t trail.r) =
           ap length (of_key-map number_of_reply read_reply t trail.r) ∙ length-map (of_key number_of_read_data t trail.r) read_reply in
-          let address = map-from burst_asked trail.ar done.place done.request done.at in
-          let number : number_of_address address.0 ≡ t = ap number_of_asked address.2 ∙ done.same_number in
-          let Long : Addr → Type 0 = λ a. a.len ≡ part.len in
-          let parts : All Long (schedule.reads t).parts = subst (All Long) (sym one) (All-cons Long part [] refl (All-nil Long)) in
-          let own = all-unmap Long without_id (of_key number_of_address t trail.ar) (All_front Long (asks.reads.asks_only_its_parts t) parts) in
-          let among = filter-has (λ (a : Addr). number_of_address a == t) trail.ar done.place address.0 address.1 (eq-eqb (number_of_address address.0) t number) in
-          let long : address.0.len ≡ part.len = at-all Long (of_key number_of_address t trail.ar) among.0 address.0 own among.1 in
-          omega (arith, done.answers, answers, long, ap (λ (a : Asked). a.len) address.2)
+          let own = of_key number_of_address t trail.ar in
+          let first : IsPrefix (of_key number_of_asked t done.front) (map burst_asked own) =
+          subst (IsPrefix (of_key number_of_asked t done.front)) (of_key-map number_of_asked burst_asked t trail.ar) done.first in
+          let beats = whole-beats own (of_key number_of_asked t done.front) (schedule.reads t).parts (asks.reads.asks_only_its_parts t) first done.many in
+          omega (arith, done.answers, beats, answers)
 
   -- ---- so its answers are there
 
@@ -185,8 +224,7 @@ module _ (net : Network NodeState) (forms : ℕ → LinkForm) (sound : IsSound n
         lower_of_parts demux.shape share.parts ≢ lower_of_parts demux.shape other.parts → is_asked item.txn.write u (lower_end node_kind net link n) ≡ true → AreAnswersThere net forms sound node s place item own n
     answers-apart link known demux is n u share other comes later less chain apart come =
         let t = item.txn.number in
-        let part = without_id (item_request item) in
-        let one : share.parts ≡ part ∷ [] = (same-on net forms sound node s place item own link share comes).parts in
+        let some = some-on net forms sound node s place item own link share comes in
         record {
           link = link;
           known = known;
@@ -195,14 +233,17 @@ module _ (net : Network NodeState) (forms : ℕ → LinkForm) (sound : IsSound n
           responses = λ writes.
               let mine : (schedules net forms sound link).writes t ≡ share = written-share net forms sound node s place item own link share comes writes in
               let its : (schedules net forms sound link).writes u ≡ other = carried-is net forms sound true link u other (ap (λ (b : Bool). carried node_kind net b link u) (sym writes) ∙ later) in
-              writes-answered link known demux is n t u (less, ap (λ (x : Share). x.chain) mine ∙ chain ∙ sym (ap (λ (x : Share). x.chain) its))
-              (omega (arith, ap (λ (x : Share). length x.parts) mine, ap length one))
+              subst (λ (x : Share). length x.parts ≤ length (of_key number_of_response t (lower_end node_kind net link n).b)) mine
+              (writes-answered link known demux is n t u (less, ap (λ (x : Share). x.chain) mine ∙ chain ∙ sym (ap (λ (x : Share). x.chain) its))
+              (omega (arith, ap (λ (x : Share). length x.parts) mine, some))
               (λ same. apart (sym (ap (λ (x : Share). lower_of_parts demux.shape x.parts) mine) ∙ same ∙ ap (λ (x : Share). lower_of_parts demux.shape x.parts) its))
-              (subst (λ (b : Bool). is_asked b u (lower_end node_kind net link n) ≡ true) writes come);
+              (subst (λ (b : Bool). is_asked b u (lower_end node_kind net link n) ≡ true) writes come));
           beats = λ reads.
               let mine : (schedules net forms sound link).reads t ≡ share = read-share net forms sound node s place item own link share comes reads in
               let its : (schedules net forms sound link).reads u ≡ other = carried-is net forms sound false link u other (ap (λ (b : Bool). carried node_kind net b link u) (sym reads) ∙ later) in
-              reads-answered link known demux is n t u part (ap (λ (x : Share). x.parts) mine ∙ one) (less, ap (λ (x : Share). x.chain) mine ∙ chain ∙ sym (ap (λ (x : Share). x.chain) its))
+              subst (λ (x : Share). length (beats_of_parts x.parts) ≤ length (of_key number_of_read_data t (lower_end node_kind net link n).r)) mine
+              (reads-answered link known demux is n t u (less, ap (λ (x : Share). x.chain) mine ∙ chain ∙ sym (ap (λ (x : Share). x.chain) its))
+              (omega (arith, ap (λ (x : Share). length x.parts) mine, some))
               (λ same. apart (sym (ap (λ (x : Share). lower_of_parts demux.shape x.parts) mine) ∙ same ∙ ap (λ (x : Share). lower_of_parts demux.shape x.parts) its))
-              (subst (λ (b : Bool). is_asked b u (lower_end node_kind net link n) ≡ true) reads come);
+              (subst (λ (b : Bool). is_asked b u (lower_end node_kind net link n) ≡ true) reads come));
         }

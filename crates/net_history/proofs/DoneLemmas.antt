@@ -5,6 +5,7 @@ use Rattle.std.proofs.lemmas.Bool.{cases_Bool, cases_eq, cases_lt}
 use Rattle.std.proofs.lemmas.List.{length-map, nil_from_length, take_all}
 use Rattle.std.proofs.lemmas.List.Elements.{All-append, All-cons, All-filter, All-nil, All-weaker, filter-append}
 use Rattle.std.proofs.lemmas.Slice.Zip.{length-zip}
+use Rattle.axi_beats.specs.Lanes.{Span}
 use Rattle.axi_beats.specs.declared.beat.RBeat.{RBeat}
 use Rattle.axi_beats.specs.declared.beat.WBeat.{WBeat}
 use Rattle.axi_history.specs.Delivered.{access_due, access_made}
@@ -16,11 +17,12 @@ use Rattle.axi_trail.specs.Words.{number_of_data, number_of_read_data, number_of
 use Rattle.burst_address.specs.Accesses.{answered_bytes}
 use Rattle.manager_node.specs.ManagerState.{ManagerState}
 use Rattle.manager_node.specs.Script.{ScriptItem}
-use Rattle.memory_node.specs.Accesses.{accesses_of, allowed_bytes, beat_span, due_reads, read_addresses}
+use Rattle.memory_node.specs.Accesses.{accesses_of}
 use Rattle.memory_node.specs.Beats.{stored_bytes}
 use Rattle.memory_node.specs.Events.{Access}
 use Rattle.memory_node.specs.MemoryState.{MemoryState}
-use Rattle.net_history.proofs.EndLemmas.{HasSameParts, carried-keeps, carried-same, end-at, end-carried, first-carried, first_share}
+use Rattle.memory_node.specs.WantedReads.{wanted_addresses, wanted_allowed, wanted_due}
+use Rattle.net_history.proofs.EndLemmas.{carried-keeps, carried-some, end-at, end-carried, first-carried, first_share}
 use Rattle.net_history.proofs.EventLemmas.{all-nodes}
 use Rattle.net_history.proofs.ItemLemmas.{among, beat-count, carried-is, now, origin, read-note, schedules, taken-before, write-note}
 use Rattle.net_history.proofs.ManagerRuns.{note_after, own-link, run-keeps}
@@ -29,7 +31,7 @@ use Rattle.net_history.proofs.NetTransactions.{due_of}
 use Rattle.net_history.proofs.ReadLemmas.{IsSpan, allowed-lanes, lanes-count, on-long, reads-whole, spans-within}
 use Rattle.net_history.proofs.RoundLemmas.{IsItem}
 use Rattle.net_history.proofs.ShownLemmas.{shown_read, shown_write}
-use Rattle.net_history.proofs.TargetLemmas.{carried_there, data_count, end-link, ends-at, item-begins, item-reads, item-writes, lanes-in_order, no-events, none-due, own-reads, read_count, reads-named, share-read, share-written, target, writes-named}
+use Rattle.net_history.proofs.TargetLemmas.{carried_there, data_count, end-link, ends-at, item-begins, item-reads, item-writes, lanes-in_order, no-events, none-due, own-reads, read_count, reads-named, share-read, share-written, target, wanted, writes-named}
 use Rattle.net_history.proofs.WhereLemmas.{filled-memory, filled-there, written-where}
 use Rattle.net_history.specs.History.{events_after, nodes_events}
 use Rattle.net_kinds.specs.NodeHolds.{node_holds}
@@ -77,15 +79,12 @@ module _ (net : Network NodeState) (forms : ℕ → LinkForm) (sound : IsSound n
   abbrev there : Share
   there = carried_there net forms sound node s place item own
 
-  -- each link carries the parts of the first one
-  pub same-on : (link : ℕ) (share : Share) → carried node_kind net item.txn.write link number ≡ Some share → HasSameParts (first_share net forms sound its_origin (among net forms sound node s place item own)) share
-  same-on link share comes = carried-same net forms sound its_origin (among net forms sound node s place item own) link share comes
+  -- each link that carries it carries some part of it
+  pub some-on : (link : ℕ) (share : Share) → carried node_kind net item.txn.write link number ≡ Some share → 0 < length share.parts
+  some-on link share comes = carried-some net forms sound its_origin (among net forms sound node s place item own) (omega arith) link share comes
 
   pub keeps-on : (link : ℕ) (share : Share) → carried node_kind net item.txn.write link number ≡ Some share → KeepsBytes node_kind forms its_origin (record { link = link; share = share })
   keeps-on link share comes = carried-keeps net forms sound its_origin (among net forms sound node s place item own) link share comes
-
-  pub same-there : HasSameParts (first_share net forms sound its_origin (among net forms sound node s place item own)) there
-  same-there = same-on _ there (end-carried net forms sound its_origin (among net forms sound node s place item own))
 
   -- all answers to it have been put on a link
   pub record AreAnswersThere (m : ℕ) : Type 0 where
@@ -93,8 +92,8 @@ module _ (net : Network NodeState) (forms : ℕ → LinkForm) (sound : IsSound n
     pub known : link < length net.links
     pub share : Share
     pub comes : carried node_kind net item.txn.write link number ≡ Some share
-    pub responses : item.txn.write ≡ true → 0 < length (of_key number_of_response number (lower_end node_kind net link m).b)
-    pub beats : item.txn.write ≡ false → item.txn.request.len < length (of_key number_of_read_data number (lower_end node_kind net link m).r)
+    pub responses : item.txn.write ≡ true → length share.parts ≤ length (of_key number_of_response number (lower_end node_kind net link m).b)
+    pub beats : item.txn.write ≡ false → length (beats_of_parts share.parts) ≤ length (of_key number_of_read_data number (lower_end node_kind net link m).r)
 
   -- so it is where the manager notes in the next round that it is answered
   pub answers-there : (m : ℕ) → 0 < (note_after net s (suc m) place).answered → AreAnswersThere m
@@ -111,7 +110,7 @@ module _ (net : Network NodeState) (forms : ℕ → LinkForm) (sound : IsSound n
             omega (arith, came, prefix_length (prefix_of_key number_of_response number behind.b));
         beats = λ reads.
             let came = (read-note net forms sound node s place item own (suc m) reads).answered.0 answered in
-            omega (arith, came, prefix_length (prefix_of_key number_of_read_data number behind.r));
+            omega (arith, came, beat-count net forms sound node s place item own, prefix_length (prefix_of_key number_of_read_data number behind.r));
       }
 
   pub written-share : (link : ℕ) (share : Share) → carried node_kind net item.txn.write link number ≡ Some share → item.txn.write ≡ true → (schedules net forms sound link).writes number ≡ share
@@ -124,47 +123,46 @@ module _ (net : Network NodeState) (forms : ℕ → LinkForm) (sound : IsSound n
     abbrev due : List BeatOf
     due = beats_of_parts there.parts
 
-    due-long : length due ≡ suc item.txn.request.len
-    due-long = ap (λ parts. length (beats_of_parts parts)) same-there.parts ∙ beat-count net forms sound node s place item own
+    -- the lanes that are wanted there
+    abbrev lanes_of : BeatOf → Span
+    lanes_of = wanted net forms sound node s place item own c is
 
     -- ---- what is read of a read of which all beats have come
 
-    lanes-there : item.txn.write ≡ false → there.lanes ≡ map (beat_span c.area) due
+    lanes-there : item.txn.write ≡ false → there.lanes ≡ map lanes_of due
     lanes-there reads =
         ap (λ (share : Share). share.lanes) (sym (share-read net forms sound node s place item own c is reads))
-        ∙ ((memory-keeps net forms sound end c is 0).suits.lanes number)
-        ∙ ap (λ (share : Share). map (beat_span c.area) (beats_of_parts share.parts)) (share-read net forms sound node s place item own c is reads)
+        ∙ ((memory-keeps net forms sound end c is 0).lanes number)
+        ∙ ap (λ (share : Share). map lanes_of (beats_of_parts share.parts)) (share-read net forms sound node s place item own c is reads)
 
     abbrev values : ℕ → List ℕ
     values n = map (λ (a : Access). a.byte.value) (accesses_of false number (noted_by node_kind net end n))
 
     -- a link on which all beats of a read stand has as many of its bytes as the memory
     bytes-count : item.txn.write ≡ false → (link : ℕ) (share : Share) → carried node_kind net item.txn.write link number ≡ Some share →
-        (beats : List RBeat) → All (λ (r : RBeat). length r.lanes ≡ 128) beats → suc item.txn.request.len ≤ length beats →
-        length (bytes_on beats share.lanes) ≡ length (flat_map (allowed_bytes c.area) due)
+        (beats : List RBeat) → All (λ (r : RBeat). length r.lanes ≡ 128) beats → length (beats_of_parts share.parts) ≤ length beats →
+        length (bytes_on beats share.lanes) ≡ length (flat_map (wanted_allowed c.area lanes_of) due)
     bytes-count reads link share comes beats whole enough =
         let fits = (is-carried node_kind node_holds net forms sound item.txn.write number link share comes).fits in
         let lanes : share.lanes ≡ flat_map (wanted_lanes (forms link)) share.parts =
         fits.lanes ∙ ap (λ (b : Bool). cond b [] (flat_map (wanted_lanes (forms link)) share.parts)) reads in
-        let count : length share.lanes ≡ suc item.txn.request.len =
-        ap length lanes ∙ lanes-count (forms link) share.parts ∙ ap (λ parts. length (beats_of_parts parts)) (same-on link share comes).parts
-        ∙ beat-count net forms sound node s place item own in
+        let count : length share.lanes ≡ length (beats_of_parts share.parts) = ap length lanes ∙ lanes-count (forms link) share.parts in
         on-long share.lanes beats (subst (All IsSpan) (sym lanes) (spans-within (forms link) item.txn.write share fits)) whole (omega (arith, count, enough))
         ∙ (keeps-on link share comes).lanes ∙ sym (keeps-on _ there (end-carried net forms sound its_origin (among net forms sound node s place item own))).lanes
-        ∙ ap lanes_wanted (lanes-there reads) ∙ sym (allowed-lanes c.area due (lanes-in_order net forms sound node s place item own c is reads))
+        ∙ ap lanes_wanted (lanes-there reads) ∙ sym (allowed-lanes c.area lanes_of due (lanes-in_order net forms sound node s place item own c is))
 
     pub all-read : item.txn.write ≡ false → (link : ℕ) (share : Share) → carried node_kind net item.txn.write link number ≡ Some share →
-        (n : ℕ) (beats : List RBeat) → All (λ (r : RBeat). length r.lanes ≡ 128) beats → suc item.txn.request.len ≤ length beats →
+        (n : ℕ) (beats : List RBeat) → All (λ (r : RBeat). length r.lanes ≡ 128) beats → length (beats_of_parts share.parts) ≤ length beats →
         IsPrefix (bytes_on beats ((schedules net forms sound link).reads number).lanes) ((now net forms sound n).filled number) →
-        (bytes_on beats ((schedules net forms sound link).reads number).lanes ≡ answered_bytes (flat_map (allowed_bytes c.area) due) (values n))
-        × (length (flat_map (read_addresses c.area) due) ≤ length (values n))
+        (bytes_on beats ((schedules net forms sound link).reads number).lanes ≡ answered_bytes (flat_map (wanted_allowed c.area lanes_of) due) (values n))
+        × (length (flat_map (wanted_addresses c.area lanes_of) due) ≤ length (values n))
     all-read reads link share comes n beats whole enough front =
-        let known_there : IsPrefix ((now net forms sound n).filled number) (answered_bytes (flat_map (allowed_bytes c.area) due) (values n)) =
+        let known_there : IsPrefix ((now net forms sound n).filled number) (answered_bytes (flat_map (wanted_allowed c.area lanes_of) due) (values n)) =
         prefix_of_same (filled-there net forms sound its_origin (among net forms sound node s place item own) reads n)
         (filled-memory net forms sound its_origin (among net forms sound node s place item own) reads n c is
-        ∙ ap (λ (share : Share). answered_bytes (flat_map (allowed_bytes c.area) (beats_of_parts share.parts)) (values n)) (share-read net forms sound node s place item own c is reads)) in
+        ∙ ap (λ (share : Share). answered_bytes (flat_map (wanted_allowed c.area lanes_of) (beats_of_parts share.parts)) (values n)) (share-read net forms sound node s place item own c is reads)) in
         let own_share = read-share link share comes reads in
-        reads-whole c.area due (bytes_on beats ((schedules net forms sound link).reads number).lanes) (values n)
+        reads-whole c.area lanes_of due (bytes_on beats ((schedules net forms sound link).reads number).lanes) (values n)
         (ap (λ (o : Share). length (bytes_on beats o.lanes)) own_share ∙ bytes-count reads link share comes beats whole enough) (prefix_trans front known_there)
 
     -- ---- where its answers are there
@@ -176,9 +174,9 @@ module _ (net : Network NodeState) (forms : ℕ → LinkForm) (sound : IsSound n
       writes-done : item.txn.write ≡ true → length (beats_of_parts there.parts) ≤ data_count net forms sound node s place item own c is m
       writes-done writes =
           let came = answers.responses writes in
-          let part : length ((schedules net forms sound answers.link).writes number).parts ≡ 1 =
-          ap (λ (share : Share). length share.parts) (written-share answers.link answers.share answers.comes writes) ∙ ap length (same-on answers.link answers.share answers.comes).parts in
-          let written = written-where net forms sound m number (below.done_when_answered number (omega (arith, part)) (omega (arith, part, came))) in
+          let some = some-on answers.link answers.share answers.comes in
+          let parts = ap (λ (share : Share). length share.parts) (written-share answers.link answers.share answers.comes writes) in
+          let written = written-where net forms sound m number (below.done_when_answered number (omega (arith, parts, some)) (omega (arith, parts, came))) in
           let share = some-share (carried node_kind net true written.link number) written.some in
           let last = end-at net forms sound its_origin (among net forms sound node s place item own) written.link share.0 (ap (λ (b : Bool). carried node_kind net b written.link number) writes ∙ share.1) (written.ends share.0) in
           let link : written.link ≡ c.inner.upper = sym last ∙ end-link net forms sound node s place item own c is in
@@ -186,7 +184,7 @@ module _ (net : Network NodeState) (forms : ℕ → LinkForm) (sound : IsSound n
           subst (λ (l : ℕ). length (of_key number_of_data number (lower_end node_kind net l m).w) ≡ length (beats_of_parts ((schedules net forms sound l).writes number).parts)) link written.all in
           omega (arith, all, ap (λ (s : Share). length (beats_of_parts s.parts)) (share-written net forms sound node s place item own c is writes))
 
-      reads-done : item.txn.write ≡ false → length (flat_map (read_addresses c.area) due) ≤ length (accesses_of false number (noted_by node_kind net end m))
+      reads-done : item.txn.write ≡ false → length (flat_map (wanted_addresses c.area lanes_of) due) ≤ length (accesses_of false number (noted_by node_kind net end m))
       reads-done reads =
           let beats = of_key number_of_read_data number (lower_end node_kind net answers.link m).r in
           let came = answers.beats reads in
@@ -207,12 +205,12 @@ module _ (net : Network NodeState) (forms : ℕ → LinkForm) (sound : IsSound n
         | inr reads ↦
             let made = item-reads net forms sound node s place item own c is m reads in
             let named = reads-named net forms sound node s place item own c is reads in
-            let read = due_reads c.area there (read_count net forms sound node s place item own c is m) in
+            let read = wanted_due c.area lanes_of there (read_count net forms sound node s place item own c is m) in
             let noted = accesses_of false number (noted_by node_kind net end m) in
             let count : length noted ≡ length read = sym (length-map noted (λ (a : Access). a.byte.address)) ∙ ap length (own-reads net forms sound node s place item own c is m reads) in
             let done = reads-done reads in
             let long : length (map access_due (bytes_due (due_of net forms node s item))) ≤ length (map access_made (events_of number (events_after m net))) =
-            omega (arith, ap length made, ap length named, length-map read shown_read, length-map (flat_map (read_addresses c.area) due) shown_read, count, done) in
+            omega (arith, ap length made, ap length named, length-map read shown_read, length-map (flat_map (wanted_addresses c.area lanes_of) due) shown_read, count, done) in
             sym (prefix_whole (map access_made (events_of number (events_after m net))) (map access_due (bytes_due (due_of net forms node s item))) (item-begins net forms sound node s place item own m) long)
       ]
 
@@ -220,10 +218,10 @@ module _ (net : Network NodeState) (forms : ℕ → LinkForm) (sound : IsSound n
     abbrev made : ℕ → List (ℕ × Option ℕ)
     made n = map access_made (events_of number (events_after n net))
 
-    abbrev wanted : List (ℕ × Option ℕ)
-    wanted = map access_due (bytes_due (due_of net forms node s item))
+    abbrev accesses_due : List (ℕ × Option ℕ)
+    accesses_due = map access_due (bytes_due (due_of net forms node s item))
 
-    full-at : made m ≡ wanted
+    full-at : made m ≡ accesses_due
     full-at = elim (ends-at net forms sound its_origin) [
       | inl memory ↦ full-there memory.0 memory.1 m answers
       | inr quiet ↦ ap (map access_made) (no-events net forms sound node s place item own quiet m) ∙ sym (ap (map access_due) (none-due net forms sound node s place item own quiet))
@@ -244,7 +242,7 @@ module _ (net : Network NodeState) (forms : ℕ → LinkForm) (sound : IsSound n
     unfolding count
     count-made n = length-map (events_of number (events_after n net)) access_made
 
-    full-from : (n : ℕ) → m ≤ n → count n ≡ length wanted
+    full-from : (n : ℕ) → m ≤ n → count n ≡ length accesses_due
     full-from zero le =
         let none : m ≡ 0 = omega arith in
         sym (count-made 0) ∙ ap (λ (n : ℕ). length (made n)) (sym none) ∙ ap length full-at
@@ -260,10 +258,10 @@ module _ (net : Network NodeState) (forms : ℕ → LinkForm) (sound : IsSound n
     ]
 
     -- so all is done from then on
-    pub done-from : (n : ℕ) → m ≤ n → made n ≡ wanted
+    pub done-from : (n : ℕ) → m ≤ n → made n ≡ accesses_due
     done-from n le =
         let full = full-from n le in
-        sym (prefix_whole (made n) wanted (item-begins net forms sound node s place item own n) (omega (arith, full, count-made n)))
+        sym (prefix_whole (made n) accesses_due (item-begins net forms sound node s place item own n) (omega (arith, full, count-made n)))
 
     none-new : (n : ℕ) → m ≤ n → All (λ (e : Event). e.number ≡ number → ⊥) (new n)
     none-new n le =

@@ -1,21 +1,22 @@
 -- What is due of a transaction at a memory, as its beats access it.
-use Rattle.std.proofs.Common.{◌≡◌, ◌≤◌, ◌+◌, ◌-◌, [], ◌∷◌, ◌++◌, ℕ, zero, suc, Bool, true, false, cond, List, Option, Some, None, refl, sym, ap, ap₂, ◌∙◌, arith}
+use Rattle.std.proofs.Common.{◌≡◌, ◌≤◌, ◌+◌, ◌-◌, [], ◌∷◌, ◌++◌, ℕ, zero, suc, Bool, true, false, List, Option, Some, None, refl, sym, ap, ap₂, ◌∙◌, arith}
 use Rattle.std.specs.Prelude.{All, filter, flat_map, map, slice_index}
 use Rattle.std.specs.List.{range_with_len}
 use Rattle.std.proofs.lemmas.List.{map-append}
 use Rattle.std.proofs.lemmas.List.Concat.{flat_map-cons}
 use Rattle.std.proofs.lemmas.List.Elements.{All-head, All-tail, filter-append}
 use Rattle.std.proofs.lemmas.Simd.{map-map}
+use Rattle.axi_beats.specs.Lanes.{Span}
 use Rattle.axi_beats.specs.declared.beat.WBeat.{WBeat}
 use Rattle.axi_history.specs.Delivered.{access_due}
 use Rattle.axi_history.specs.Records.{NamedByte}
 use Rattle.axi_trail.specs.Schedule.{Share}
 use Rattle.burst_address.specs.Bytes.{Byte}
-use Rattle.burst_address.specs.Lanes.{first_lane, lane_address, last_lane, strobed_lanes, valid_lanes, valid_span, word_address}
-use Rattle.memory_node.specs.Accesses.{allowed_bytes, read_addresses}
+use Rattle.burst_address.specs.Lanes.{lane_address, strobed_lanes, word_address}
 use Rattle.memory_node.specs.Beats.{stored_bytes}
 use Rattle.memory_node.specs.MemoryArea.{MemoryArea}
 use Rattle.memory_node.specs.Status.{may_read, may_write}
+use Rattle.memory_node.specs.WantedReads.{lanes_of_span, lanes_read, wanted_addresses, wanted_allowed}
 use Rattle.net_history.proofs.ShownLemmas.{shown_read, shown_write}
 use Rattle.net_history.specs.Due.{byte_named, bytes_carried, strobed_of_beat, wanted_of_beat}
 use Rattle.node_shape.specs.LinkForm.{LinkForm, bytes_within, wanted_span}
@@ -60,55 +61,56 @@ shifted word a (suc n) =
     let next : (word + a) + 1 ≡ word + (a + 1) = omega arith in
     ap (λ (rest : List ℕ). (word + a) ∷ rest) (ap (λ (from : ℕ). range_with_len from n) next ∙ shifted word (a + 1) n)
 
--- the lanes of a beat are in order
-abbrev pub HasLanes : ℕ → BeatOf → Type 0
-HasLanes bus b = first_lane b.request b.beat bus ≤ last_lane b.request b.beat bus
+-- the wanted lanes of a beat are in order
+abbrev pub HasLanes : (BeatOf → Span) → BeatOf → Type 0
+HasLanes wanted b = (wanted b).low ≤ (wanted b).high
 
-module _ (area : MemoryArea) (form : LinkForm) (full : form.lite ≡ false) (same : form.bus ≡ area.bus) where
+-- at a memory of which these lanes are wanted
+module _ (area : MemoryArea) (wanted : BeatOf → Span) (form : LinkForm) (spans : (b : BeatOf) → wanted_span form b.request b.beat ≡ wanted b) (same : form.bus ≡ area.bus) where
   abbrev name : BeatOf → ℕ → NamedByte
   name b lane = byte_named (may_read area) None (lane_address b.request b.beat area.bus lane)
 
-  wanted-is : (b : BeatOf) → HasLanes area.bus b → wanted_of_beat form (may_read area) b ≡ map (name b) (valid_lanes b.request b.beat area.bus)
+  wanted-is : (b : BeatOf) → HasLanes wanted b → wanted_of_beat form (may_read area) b ≡ map (name b) (lanes_of_span (wanted b))
   wanted-is b order =
       let word = word_address b.request b.beat area.bus in
-      let first = first_lane b.request b.beat area.bus in
-      let last = last_lane b.request b.beat area.bus in
-      let count : last + 1 - first ≡ last - first + 1 = omega arith in
-      ap (λ (lite : Bool). map (byte_named (may_read area) None) (bytes_within (word_address b.request b.beat form.bus) (cond lite (record { low = b.request.tag.low; high = b.request.tag.high }) (valid_span b.request b.beat form.bus)))) full
-      ∙ ap (λ (bus : ℕ). map (byte_named (may_read area) None) (bytes_within (word_address b.request b.beat bus) (valid_span b.request b.beat bus))) same
+      let first = (wanted b).low in
+      let last = (wanted b).high in
+      let count : last + 1 - first ≡ last - first + 1 = omega (arith, order) in
+      ap (λ (span : Span). map (byte_named (may_read area) None) (bytes_within (word_address b.request b.beat form.bus) span)) (spans b)
+      ∙ ap (λ (bus : ℕ). map (byte_named (may_read area) None) (bytes_within (word_address b.request b.beat bus) (wanted b))) same
       ∙ ap (λ (n : ℕ). map (byte_named (may_read area) None) (range_with_len (word + first) n)) count
       ∙ ap (map (byte_named (may_read area) None)) (shifted word first (last - first + 1))
       ∙ map-map (byte_named (may_read area) None) (λ k. word + k) (range_with_len first (last - first + 1))
 
-  wanted-beat : (b : BeatOf) → HasLanes area.bus b → map access_due (filter is_allowed (wanted_of_beat form (may_read area) b)) ≡ map shown_read (read_addresses area b)
+  wanted-beat : (b : BeatOf) → HasLanes wanted b → map access_due (filter is_allowed (wanted_of_beat form (may_read area) b)) ≡ map shown_read (wanted_addresses area wanted b)
   wanted-beat b order =
-      let lanes = filter (λ lane. may_read area (lane_address b.request b.beat area.bus lane)) (valid_lanes b.request b.beat area.bus) in
+      let lanes = lanes_read area wanted b in
       ap (λ (bytes : List NamedByte). map access_due (filter is_allowed bytes)) (wanted-is b order)
-      ∙ ap (map access_due) (filter_map is_allowed (name b) (valid_lanes b.request b.beat area.bus)) ∙ map-map access_due (name b) lanes
+      ∙ ap (map access_due) (filter_map is_allowed (name b) (lanes_of_span (wanted b))) ∙ map-map access_due (name b) lanes
       ∙ sym (map-map shown_read (λ lane. lane_address b.request b.beat area.bus lane) lanes)
 
-  allowed-beat : (b : BeatOf) → HasLanes area.bus b → map is_allowed (wanted_of_beat form (may_read area) b) ≡ allowed_bytes area b
-  allowed-beat b order = ap (map is_allowed) (wanted-is b order) ∙ map-map is_allowed (name b) (valid_lanes b.request b.beat area.bus)
+  allowed-beat : (b : BeatOf) → HasLanes wanted b → map is_allowed (wanted_of_beat form (may_read area) b) ≡ wanted_allowed area wanted b
+  allowed-beat b order = ap (map is_allowed) (wanted-is b order) ∙ map-map is_allowed (name b) (lanes_of_span (wanted b))
 
-  pub reads-due : (bs : List BeatOf) → All (HasLanes area.bus) bs →
-      map access_due (filter is_allowed (flat_map (wanted_of_beat form (may_read area)) bs)) ≡ map shown_read (flat_map (read_addresses area) bs)
+  pub reads-due : (bs : List BeatOf) → All (HasLanes wanted) bs →
+      map access_due (filter is_allowed (flat_map (wanted_of_beat form (may_read area)) bs)) ≡ map shown_read (flat_map (wanted_addresses area wanted) bs)
   reads-due [] order = refl
   reads-due (b ∷ bs) order =
       let named = wanted_of_beat form (may_read area) in
       ap (λ (bytes : List NamedByte). map access_due (filter is_allowed bytes)) (flat_map-cons named b bs)
       ∙ ap (map access_due) (filter-append is_allowed (named b) (flat_map named bs))
       ∙ map-append access_due (filter is_allowed (named b)) (filter is_allowed (flat_map named bs))
-      ∙ ap₂ (λ (front back : List (ℕ × Option ℕ)). front ++ back) (wanted-beat b (All-head (HasLanes area.bus) b bs order)) (reads-due bs (All-tail (HasLanes area.bus) b bs order))
-      ∙ sym (map-append shown_read (read_addresses area b) (flat_map (read_addresses area) bs))
-      ∙ sym (ap (map shown_read) (flat_map-cons (read_addresses area) b bs))
+      ∙ ap₂ (λ (front back : List (ℕ × Option ℕ)). front ++ back) (wanted-beat b (All-head (HasLanes wanted) b bs order)) (reads-due bs (All-tail (HasLanes wanted) b bs order))
+      ∙ sym (map-append shown_read (wanted_addresses area wanted b) (flat_map (wanted_addresses area wanted) bs))
+      ∙ sym (ap (map shown_read) (flat_map-cons (wanted_addresses area wanted) b bs))
 
-  pub reads-allowed : (bs : List BeatOf) → All (HasLanes area.bus) bs → map is_allowed (flat_map (wanted_of_beat form (may_read area)) bs) ≡ flat_map (allowed_bytes area) bs
+  pub reads-allowed : (bs : List BeatOf) → All (HasLanes wanted) bs → map is_allowed (flat_map (wanted_of_beat form (may_read area)) bs) ≡ flat_map (wanted_allowed area wanted) bs
   reads-allowed [] order = refl
   reads-allowed (b ∷ bs) order =
       let named = wanted_of_beat form (may_read area) in
       ap (map is_allowed) (flat_map-cons named b bs) ∙ map-append is_allowed (named b) (flat_map named bs)
-      ∙ ap₂ (λ (front back : List Bool). front ++ back) (allowed-beat b (All-head (HasLanes area.bus) b bs order)) (reads-allowed bs (All-tail (HasLanes area.bus) b bs order))
-      ∙ sym (flat_map-cons (allowed_bytes area) b bs)
+      ∙ ap₂ (λ (front back : List Bool). front ++ back) (allowed-beat b (All-head (HasLanes wanted) b bs order)) (reads-allowed bs (All-tail (HasLanes wanted) b bs order))
+      ∙ sym (flat_map-cons (wanted_allowed area wanted) b bs)
 
 -- where nothing may be accessed, nothing is due
 pub none-allowed : (form : LinkForm) (write : Bool) (share : Share) → filter is_allowed (bytes_carried form (λ address. false) write share) ≡ []

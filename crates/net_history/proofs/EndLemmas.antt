@@ -1,28 +1,21 @@
--- Where the way of a transaction ends, and that each of its links carries its bursts and its responses: no kind of node cuts a
--- burst. What lanes its bytes stand on is the link's own.
+-- Where the way of a transaction ends, that each of its links carries some part of it with its bytes, and that no more
+-- responses come back than it has parts and beats.
 use Rattle.std.proofs.Common.{◌≡◌, ◌<◌, [], ◌∷◌, ℕ, Bool, List, Option, Some, None, length, refl, sym, ap, ◌∙◌, subst, inl, inr, arith}
-use Rattle.std.specs.Prelude.{◌≤◌, Contains, if◌then◌else◌, slice_get, true, false, zip}
-use Rattle.std.proofs.lemmas.List.{length-map}
-use Rattle.std.proofs.lemmas.Slice.Zip.{length-zip}
-use Rattle.error_node.specs.ErrorTable.{error_service}
-use Rattle.memory_node.specs.MemoryTable.{memory_service}
-use Rattle.subordinate.specs.Parts.{BeatOf, beats_of_parts}
-use Rattle.subordinate.specs.Service.{Service, worst_of_beats}
-use Rattle.subordinate.specs.Tracks.{ends_with}
+use Rattle.std.specs.Prelude.{◌≤◌, Contains, slice_get, true, false}
+use Rattle.subordinate.specs.Parts.{beats_of_parts}
 use Rattle.std.specs.Option.{option_map_or}
 use Rattle.std.proofs.lemmas.Bool.{cases_eq}
 use Rattle.std.proofs.lemmas.Option.{none-some, same_Some}
-use Rattle.axi_beats.specs.declared.beat.Addr.{Addr}
-use Rattle.axi_beats.specs.declared.beat.WBeat.{WBeat}
 use Rattle.axi_beats.specs.declared.response.Resp.{Resp}
 use Rattle.axi_trail.specs.Schedule.{Share}
 use Rattle.net_history.specs.Due.{last_hop, way_end}
+use Rattle.net_kinds.proofs.CutLemmas.{few-responses_end, few-responses_merge, some-part_goes_on}
+use Rattle.net_kinds.specs.NodeCuts.{most_responses}
 use Rattle.net_kinds.specs.NodeHolds.{node_holds}
-use Rattle.net_kinds.specs.NodeKind.{KindName, NodeState, StateOf, kind_by_name, node_kind}
-use Rattle.net_kinds.specs.NodeKind.KindName.{ADemux, AManager, AMemory, AMux, ARemap, ASlice, AnError, AnUp}
+use Rattle.net_kinds.specs.NodeKind.{NodeState, node_kind}
 use Rattle.net_model.specs.Network.{Network, lower_node}
 use Rattle.net_model.specs.Wired.{IsWired}
-use Rattle.net_ways.proofs.HopLemmas.{IsEnd, IsJoined, IsStep, behind, share-further, share-here}
+use Rattle.net_ways.proofs.HopLemmas.{IsEnd, IsJoined, behind, share-further, share-here}
 use Rattle.net_ways.proofs.OriginLemmas.{HasItsWay, is-found, its-way}
 use Rattle.net_ways.proofs.WayLemmas.{keeps-there}
 use Rattle.net_ways.specs.Sound.{IsSound}
@@ -32,103 +25,59 @@ use Rattle.node_core.specs.Acted.{Acted}
 use Rattle.node_shape.specs.LinkForm.{LinkForm}
 use Rattle.node_shape.specs.Way.{Origin, start_here, with_responses}
 
--- ---- no kind cuts a burst
+-- ---- what nodes make of transactions that they cut
 
-cut-of_kind : (name : KindName) (s : StateOf name) (share : Share) → (((kind_by_name name).way s).cut share).parts ≡ share.parts
-cut-of_kind ASlice s share = refl
-cut-of_kind AMemory s share = refl
-cut-of_kind AManager s share = refl
-cut-of_kind AMux s share = refl
-cut-of_kind AnError s share = refl
-cut-of_kind ADemux s share = refl
-cut-of_kind ARemap s share = refl
-cut-of_kind AnUp s share = refl
-
-merged-of_kind : (name : KindName) (s : StateOf name) (write : Bool) (share : Share) (below : List Resp) → ((kind_by_name name).way s).merged write share below ≡ below
-merged-of_kind ASlice s write share below = refl
-merged-of_kind AMemory s write share below = refl
-merged-of_kind AManager s write share below = refl
-merged-of_kind AMux s write share below = refl
-merged-of_kind AnError s write share below = refl
-merged-of_kind ADemux s write share below = refl
-merged-of_kind ARemap s write share below = refl
-merged-of_kind AnUp s write share below = refl
-
-none-cuts : (nodes : List (Acted NodeState)) (number : ℕ) (share : Share) → ((way_at node_kind nodes number).cut share).parts ≡ share.parts
-none-cuts nodes number share = go (slice_get nodes number)
+way-of_some : (nodes : List (Acted NodeState)) (number : ℕ) (share : Share) → 0 < length share.parts → 0 < length ((way_at node_kind nodes number).cut share).parts
+way-of_some nodes number share some = go (slice_get nodes number)
   where
-    go : (o : Option (Acted NodeState)) → ((option_map_or (λ (node : Acted NodeState). node_kind.way node.state) o (start_here [])).cut share).parts ≡ share.parts
-    go None = refl
-    go (Some node) = cut-of_kind node.state.kind node.state.state share
+    go : (o : Option (Acted NodeState)) → 0 < length ((option_map_or (λ (node : Acted NodeState). node_kind.way node.state) o (start_here [])).cut share).parts
+    go None = some
+    go (Some node) = some-part_goes_on node.state share some
 
-none-merges : (nodes : List (Acted NodeState)) (number : ℕ) (write : Bool) (share : Share) (below : List Resp) → (way_at node_kind nodes number).merged write share below ≡ below
-none-merges nodes number write share below = go (slice_get nodes number)
+way-few_end : (nodes : List (Acted NodeState)) (number : ℕ) (write : Bool) (share : Share) → length ((way_at node_kind nodes number).ends write share) ≤ most_responses write share
+way-few_end nodes number write share = go (slice_get nodes number)
   where
-    go : (o : Option (Acted NodeState)) → (option_map_or (λ (node : Acted NodeState). node_kind.way node.state) o (start_here [])).merged write share below ≡ below
-    go None = refl
-    go (Some node) = merged-of_kind node.state.kind node.state.state write share below
-
--- a node has one response to a part of a write at most, and to a beat of a read
-abbrev pub responses_due : Bool → Share → ℕ
-responses_due write share = if write then length share.parts else length (beats_of_parts share.parts)
-
-service-few : {D : Type 0} (service : Service D) (write : Bool) (share : Share) → length (ends_with service write share) ≤ responses_due write share
-service-few service true share =
-    let answer : Addr × List WBeat → Resp = λ p. worst_of_beats service p.0 0 p.1 in
-    omega (arith, length-map (zip share.parts share.write_data) answer, length-zip share.parts share.write_data)
-service-few service false share =
-    let status : BeatOf → Resp = λ b. service.beat_status b.request b.beat in
-    omega (arith, length-map (beats_of_parts share.parts) status)
-
-ends-of_kind : (name : KindName) (s : StateOf name) (write : Bool) (share : Share) → length (((kind_by_name name).way s).ends write share) ≤ responses_due write share
-ends-of_kind ASlice s write share = omega arith
-ends-of_kind AMemory s write share = service-few (memory_service s.area) write share
-ends-of_kind AManager s write share = omega arith
-ends-of_kind AMux s write share = omega arith
-ends-of_kind AnError s write share = service-few error_service write share
-ends-of_kind ADemux s write share = omega arith
-ends-of_kind ARemap s write share = omega arith
-ends-of_kind AnUp s write share = omega arith
-
-pub ends-few : (nodes : List (Acted NodeState)) (number : ℕ) (write : Bool) (share : Share) → length ((way_at node_kind nodes number).ends write share) ≤ responses_due write share
-ends-few nodes number write share = go (slice_get nodes number)
-  where
-    go : (o : Option (Acted NodeState)) → length ((option_map_or (λ (node : Acted NodeState). node_kind.way node.state) o (start_here [])).ends write share) ≤ responses_due write share
+    go : (o : Option (Acted NodeState)) → length ((option_map_or (λ (node : Acted NodeState). node_kind.way node.state) o (start_here [])).ends write share) ≤ most_responses write share
     go None = omega arith
-    go (Some node) = ends-of_kind node.state.kind node.state.state write share
+    go (Some node) = few-responses_end node.state write share
 
--- the same bursts and responses
-pub record HasSameParts (one other : Share) : Type 0 where
-  pub parts : other.parts ≡ one.parts
-  pub responses : other.responses ≡ one.responses
+way-few_merge : (nodes : List (Acted NodeState)) (number : ℕ) (write : Bool) (share : Share) (below : List Resp) → length below ≤ most_responses write ((way_at node_kind nodes number).cut share) →
+    length ((way_at node_kind nodes number).merged write share below) ≤ most_responses write share
+way-few_merge nodes number write share below = go (slice_get nodes number)
+  where
+    go : (o : Option (Acted NodeState)) → length below ≤ most_responses write ((option_map_or (λ (node : Acted NodeState). node_kind.way node.state) o (start_here [])).cut share) →
+        length ((option_map_or (λ (node : Acted NodeState). node_kind.way node.state) o (start_here [])).merged write share below) ≤ most_responses write share
+    go None few = few
+    go (Some node) few = few-responses_merge node.state write share below few
 
-same-itself : (share : Share) → HasSameParts share share
-same-itself share = record { parts = refl; responses = refl }
+-- only the parts have a say
+most-same : (write : Bool) (one other : Share) → one.parts ≡ other.parts → most_responses write one ≡ most_responses write other
+most-same true one other same = ap length same
+most-same false one other same = ap (λ parts. length (beats_of_parts parts)) same
 
 module _ (net : Network NodeState) (wired : IsWired node_kind net) (write : Bool) where
-  same-next : (hop next : Hop) → IsStep node_kind node_holds net wired write hop next → HasSameParts hop.share next.share
-  same-next hop next step = record {
-    parts = ap (λ (s : Share). s.parts) step.sent.cut ∙ none-cuts net.nodes (lower_node net.links hop.link) hop.share;
-    responses = sym (step.sent.merged ∙ none-merges net.nodes (lower_node net.links hop.link) write hop.share next.share.responses);
-  }
-
-  -- each link of a way carries the same
-  pub same-along : (hop : Hop) (hops : List Hop) → IsJoined node_kind node_holds net wired write (hop ∷ hops) → (link : ℕ) (share : Share) → share_on link (hop ∷ hops) ≡ Some share → HasSameParts hop.share share
-  same-along hop [] joined link share there = elim (cases_eq hop.link link) [
-    | inl same ↦
-        let is : hop.share ≡ share = same_Some hop.share share (sym (share-here link hop [] same) ∙ there) in
-        subst (HasSameParts hop.share) is (same-itself hop.share)
+  -- some part of it goes by each link of a way
+  some-along : (hop : Hop) (hops : List Hop) → IsJoined node_kind node_holds net wired write (hop ∷ hops) → 0 < length hop.share.parts → (link : ℕ) (share : Share) → share_on link (hop ∷ hops) ≡ Some share → 0 < length share.parts
+  some-along hop [] joined some link share there = elim (cases_eq hop.link link) [
+    | inl same ↦ subst (λ (s : Share). 0 < length s.parts) (same_Some hop.share share (sym (share-here link hop [] same) ∙ there)) some
     | inr other ↦ absurd (none-some share (sym (share-further link hop [] other) ∙ there))
   ]
-  same-along hop (next ∷ more) joined link share there = elim (cases_eq hop.link link) [
-    | inl same ↦
-        let is : hop.share ≡ share = same_Some hop.share share (sym (share-here link hop (next ∷ more) same) ∙ there) in
-        subst (HasSameParts hop.share) is (same-itself hop.share)
+  some-along hop (next ∷ more) joined some link share there = elim (cases_eq hop.link link) [
+    | inl same ↦ subst (λ (s : Share). 0 < length s.parts) (same_Some hop.share share (sym (share-here link hop (next ∷ more) same) ∙ there)) some
     | inr other ↦
-        let first = same-next hop next joined.0 in
-        let rest = same-along next more joined.1 link share (sym (share-further link hop (next ∷ more) other) ∙ there) in
-        record { parts = rest.parts ∙ first.parts; responses = rest.responses ∙ first.responses }
+        let goes : 0 < length next.share.parts =
+        subst (λ (s : Share). 0 < length s.parts) (sym joined.0.sent.cut) (way-of_some net.nodes (lower_node net.links hop.link) hop.share some) in
+        some-along next more joined.1 goes link share (sym (share-further link hop (next ∷ more) other) ∙ there)
   ]
+
+  -- no more responses come back to a link than it has parts and beats
+  few-along : (hop : Hop) (hops : List Hop) → IsJoined node_kind node_holds net wired write (hop ∷ hops) → length hop.share.responses ≤ most_responses write hop.share
+  few-along hop [] joined = subst (λ (rs : List Resp). length rs ≤ most_responses write hop.share) (sym joined.responses) (way-few_end net.nodes (lower_node net.links hop.link) write hop.share)
+  few-along hop (next ∷ more) joined =
+      let number = lower_node net.links hop.link in
+      let cut = most-same write next.share ((way_at node_kind net.nodes number).cut hop.share) (ap (λ (s : Share). s.parts) joined.0.sent.cut) in
+      let below : length next.share.responses ≤ most_responses write ((way_at node_kind net.nodes number).cut hop.share) = subst (λ (n : ℕ). length next.share.responses ≤ n) cut (few-along next more joined.1) in
+      subst (λ (rs : List Resp). length rs ≤ most_responses write hop.share) (sym joined.0.sent.merged) (way-few_merge net.nodes number write hop.share next.share.responses below)
 
   -- the last link carries it
   pub record EndsWell (hop : Hop) (hops : List Hop) : Type 0 where
@@ -196,12 +145,17 @@ module _ (net : Network NodeState) (forms : ℕ → LinkForm) (sound : IsSound n
   end-responses =
       subst (λ (h : Hop). h.share.responses ≡ (way_below node_kind net h.link).ends origin.write h.share) (sym end-is) ends-well.end.responses
 
-  -- each link that carries it carries the same bursts and responses
-  pub carried-same : (link : ℕ) (share : Share) → carried node_kind net origin.write link origin.number ≡ Some share → HasSameParts first_share share
-  carried-same link share there =
+  -- no more responses come back than there are parts and beats
+  pub responses-few : length (responses_from (way_of node_kind net origin)) ≤ most_responses origin.write first_share
+  responses-few =
       let first : Hop = record { link = origin.link; share = with_responses origin.share its.responses } in
-      subst (λ (r : List Resp). HasSameParts (with_responses origin.share r) share) (sym responses-are)
-      (same-along net sound.wired origin.write first its.more its.joined link share (sym (its.is link) ∙ there))
+      subst (λ (r : List Resp). length r ≤ most_responses origin.write (with_responses origin.share r)) (sym responses-are)
+      (few-along net sound.wired origin.write first its.more its.joined)
+
+  -- each link that carries it carries some part of it
+  pub carried-some : 0 < length origin.share.parts → (link : ℕ) (share : Share) → carried node_kind net origin.write link origin.number ≡ Some share → 0 < length share.parts
+  carried-some some link share there =
+      some-along net sound.wired origin.write (record { link = origin.link; share = with_responses origin.share its.responses }) its.more its.joined some link share (sym (its.is link) ∙ there)
 
   -- with its bytes
   pub carried-keeps : (link : ℕ) (share : Share) → carried node_kind net origin.write link origin.number ≡ Some share →

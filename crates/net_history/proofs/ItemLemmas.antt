@@ -17,10 +17,10 @@ use Rattle.manager_node.specs.Beats.{item_request}
 use Rattle.manager_node.specs.ManagerState.{ManagerState}
 use Rattle.manager_node.specs.ManagerTrail.{IsReadNote, IsWriteNote, item_origin}
 use Rattle.manager_node.specs.Script.{ScriptItem}
-use Rattle.net_history.proofs.EndLemmas.{HasSameParts, carried-same, end-carried, end-responses, ends-few, first-carried, first_share, responses_due}
+use Rattle.net_history.proofs.EndLemmas.{first-carried, first_share, responses-few}
 use Rattle.net_history.proofs.ManagerRuns.{at-run, has-origin, manager-keeps, manager_run, note_after, own-link, run-keeps}
 use Rattle.net_history.proofs.RoundLemmas.{IsItem}
-use Rattle.net_history.specs.Due.{way_end}
+use Rattle.net_kinds.specs.NodeCuts.{most_responses}
 use Rattle.net_kinds.specs.NodeKind.{NodeState, node_kind}
 use Rattle.net_model.specs.Network.{Network, lower_node, upper_node}
 use Rattle.net_runs.proofs.RoundLemmas.{links-run}
@@ -100,26 +100,16 @@ module _ (net : Network NodeState) (forms : ℕ → LinkForm) (sound : IsSound n
         ap (λ (bs : List BeatOf). length bs) (append-nil (map beat (range_with_len 0 (beats_of (without_id (item_request item))))))
         ∙ length-map (range_with_len 0 (beats_of (without_id (item_request item)))) beat ∙ length-range_with_len 0 (beats_of (without_id (item_request item))) ∙ more
 
-    responses-few : length its_responses ≤ responses_due item.txn.write (first_share net forms sound origin among)
-    responses-few =
-        let end = way_end net forms origin in
-        let same : HasSameParts (first_share net forms sound origin among) end.share =
-        carried-same net forms sound origin among end.link end.share (end-carried net forms sound origin among) in
-        let few = ends-few net.nodes (lower_node net.links end.link) item.txn.write end.share in
-        let due : responses_due item.txn.write end.share ≡ responses_due item.txn.write (first_share net forms sound origin among) = due-same item.txn.write end.share (first_share net forms sound origin among) same.parts in
-        omega (arith, few, due, ap (λ (r : List Resp). length r) (sym same.responses ∙ end-responses net forms sound origin among))
-      where
-        due-same : (write : Bool) (one other : Share) → one.parts ≡ other.parts → responses_due write one ≡ responses_due write other
-        due-same true one other same = ap length same
-        due-same false one other same = ap (λ parts. length (beats_of_parts parts)) same
+    responses-most : length its_responses ≤ most_responses item.txn.write (first_share net forms sound origin among)
+    responses-most = responses-few net forms sound origin among
 
     pub one-response : item.txn.write ≡ true → length its_responses ≤ 1
-    one-response writes = subst (λ (b : Bool). length its_responses ≤ responses_due b (first_share net forms sound origin among)) writes responses-few
+    one-response writes = subst (λ (b : Bool). length its_responses ≤ most_responses b (first_share net forms sound origin among)) writes responses-most
 
     pub beat-responses : item.txn.write ≡ false → length its_responses ≤ suc item.txn.request.len
     beat-responses reads =
         let few : length its_responses ≤ length (beats_of_parts (first_share net forms sound origin among).parts) =
-        subst (λ (b : Bool). length its_responses ≤ responses_due b (first_share net forms sound origin among)) reads responses-few in
+        subst (λ (b : Bool). length its_responses ≤ most_responses b (first_share net forms sound origin among)) reads responses-most in
         omega (arith, few, beat-count)
 
     module _ (n : ℕ) where

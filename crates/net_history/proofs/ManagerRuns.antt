@@ -18,7 +18,7 @@ use Rattle.net_history.proofs.RunStates.{acted_as, holds-at, run_state, stands-a
 use Rattle.net_history.specs.History.{manager_by, manager_of}
 use Rattle.net_kinds.specs.NodeHolds.{node_holds}
 use Rattle.net_kinds.specs.NodeKind.{KindName, NodeState, StateOf, node_kind}
-use Rattle.net_kinds.specs.NodeKind.KindName.{ADemux, AManager, AMemory, AMux, ARemap, ASlice, AnError, AnUp}
+use Rattle.net_kinds.specs.NodeKind.KindName.{ADemux, ALite, ALiteMemory, AManager, AMemory, AMux, ARemap, ASlice, ASplit, AnError, AnUp}
 use Rattle.net_model.specs.Network.{Network, node_next, upper_node}
 use Rattle.net_runs.proofs.ContractFacts.{at-some}
 use Rattle.net_runs.proofs.RoundLemmas.{node-after}
@@ -72,11 +72,14 @@ module _ (net : Network NodeState) where
       of-kind AManager s out at = each s (record { out = out; at = at })
       of-kind ASlice s out at = none
       of-kind AMemory s out at = none
+      of-kind ALiteMemory s out at = none
       of-kind AMux s out at = none
       of-kind AnError s out at = none
       of-kind ADemux s out at = none
       of-kind ARemap s out at = none
       of-kind AnUp s out at = none
+      of-kind ASplit s out at = none
+      of-kind ALite s out at = none
 
       of-node : (a : Acted NodeState) → slice_get (nodes_after node_kind net n) k ≡ Some a → Q (made a)
       of-node a at =

@@ -16,7 +16,7 @@ use Rattle.net_history.proofs.RunStates.{acted_as}
 use Rattle.net_history.specs.Due.{own_transactions, transaction_from, transactions_from, transactions_of}
 use Rattle.net_history.specs.History.{manager_of}
 use Rattle.net_kinds.specs.NodeKind.{KindName, NodeState, StateOf}
-use Rattle.net_kinds.specs.NodeKind.KindName.{ADemux, AManager, AMemory, AMux, ARemap, ASlice, AnError, AnUp}
+use Rattle.net_kinds.specs.NodeKind.KindName.{ADemux, ALite, ALiteMemory, AManager, AMemory, AMux, ARemap, ASlice, ASplit, AnError, AnUp}
 use Rattle.net_model.specs.Network.{Network}
 use Rattle.node_core.specs.Acted.{Acted}
 use Rattle.node_shape.specs.LinkForm.{LinkForm}
@@ -56,11 +56,14 @@ module _ (net : Network NodeState) (forms : ℕ → LinkForm) where
     all-here node AManager s out at = own-all P node s (each node s (record { out = out; at = at }))
     all-here node ASlice s out at = All-nil P
     all-here node AMemory s out at = All-nil P
+    all-here node ALiteMemory s out at = All-nil P
     all-here node AMux s out at = All-nil P
     all-here node AnError s out at = All-nil P
     all-here node ADemux s out at = All-nil P
     all-here node ARemap s out at = All-nil P
     all-here node AnUp s out at = All-nil P
+    all-here node ASplit s out at = All-nil P
+    all-here node ALite s out at = All-nil P
 
     all-from : (first : ℕ) (nodes : List (Acted NodeState)) → ArePart first nodes → All P (transactions_from net forms first nodes)
     all-from first [] part = All-nil P
@@ -113,11 +116,14 @@ module _ (net : Network NodeState) (forms : ℕ → LinkForm) where
   none-here node other AManager s out apart = none-are node other s s.script apart
   none-here node other ASlice s out apart = refl
   none-here node other AMemory s out apart = refl
+  none-here node other ALiteMemory s out apart = refl
   none-here node other AMux s out apart = refl
   none-here node other AnError s out apart = refl
   none-here node other ADemux s out apart = refl
   none-here node other ARemap s out apart = refl
   none-here node other AnUp s out apart = refl
+  none-here node other ASplit s out apart = refl
+  none-here node other ALite s out apart = refl
 
   none-from : (first other : ℕ) (nodes : List (Acted NodeState)) → other < first → filter (is_by other) (transactions_from net forms first nodes) ≡ []
   none-from first other [] less = refl

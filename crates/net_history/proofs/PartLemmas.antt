@@ -13,7 +13,7 @@ use Rattle.net_history.proofs.RunStates.{acted_as}
 use Rattle.net_history.specs.Due.{last_hop}
 use Rattle.net_kinds.specs.NodeHolds.{node_holds}
 use Rattle.net_kinds.specs.NodeKind.{KindName, NodeState, StateOf, kind_by_name, node_kind}
-use Rattle.net_kinds.specs.NodeKind.KindName.{ADemux, AManager, AMemory, AMux, ARemap, ASlice, AnError, AnUp}
+use Rattle.net_kinds.specs.NodeKind.KindName.{ADemux, ALite, ALiteMemory, AManager, AMemory, AMux, ARemap, ASlice, ASplit, AnError, AnUp}
 use Rattle.net_model.specs.Network.{Network, lower_node}
 use Rattle.net_runs.proofs.ContractFacts.{at-some}
 use Rattle.net_ways.proofs.HopLemmas.{IsJoined, IsStep, behind, is-way, share-here}
@@ -64,9 +64,12 @@ module _ (net : Network NodeState) (forms : ℕ → LinkForm) (sound : IsSound n
       goes-kind ASlice s out at = inl (by-kind ASlice s out at one ∙ sym (by-kind ASlice s out at other))
       goes-kind AManager s out at = inl (by-kind AManager s out at one ∙ sym (by-kind AManager s out at other))
       goes-kind AMemory s out at = inl (by-kind AMemory s out at one ∙ sym (by-kind AMemory s out at other))
+      goes-kind ALiteMemory s out at = inl (by-kind ALiteMemory s out at one ∙ sym (by-kind ALiteMemory s out at other))
       goes-kind AMux s out at = inl (by-kind AMux s out at one ∙ sym (by-kind AMux s out at other))
       goes-kind ARemap s out at = inl (by-kind ARemap s out at one ∙ sym (by-kind ARemap s out at other))
       goes-kind AnUp s out at = inl (by-kind AnUp s out at one ∙ sym (by-kind AnUp s out at other))
+      goes-kind ASplit s out at = inl (by-kind ASplit s out at one ∙ sym (by-kind ASplit s out at other))
+      goes-kind ALite s out at = inl (by-kind ALite s out at one ∙ sym (by-kind ALite s out at other))
       goes-kind AnError s out at = inl (by-kind AnError s out at one ∙ sym (by-kind AnError s out at other))
       goes-kind ADemux s out at =
           let is : IsDemuxAt net node s = record { out = out; at = at } in

@@ -16,12 +16,12 @@ use Rattle.burst_address.proofs.LaneBytes.{lanes-ordered}
 use Rattle.burst_address.proofs.Widths.{width-bounds}
 use Rattle.burst_address.specs.Accesses.{answered_bytes}
 use Rattle.burst_address.specs.Formulas.{beats_of}
-use Rattle.burst_address.specs.Lanes.{first_lane, lane_count, last_lane, valid_lanes, valid_span}
+use Rattle.burst_address.specs.Lanes.{valid_span}
 use Rattle.burst_address.specs.Legal.{IsLegal}
 use Rattle.memory_node.proofs.FillLemmas.{count-reads, count_allowed}
 use Rattle.memory_node.proofs.LaneLemmas.{lanes-within}
-use Rattle.memory_node.specs.Accesses.{allowed_bytes, beat_span, read_addresses}
 use Rattle.memory_node.specs.MemoryArea.{MemoryArea}
+use Rattle.memory_node.specs.WantedReads.{lanes_of_span, wanted_addresses, wanted_allowed}
 use Rattle.net_history.proofs.DueLemmas.{HasLanes}
 use Rattle.net_history.proofs.ListLemmas.{All-flat}
 use Rattle.node_shape.specs.LinkForm.{FitsLink, IsWordRequest, LinkForm, lanes_wanted, wanted_lanes, wanted_span}
@@ -86,6 +86,15 @@ module _ (form : LinkForm) (write : Bool) (share : Share) (fits : FitsLink form 
       All-flat IsSpan (wanted_lanes form) share.parts (λ k part at.
       All-map IsSpan (wanted_span form part) (range_with_len 0 (beats_of part)) (λ i d lt. span-within k part at (get_or (range_with_len 0 (beats_of part)) i d)))
 
+  -- of each of its beats the first one isn't behind the last one
+  pub beats-ordered : (wanted : BeatOf → Span) → ((b : BeatOf) → wanted_span form b.request b.beat ≡ wanted b) → All (HasLanes wanted) (beats_of_parts share.parts)
+  beats-ordered wanted spans =
+      All-flat (HasLanes wanted) (λ part. map (λ n. record { request = part; beat = n }) (range_with_len 0 (beats_of part))) share.parts (λ k part at.
+      All-map (HasLanes wanted) (λ n. record { request = part; beat = n }) (range_with_len 0 (beats_of part))
+      (λ i d lt.
+      let b : BeatOf = record { request = part; beat = get_or (range_with_len 0 (beats_of part)) i d } in
+      subst (λ (span : Span). span.low ≤ span.high) (spans b) (span-within k part at b.beat).0))
+
 -- a span for each beat
 pub lanes-count : (form : LinkForm) (parts : List Addr) → length (flat_map (wanted_lanes form) parts) ≡ length (beats_of_parts parts)
 lanes-count form [] = refl
@@ -97,30 +106,32 @@ lanes-count form (part ∷ parts) =
     (lanes-count form parts)
     ∙ sym (length-append (beats part) (beats_of_parts parts)) ∙ sym (ap length (flat_map-cons beats part parts))
 
-module _ (area : MemoryArea) where
-  allowed-long : (b : BeatOf) → length (allowed_bytes area b) ≡ lane_count b.request b.beat area.bus
+-- at a memory of which these lanes are wanted
+module _ (area : MemoryArea) (wanted : BeatOf → Span) where
+  allowed-long : (b : BeatOf) → length (wanted_allowed area wanted b) ≡ (wanted b).high - (wanted b).low + 1
   allowed-long b =
-      length-map (valid_lanes b.request b.beat area.bus) _ ∙ length-range_with_len (first_lane b.request b.beat area.bus) (lane_count b.request b.beat area.bus)
+      length-map (lanes_of_span (wanted b)) _ ∙ length-range_with_len (wanted b).low ((wanted b).high - (wanted b).low + 1)
 
-  -- a memory has a byte for each lane that is wanted of it
-  pub allowed-lanes : (due : List BeatOf) → All (HasLanes area.bus) due → length (flat_map (allowed_bytes area) due) ≡ lanes_wanted (map (beat_span area) due)
+  -- it has a byte for each lane that is wanted of it
+  pub allowed-lanes : (due : List BeatOf) → All (HasLanes wanted) due → length (flat_map (wanted_allowed area wanted) due) ≡ lanes_wanted (map wanted due)
   allowed-lanes [] order = refl
   allowed-lanes (b ∷ due) order =
-      let ordered : first_lane b.request b.beat area.bus ≤ last_lane b.request b.beat area.bus = All-head (HasLanes area.bus) b due order in
-      let one : length (allowed_bytes area b) ≡ last_lane b.request b.beat area.bus + 1 - first_lane b.request b.beat area.bus = omega (arith, allowed-long b, ordered) in
-      ap length (flat_map-cons (allowed_bytes area) b due) ∙ length-append (allowed_bytes area b) (flat_map (allowed_bytes area) due)
-      ∙ ap₂ (λ (m n : ℕ). m + n) one (allowed-lanes due (All-tail (HasLanes area.bus) b due order))
+      let ordered : (wanted b).low ≤ (wanted b).high = All-head (HasLanes wanted) b due order in
+      let one : length (wanted_allowed area wanted b) ≡ (wanted b).high + 1 - (wanted b).low = omega (arith, allowed-long b, ordered) in
+      ap length (flat_map-cons (wanted_allowed area wanted) b due) ∙ length-append (wanted_allowed area wanted b) (flat_map (wanted_allowed area wanted) due)
+      ∙ ap₂ (λ (m n : ℕ). m + n) one (allowed-lanes due (All-tail (HasLanes wanted) b due order))
 
   -- as many addresses are read as bytes may be read
-  pub reads-counted : (due : List BeatOf) → length (flat_map (read_addresses area) due) ≡ count_allowed (flat_map (allowed_bytes area) due)
-  reads-counted due = sym (count-reads area (beat_span area) due)
+  pub reads-counted : (due : List BeatOf) → length (flat_map (wanted_addresses area wanted) due) ≡ count_allowed (flat_map (wanted_allowed area wanted) due)
+  reads-counted due = sym (count-reads area wanted due)
 
   -- bytes that have come, one for each byte at the memory
-  pub reads-whole : (due : List BeatOf) (bytes values : List ℕ) → length bytes ≡ length (flat_map (allowed_bytes area) due) → IsPrefix bytes (answered_bytes (flat_map (allowed_bytes area) due) values) →
-      (bytes ≡ answered_bytes (flat_map (allowed_bytes area) due) values) × (length (flat_map (read_addresses area) due) ≤ length values)
+  pub reads-whole : (due : List BeatOf) (bytes values : List ℕ) → length bytes ≡ length (flat_map (wanted_allowed area wanted) due) → IsPrefix bytes (answered_bytes (flat_map (wanted_allowed area wanted) due) values) →
+      (bytes ≡ answered_bytes (flat_map (wanted_allowed area wanted) due) values) × (length (flat_map (wanted_addresses area wanted) due) ≤ length values)
   reads-whole due bytes values long front =
-      let short = filled-short (flat_map (allowed_bytes area) due) values in
-      let same : answered_bytes (flat_map (allowed_bytes area) due) values ≡ bytes =
-      prefix_whole bytes (answered_bytes (flat_map (allowed_bytes area) due) values) front (omega (arith, long, short)) in
-      let all = filled-all (flat_map (allowed_bytes area) due) values (omega (arith, long, ap (λ (bytes : List ℕ). length bytes) same)) in
+      let allowed = flat_map (wanted_allowed area wanted) due in
+      let short = filled-short allowed values in
+      let same : answered_bytes allowed values ≡ bytes =
+      prefix_whole bytes (answered_bytes allowed values) front (omega (arith, long, short)) in
+      let all = filled-all allowed values (omega (arith, long, ap (λ (bytes : List ℕ). length bytes) same)) in
       (sym same, omega (arith, all, reads-counted due))

@@ -6,8 +6,9 @@ use Rattle.std.specs.Bool.{beq}
 use Rattle.std.specs.Option.{option_map_or}
 use Rattle.std.proofs.lemmas.Bool.{and_parts, cases_Bool, cases_eq, eq-eqb, eqb-true, ne_eqb}
 use Rattle.std.proofs.lemmas.List.{map-append}
-use Rattle.std.proofs.lemmas.List.Elements.{All-map, All-weaker}
+use Rattle.std.proofs.lemmas.List.Elements.{All-weaker}
 use Rattle.std.proofs.lemmas.Option.{none-some}
+use Rattle.axi_beats.specs.Lanes.{Span}
 use Rattle.axi_beats.specs.declared.beat.WBeat.{WBeat}
 use Rattle.axi_history.specs.Answered.{values_of}
 use Rattle.axi_history.specs.Delivered.{access_due, access_made, is_write_at}
@@ -15,25 +16,26 @@ use Rattle.axi_history.specs.Records.{Event, bytes_due, events_of}
 use Rattle.axi_link.specs.declared.out.Out.{Out}
 use Rattle.axi_trail.specs.Schedule.{Share, no_share}
 use Rattle.axi_trail.specs.Words.{number_of_data, number_of_read_data}
-use Rattle.burst_address.proofs.LaneBytes.{lanes-ordered}
 use Rattle.burst_address.specs.Accesses.{value_after}
+use Rattle.burst_address.specs.Lanes.{valid_span}
 use Rattle.manager_node.specs.ManagerState.{ManagerState}
 use Rattle.manager_node.specs.Script.{ScriptItem}
-use Rattle.memory_node.specs.Accesses.{accesses_of, allowed_bytes, due_reads, due_writes, read_addresses, writes_at}
+use Rattle.memory_node.specs.Accesses.{accesses_of, due_writes, writes_at}
 use Rattle.memory_node.specs.Beats.{stored_bytes}
 use Rattle.memory_node.specs.Events.{Access}
 use Rattle.memory_node.specs.MemoryArea.{MemoryArea}
-use Rattle.memory_node.specs.MemoryState.{IsRequest, MemoryState}
+use Rattle.memory_node.specs.MemoryState.{MemoryState}
 use Rattle.memory_node.specs.Status.{may_write}
+use Rattle.memory_node.specs.WantedReads.{wanted_addresses, wanted_allowed, wanted_due}
 use Rattle.net_history.proofs.BelongLemmas.{IsOfItem, of-item}
 use Rattle.net_history.proofs.DueLemmas.{HasLanes, is_allowed, none-allowed, reads-allowed, reads-due, writes-due}
 use Rattle.net_history.proofs.EndLemmas.{end-carried, end-known}
 use Rattle.net_history.proofs.EventLemmas.{all-events, events-noted, events_at, node_of_event}
 use Rattle.net_history.proofs.ItemLemmas.{among, carried-is, origin, schedules}
-use Rattle.net_history.proofs.ListLemmas.{All-flat}
 use Rattle.net_history.proofs.ManagerRuns.{from-first}
-use Rattle.net_history.proofs.MemoryRuns.{IsMemoryAt, area-is, has-form, memory-begins, memory-keeps, memory_run, one-upper}
+use Rattle.net_history.proofs.MemoryRuns.{IsMemoryAt, area-is, has-form, memory-keeps, memory_run, memory_state, one-upper, wanted_by}
 use Rattle.net_history.proofs.NetTransactions.{due_of}
+use Rattle.net_history.proofs.ReadLemmas.{beats-ordered}
 use Rattle.net_history.proofs.RoundLemmas.{IsItem}
 use Rattle.net_history.proofs.RunStates.{acted_as, run_state, stands-at}
 use Rattle.net_history.proofs.ShownLemmas.{access_of_event, beq-true, event_value, events-read, events-values, events-written, held-left, shown_read, shown_write}
@@ -41,18 +43,17 @@ use Rattle.net_history.specs.Due.{bytes_carried, fill_of, may_access, may_at_tar
 use Rattle.net_history.specs.History.{event_of, events_after}
 use Rattle.net_kinds.specs.NodeHolds.{node_holds}
 use Rattle.net_kinds.specs.NodeKind.{KindName, NodeState, StateOf, node_kind}
-use Rattle.net_kinds.specs.NodeKind.KindName.{ADemux, AManager, AMemory, AMux, ARemap, ASlice, AnError, AnUp}
+use Rattle.net_kinds.specs.NodeKind.KindName.{ADemux, ALite, ALiteMemory, AManager, AMemory, AMux, ARemap, ASlice, ASplit, AnError, AnUp}
 use Rattle.net_model.specs.Network.{Network}
 use Rattle.net_runs.specs.Run.{lower_end, nodes_after, noted_by, noted_in, queues_after}
 use Rattle.net_ways.proofs.OriginLemmas.{not-carried}
+use Rattle.net_ways.proofs.WayLemmas.{is-carried}
 use Rattle.net_ways.specs.Sound.{IsSound}
 use Rattle.net_ways.specs.Ways.{carried, is_origin, origins_in}
 use Rattle.node_core.specs.Acted.{Acted}
-use Rattle.node_shape.specs.LinkForm.{LinkForm}
+use Rattle.node_shape.specs.LinkForm.{LinkForm, wanted_span}
 use Rattle.node_shape.specs.Way.{Origin}
 use Rattle.memory_node.proofs.AccessLemmas.{nil-of_map}
-use Rattle.std.specs.List.{range_with_len}
-use Rattle.burst_address.specs.Formulas.{beats_of}
 use Rattle.plain_lists.proofs.CutLemmas.{never-cut}
 use Rattle.plain_lists.proofs.KeyLemmas.{filter-filter, of_key-between, of_key-cons, of_key-skip}
 use Rattle.plain_lists.proofs.PartLemmas.{All-middle}
@@ -80,6 +81,15 @@ only-node node address before (e ∷ events) = elim (cases_eq e.node node) [
     never : (write here there : Bool) → here ≡ false → (write && here && there) ≡ false
     never true here there fails = ap (λ (b : Bool). b && there) fails
     never false here there fails = refl
+
+-- both kinds of memory give their bytes alike
+pub may-by : (lite : Bool) (c : MemoryState) (write : Bool) → may_access (memory_state lite c).kind (memory_state lite c).state write ≡ may_access AMemory c write
+may-by true c write = refl
+may-by false c write = refl
+
+pub fill-by : (lite : Bool) (c : MemoryState) → fill_of (memory_state lite c).kind (memory_state lite c).state ≡ c.area.fill
+fill-by true c = refl
+fill-by false c = refl
 
 module _ (net : Network NodeState) (forms : ℕ → LinkForm) (sound : IsSound node_kind net forms) where
   -- ---- a node that is no memory notes nothing
@@ -109,7 +119,8 @@ module _ (net : Network NodeState) (forms : ℕ → LinkForm) (sound : IsSound n
 
   ends-kind : (o : Origin) (name : KindName) (s : StateOf name) (out : Out) → slice_get net.nodes (way_target net forms o) ≡ Some (acted_as name s out) →
       ((c : MemoryState) × IsMemoryAt net (way_target net forms o) c) ⊎ IsQuiet o
-  ends-kind o AMemory s out at = inl (s, record { out = out; at = at })
+  ends-kind o AMemory s out at = inl (s, record { lite = false; out = out; at = at })
+  ends-kind o ALiteMemory s out at = inl (s, record { lite = true; out = out; at = at })
   ends-kind o ASlice s out at = inr (record { noted = quiet-kind (way_target net forms o) ASlice s out at (λ n. refl); may = λ write. ap (λ (x : Option (Acted NodeState)). option_map_or (λ (a : Acted NodeState). may_access a.state.kind a.state.state write) x (λ address. false)) at })
   ends-kind o AManager s out at = inr (record { noted = quiet-kind (way_target net forms o) AManager s out at (λ n. refl); may = λ write. ap (λ (x : Option (Acted NodeState)). option_map_or (λ (a : Acted NodeState). may_access a.state.kind a.state.state write) x (λ address. false)) at })
   ends-kind o AMux s out at = inr (record { noted = quiet-kind (way_target net forms o) AMux s out at (λ n. refl); may = λ write. ap (λ (x : Option (Acted NodeState)). option_map_or (λ (a : Acted NodeState). may_access a.state.kind a.state.state write) x (λ address. false)) at })
@@ -117,6 +128,8 @@ module _ (net : Network NodeState) (forms : ℕ → LinkForm) (sound : IsSound n
   ends-kind o ADemux s out at = inr (record { noted = quiet-kind (way_target net forms o) ADemux s out at (λ n. refl); may = λ write. ap (λ (x : Option (Acted NodeState)). option_map_or (λ (a : Acted NodeState). may_access a.state.kind a.state.state write) x (λ address. false)) at })
   ends-kind o ARemap s out at = inr (record { noted = quiet-kind (way_target net forms o) ARemap s out at (λ n. refl); may = λ write. ap (λ (x : Option (Acted NodeState)). option_map_or (λ (a : Acted NodeState). may_access a.state.kind a.state.state write) x (λ address. false)) at })
   ends-kind o AnUp s out at = inr (record { noted = quiet-kind (way_target net forms o) AnUp s out at (λ n. refl); may = λ write. ap (λ (x : Option (Acted NodeState)). option_map_or (λ (a : Acted NodeState). may_access a.state.kind a.state.state write) x (λ address. false)) at })
+  ends-kind o ASplit s out at = inr (record { noted = quiet-kind (way_target net forms o) ASplit s out at (λ n. refl); may = λ write. ap (λ (x : Option (Acted NodeState)). option_map_or (λ (a : Acted NodeState). may_access a.state.kind a.state.state write) x (λ address. false)) at })
+  ends-kind o ALite s out at = inr (record { noted = quiet-kind (way_target net forms o) ALite s out at (λ n. refl); may = λ write. ap (λ (x : Option (Acted NodeState)). option_map_or (λ (a : Acted NodeState). may_access a.state.kind a.state.state write) x (λ address. false)) at })
 
   pub ends-at : (o : Origin) → ((c : MemoryState) × IsMemoryAt net (way_target net forms o) c) ⊎ IsQuiet o
   ends-at o = go (slice_get net.nodes (way_target net forms o)) refl
@@ -180,6 +193,10 @@ module _ (net : Network NodeState) (forms : ℕ → LinkForm) (sound : IsSound n
     -- ---- where it ends at a memory
 
     module _ (c : MemoryState) (is : IsMemoryAt net target c) where
+      -- the lanes that are wanted of a beat of a read
+      abbrev pub wanted : BeatOf → Span
+      wanted = wanted_by is.lite c.area
+
       pub end-link : (way_end net forms its_origin).link ≡ c.inner.upper
       end-link =
           one-upper net forms sound target c is (way_end net forms its_origin).link (end-known net forms sound its_origin (among net forms sound node s place item own)) refl
@@ -221,10 +238,10 @@ module _ (net : Network NodeState) (forms : ℕ → LinkForm) (sound : IsSound n
             (memory-keeps net forms sound target c is n).accessed.written number ∙ ap (λ (area : MemoryArea). due_writes area ((schedules net forms sound c.inner.upper).writes number) data_count) (area-is net forms sound target c is n)
             ∙ ap (λ (share : Share). due_writes c.area share data_count) (share-written writes)
 
-        pub own-reads : item.txn.write ≡ false → map (λ (a : Access). a.byte.address) (accesses_of false number noted) ≡ due_reads c.area carried_there read_count
+        pub own-reads : item.txn.write ≡ false → map (λ (a : Access). a.byte.address) (accesses_of false number noted) ≡ wanted_due c.area wanted carried_there read_count
         own-reads reads =
-            (memory-keeps net forms sound target c is n).accessed.read number ∙ ap (λ (area : MemoryArea). due_reads area ((schedules net forms sound c.inner.upper).reads number) read_count) (area-is net forms sound target c is n)
-            ∙ ap (λ (share : Share). due_reads c.area share read_count) (share-read reads)
+            (memory-keeps net forms sound target c is n).accessed.read number ∙ ap (λ (area : MemoryArea). wanted_due area (wanted_by is.lite area) ((schedules net forms sound c.inner.upper).reads number) read_count) (area-is net forms sound target c is n)
+            ∙ ap (λ (share : Share). wanted_due c.area wanted share read_count) (share-read reads)
 
         nothing : {X Y : Type 0} (f : X → List Y) (count : ℕ) → flat_map f (take count []) ≡ []
         nothing f zero = refl
@@ -234,8 +251,8 @@ module _ (net : Network NodeState) (forms : ℕ → LinkForm) (sound : IsSound n
         no-reads writes =
             nil-of_map (λ (a : Access). a.byte.address) (accesses_of false number noted)
             ((memory-keeps net forms sound target c is n).accessed.read number
-            ∙ ap (λ (o : Option Share). due_reads (memory_run net c n).area (unwrap_or o no_share) read_count) (none-carried false (λ same. let never : true ≡ false = sym writes ∙ same in absurd (cc)))
-            ∙ nothing (read_addresses (memory_run net c n).area) read_count)
+            ∙ ap (λ (o : Option Share). wanted_due (memory_run net c n).area (wanted_by is.lite (memory_run net c n).area) (unwrap_or o no_share) read_count) (none-carried false (λ same. let never : true ≡ false = sym writes ∙ same in absurd (cc)))
+            ∙ nothing (wanted_addresses (memory_run net c n).area (wanted_by is.lite (memory_run net c n).area)) read_count)
 
         pub no-writes : item.txn.write ≡ false → accesses_of true number noted ≡ []
         no-writes reads =
@@ -252,7 +269,7 @@ module _ (net : Network NodeState) (forms : ℕ → LinkForm) (sound : IsSound n
             ∙ events-written number (events_at net target n) (ap (accesses_of false number) all ∙ no-reads writes)
             ∙ ap (map shown_write) (ap (λ (xs : List Access). map (λ (a : Access). a.byte) (accesses_of true number xs)) all ∙ own-writes writes)
 
-        pub item-reads : item.txn.write ≡ false → map access_made (events_of number (events_after n net)) ≡ map shown_read (due_reads c.area carried_there read_count)
+        pub item-reads : item.txn.write ≡ false → map access_made (events_of number (events_after n net)) ≡ map shown_read (wanted_due c.area wanted carried_there read_count)
         item-reads reads =
             let all = events-noted net target n in
             ap (map access_made) (events-here n)
@@ -262,13 +279,19 @@ module _ (net : Network NodeState) (forms : ℕ → LinkForm) (sound : IsSound n
       -- ---- what is due there
 
       may-is : (write : Bool) → may_at_target net forms write its_origin ≡ may_access AMemory c write
-      may-is write = ap (λ (x : Option (Acted NodeState)). option_map_or (λ (a : Acted NodeState). may_access a.state.kind a.state.state write) x (λ address. false)) is.at
+      may-is write = ap (λ (x : Option (Acted NodeState)). option_map_or (λ (a : Acted NodeState). may_access a.state.kind a.state.state write) x (λ address. false)) is.at ∙ may-by is.lite c write
 
       form-bus : (forms (way_end net forms its_origin).link).bus ≡ c.area.bus
       form-bus = ap (λ (l : ℕ). (forms l).bus) end-link ∙ (has-form net forms sound target c is).bus
 
-      form-full : (forms (way_end net forms its_origin).link).lite ≡ false
-      form-full = ap (λ (l : ℕ). (forms l).lite) end-link ∙ (has-form net forms sound target c is).full
+      form-protocol : (forms (way_end net forms its_origin).link).lite ≡ is.lite
+      form-protocol = ap (λ (l : ℕ). (forms l).lite) end-link ∙ (has-form net forms sound target c is).protocol
+
+      -- the wanted lanes there are those of its protocol
+      spans-are : (b : BeatOf) → wanted_span (forms (way_end net forms its_origin).link) b.request b.beat ≡ wanted b
+      spans-are b =
+          ap (λ (lite : Bool). cond lite (record { low = b.request.tag.low; high = b.request.tag.high }) (valid_span b.request b.beat (forms (way_end net forms its_origin).link).bus)) form-protocol
+          ∙ ap (λ (bus : ℕ). cond is.lite (record { low = b.request.tag.low; high = b.request.tag.high }) (valid_span b.request b.beat bus)) form-bus
 
       pub writes-named : item.txn.write ≡ true → map access_due (bytes_due (due_of net forms node s item)) ≡ map shown_write (flat_map (λ (b : BeatOf × WBeat). stored_bytes c.area b.0.request b.0.beat b.1) (beats_with_data carried_there))
       writes-named writes =
@@ -277,26 +300,24 @@ module _ (net : Network NodeState) (forms : ℕ → LinkForm) (sound : IsSound n
           ∙ ap (λ (bus : ℕ). map access_due (filter is_allowed (flat_map (strobed_of_beat bus (may_write c.area)) (beats_with_data carried_there)))) form-bus
           ∙ writes-due c.area (beats_with_data carried_there)
 
-      pub lanes-in_order : item.txn.write ≡ false → All (HasLanes c.area.bus) (beats_of_parts carried_there.parts)
-      lanes-in_order reads =
-          let suits = (memory-keeps net forms sound target c is 0).suits.reads number in
-          let parts : All (IsRequest c.area.bus) carried_there.parts = subst (λ (share : Share). All (IsRequest c.area.bus) share.parts) (share-read reads) suits in
-          All-flat (HasLanes c.area.bus) (λ part. map (λ n. record { request = part; beat = n }) (range_with_len 0 (beats_of part))) carried_there.parts (λ k part at.
-          All-map (HasLanes c.area.bus) (λ n. record { request = part; beat = n }) (range_with_len 0 (beats_of part))
-          (λ i d lt. lanes-ordered part _ c.area.bus (memory-begins net forms sound target c is).area.bus (at-all (IsRequest c.area.bus) carried_there.parts k part parts at).legal))
+      pub lanes-in_order : All (HasLanes wanted) (beats_of_parts carried_there.parts)
+      lanes-in_order =
+          beats-ordered (forms (way_end net forms its_origin).link) item.txn.write carried_there
+          (is-carried node_kind node_holds net forms sound item.txn.write number (way_end net forms its_origin).link carried_there (end-carried net forms sound its_origin (among net forms sound node s place item own))).fits
+          wanted spans-are
 
-      pub reads-named : item.txn.write ≡ false → map access_due (bytes_due (due_of net forms node s item)) ≡ map shown_read (flat_map (read_addresses c.area) (beats_of_parts carried_there.parts))
+      pub reads-named : item.txn.write ≡ false → map access_due (bytes_due (due_of net forms node s item)) ≡ map shown_read (flat_map (wanted_addresses c.area wanted) (beats_of_parts carried_there.parts))
       reads-named reads =
           ap (λ (b : Bool). map access_due (filter is_allowed (bytes_carried (forms (way_end net forms its_origin).link) (may_at_target net forms b its_origin) b carried_there))) reads
           ∙ ap (λ (may : ℕ → Bool). map access_due (filter is_allowed (flat_map (wanted_of_beat (forms (way_end net forms its_origin).link) may) (beats_of_parts carried_there.parts)))) (may-is false)
-          ∙ reads-due c.area (forms (way_end net forms its_origin).link) form-full form-bus (beats_of_parts carried_there.parts) (lanes-in_order reads)
+          ∙ reads-due c.area wanted (forms (way_end net forms its_origin).link) spans-are form-bus (beats_of_parts carried_there.parts) lanes-in_order
 
       -- which of its bytes may be read
-      pub reads-named_allowed : item.txn.write ≡ false → map is_allowed (due_of net forms node s item).bytes ≡ flat_map (allowed_bytes c.area) (beats_of_parts carried_there.parts)
+      pub reads-named_allowed : item.txn.write ≡ false → map is_allowed (due_of net forms node s item).bytes ≡ flat_map (wanted_allowed c.area wanted) (beats_of_parts carried_there.parts)
       reads-named_allowed reads =
           ap (λ (b : Bool). map is_allowed (bytes_carried (forms (way_end net forms its_origin).link) (may_at_target net forms b its_origin) b carried_there)) reads
           ∙ ap (λ (may : ℕ → Bool). map is_allowed (flat_map (wanted_of_beat (forms (way_end net forms its_origin).link) may) (beats_of_parts carried_there.parts))) (may-is false)
-          ∙ reads-allowed c.area (forms (way_end net forms its_origin).link) form-full form-bus (beats_of_parts carried_there.parts) (lanes-in_order reads)
+          ∙ reads-allowed c.area wanted (forms (way_end net forms its_origin).link) spans-are form-bus (beats_of_parts carried_there.parts) lanes-in_order
 
       -- and the values that it has read
       pub item-values : item.txn.write ≡ false → (n : ℕ) → values_of number (events_after n net) ≡ map (λ (a : Access). a.byte.value) (accesses_of false number (noted_by node_kind net target n))
@@ -315,8 +336,8 @@ module _ (net : Network NodeState) (forms : ℕ → LinkForm) (sound : IsSound n
             (prefix_map shown_write (prefix_flat_map (λ (b : BeatOf × WBeat). stored_bytes c.area b.0.request b.0.beat b.1) (prefix_first (data_count n) (beats_with_data carried_there)))))
         | inr reads ↦
             subst (λ (front : List (ℕ × Option ℕ)). IsPrefix front (map access_due (bytes_due (due_of net forms node s item)))) (sym (item-reads n reads))
-            (subst (IsPrefix (map shown_read (due_reads c.area carried_there (read_count n)))) (sym (reads-named reads))
-            (prefix_map shown_read (prefix_flat_map (read_addresses c.area) (prefix_first (read_count n) (beats_of_parts carried_there.parts)))))
+            (subst (IsPrefix (map shown_read (wanted_due c.area wanted carried_there (read_count n)))) (sym (reads-named reads))
+            (prefix_map shown_read (prefix_flat_map (wanted_addresses c.area wanted) (prefix_first (read_count n) (beats_of_parts carried_there.parts)))))
       ]
 
       -- and a read sees the latest write
@@ -335,7 +356,7 @@ module _ (net : Network NodeState) (forms : ℕ → LinkForm) (sound : IsSound n
           ∙ ap (λ (k : ℕ). value_after (is_write_at k e.address) event_value c.area.fill earlier) (sym at)
 
       fill-is : of_target net forms 0 fill_of its_origin ≡ c.area.fill
-      fill-is = ap (λ (x : Option (Acted NodeState)). option_map_or (λ (a : Acted NodeState). fill_of a.state.kind a.state.state) x 0) is.at
+      fill-is = ap (λ (x : Option (Acted NodeState)). option_map_or (λ (a : Acted NodeState). fill_of a.state.kind a.state.state) x 0) is.at ∙ fill-by is.lite c
 
     pub item-begins : (n : ℕ) → IsPrefix (map access_made (events_of number (events_after n net))) (map access_due (bytes_due (due_of net forms node s item)))
     item-begins n = elim (ends-at its_origin) [

@@ -8,26 +8,30 @@ use Rattle.std.proofs.lemmas.List.{take_all}
 use Rattle.std.proofs.lemmas.List.Concat.{flat_map-cons}
 use Rattle.std.proofs.lemmas.List.Folds.{Any-from_list_any}
 use Rattle.std.proofs.lemmas.Option.{same_Some}
+use Rattle.axi_beats.specs.Lanes.{Span}
 use Rattle.axi_beats.specs.declared.beat.RBeat.{RBeat}
 use Rattle.axi_link.specs.declared.out.Out.{Out}
-use Rattle.axi_trail.specs.Schedule.{Share, bytes_on, no_share}
+use Rattle.axi_trail.specs.Schedule.{Progress, Share, bytes_on, no_share}
 use Rattle.axi_trail.specs.Trail.{trail_below}
 use Rattle.axi_trail.specs.Words.{number_of_data, number_of_read_data}
 use Rattle.burst_address.specs.Accesses.{answered_bytes}
 use Rattle.error_node.specs.ErrorState.{ErrorState}
-use Rattle.memory_node.specs.Accesses.{accesses_of, allowed_before, allowed_bytes}
+use Rattle.lite_memory_node.specs.LiteMemoryTable.{tag_span}
+use Rattle.memory_node.specs.Accesses.{accesses_of, beat_span}
 use Rattle.memory_node.specs.Events.{Access}
 use Rattle.memory_node.specs.MemoryArea.{MemoryArea}
 use Rattle.memory_node.specs.MemoryState.{MemoryState}
+use Rattle.memory_node.specs.MemoryTrail.{knows_on, memory_knows}
+use Rattle.memory_node.specs.WantedReads.{wanted_allowed, wanted_before}
 use Rattle.net_history.proofs.EndLemmas.{end-at}
 use Rattle.net_history.proofs.ItemLemmas.{now, schedules}
 use Rattle.net_history.proofs.ManagerRuns.{from-first}
-use Rattle.net_history.proofs.MemoryRuns.{IsMemoryAt, area-is, ends-here, memory_run, upper-is, upper-link}
+use Rattle.net_history.proofs.MemoryRuns.{IsMemoryAt, area-is, ends-here, knows-by, memory-stands, memory_run, runs-alike, upper-is, upper-link, wanted_by}
 use Rattle.net_history.proofs.RunStates.{acted_as, run_state, stands-at}
 use Rattle.net_history.specs.Due.{way_target}
 use Rattle.net_kinds.specs.NodeHolds.{node_holds}
 use Rattle.net_kinds.specs.NodeKind.{KindName, NodeState, StateOf, node_kind}
-use Rattle.net_kinds.specs.NodeKind.KindName.{ADemux, AManager, AMemory, AMux, ARemap, ASlice, AnError, AnUp}
+use Rattle.net_kinds.specs.NodeKind.KindName.{ADemux, ALite, ALiteMemory, AManager, AMemory, AMux, ARemap, ASlice, ASplit, AnError, AnUp}
 use Rattle.net_model.specs.Network.{Network, lower_node}
 use Rattle.net_runs.specs.Run.{chosen, lower_end, nodes_after, noted_by, passed_by, queues_after}
 use Rattle.net_ways.proofs.OriginLemmas.{own-upper}
@@ -40,7 +44,7 @@ use Rattle.node_shape.specs.Way.{Origin, start_here}
 use Rattle.plain_lists.proofs.PrefixLemmas.{prefix_itself, prefix_nil}
 use Rattle.plain_lists.specs.Keys.{of_key}
 use Rattle.plain_lists.specs.Prefixes.{IsPrefix}
-use Rattle.subordinate.specs.Parts.{beats_of_parts}
+use Rattle.subordinate.specs.Parts.{BeatOf, beats_of_parts}
 use Rattle.subordinate.specs.Tracks.{is_written}
 
 all-none : {X : Type 0} (f : ℕ → List X) (first count : ℕ) → ((i : ℕ) → f (first + i) ≡ []) → flat_map f (range_with_len first count) ≡ []
@@ -111,13 +115,20 @@ module _ (net : Network NodeState) (forms : ℕ → LinkForm) (sound : IsSound n
       let some = Any-from_list_any (λ (node : ℕ). (known_at node_kind net (schedules net forms sound) m node).written number) (range_with_len 0 (length net.nodes)) known in
       at-some_node some.1 (slice_get (nodes_after node_kind net m) some.1) refl some.4
     where
-      of-kind : (k : ℕ) (name : KindName) (s : StateOf name) (out : Out) → slice_get net.nodes k ≡ Some (acted_as name s out) →
-          (node_kind.knows (schedules net forms sound) (record { kind = name; state = run_state net name s m }) (passed_by node_kind net k m)).written number ≡ true → IsWritten m number
-      of-kind k AMemory s out at is =
-          let here : IsMemoryAt net k s = record { out = out; at = at } in
+      of-memory : (k : ℕ) (s : MemoryState) → IsMemoryAt net k s →
+          (memory_knows (schedules net forms sound) (memory_run net s m) (passed_by node_kind net k m)).written number ≡ true → IsWritten m number
+      of-memory k s here is =
           let link = upper-link net forms sound k s here in
           written-by m number k s.inner.upper (ends-here net forms sound k s here s.inner.upper link.1) link.1
           (subst (λ (l : ℕ). is_written ((schedules net forms sound l).writes number) (length (of_key number_of_data number (trail_below (chosen node_kind net k) (queues_after node_kind net) m l).w)) ≡ true) (upper-is net forms sound k s here m) is)
+
+      of-kind : (k : ℕ) (name : KindName) (s : StateOf name) (out : Out) → slice_get net.nodes k ≡ Some (acted_as name s out) →
+          (node_kind.knows (schedules net forms sound) (record { kind = name; state = run_state net name s m }) (passed_by node_kind net k m)).written number ≡ true → IsWritten m number
+      of-kind k AMemory s out at is = of-memory k s (record { lite = false; out = out; at = at }) is
+      of-kind k ALiteMemory s out at is =
+          let passed = passed_by node_kind net k m in
+          of-memory k s (record { lite = true; out = out; at = at })
+          (subst (λ (x : MemoryState). (knows_on (λ area. tag_span) (schedules net forms sound) x passed).written number ≡ true) (runs-alike net s m) is)
       of-kind k AnError s out at is =
           let here : IsErrorAt k s = record { out = out; at = at } in
           written-by m number k s.upper (error-ends k s here) (error-link k s here).1
@@ -128,6 +139,8 @@ module _ (net : Network NodeState) (forms : ℕ → LinkForm) (sound : IsSound n
       of-kind k ADemux s out at is = absurd (cc)
       of-kind k ARemap s out at is = absurd (cc)
       of-kind k AnUp s out at is = absurd (cc)
+      of-kind k ASplit s out at is = absurd (cc)
+      of-kind k ALite s out at is = absurd (cc)
 
       at-some_node : (k : ℕ) (o : Option (Acted NodeState)) → slice_get (nodes_after node_kind net m) k ≡ o →
           (option_map_or (λ (a : Acted NodeState). node_kind.knows (schedules net forms sound) a.state (passed_by node_kind net k m)) o nothing_known).written number ≡ true → IsWritten m number
@@ -150,17 +163,23 @@ module _ (net : Network NodeState) (forms : ℕ → LinkForm) (sound : IsSound n
         let there = end-at net forms sound origin among link share (ap (λ (b : Bool). carried node_kind net b link origin.number) reads ∙ is) (ends share) in
         absurd (other (sym below ∙ sym (ap (lower_node net.links) there)))
 
-    of-other : (k : ℕ) (name : KindName) (s : StateOf name) (out : Out) → slice_get net.nodes k ≡ Some (acted_as name s out) → k ≢ way_target net forms origin →
-        (node_kind.knows (schedules net forms sound) (record { kind = name; state = run_state net name s m }) (passed_by node_kind net k m)).filled origin.number ≡ []
-    of-other k AMemory s out at other =
-        let here : IsMemoryAt net k s = record { out = out; at = at } in
+    memory-other : (k : ℕ) (s : MemoryState) → IsMemoryAt net k s → k ≢ way_target net forms origin → (wanted : MemoryArea → BeatOf → Span) →
+        (knows_on wanted (schedules net forms sound) (memory_run net s m) (passed_by node_kind net k m)).filled origin.number ≡ []
+    memory-other k s here other wanted =
         let link = upper-link net forms sound k s here in
         let none : (schedules net forms sound s.inner.upper).reads origin.number ≡ no_share =
         not-here k s.inner.upper other link.1 (ends-here net forms sound k s here s.inner.upper link.1) (carried node_kind net false s.inner.upper origin.number) refl in
         let values = map (λ (a : Access). a.byte.value) (accesses_of false origin.number (noted_by node_kind net k m)) in
         let area = (memory_run net s m).area in
-        ap (λ (l : ℕ). answered_bytes (allowed_before area ((schedules net forms sound l).reads origin.number) (length (beats_of_parts ((schedules net forms sound l).reads origin.number).parts))) values) (upper-is net forms sound k s here m)
-        ∙ ap (λ (share : Share). answered_bytes (allowed_before area share (length (beats_of_parts share.parts))) values) none
+        ap (λ (l : ℕ). answered_bytes (wanted_before area (wanted area) ((schedules net forms sound l).reads origin.number) (length (beats_of_parts ((schedules net forms sound l).reads origin.number).parts))) values) (upper-is net forms sound k s here m)
+        ∙ ap (λ (share : Share). answered_bytes (wanted_before area (wanted area) share (length (beats_of_parts share.parts))) values) none
+
+    of-other : (k : ℕ) (name : KindName) (s : StateOf name) (out : Out) → slice_get net.nodes k ≡ Some (acted_as name s out) → k ≢ way_target net forms origin →
+        (node_kind.knows (schedules net forms sound) (record { kind = name; state = run_state net name s m }) (passed_by node_kind net k m)).filled origin.number ≡ []
+    of-other k AMemory s out at other = memory-other k s (record { lite = false; out = out; at = at }) other beat_span
+    of-other k ALiteMemory s out at other =
+        ap (λ (x : MemoryState). (knows_on (λ area. tag_span) (schedules net forms sound) x (passed_by node_kind net k m)).filled origin.number) (runs-alike net s m)
+        ∙ memory-other k s (record { lite = true; out = out; at = at }) other (λ area. tag_span)
     of-other k AnError s out at other =
         let here : IsErrorAt k s = record { out = out; at = at } in
         let none : (schedules net forms sound s.upper).reads origin.number ≡ no_share =
@@ -174,6 +193,8 @@ module _ (net : Network NodeState) (forms : ℕ → LinkForm) (sound : IsSound n
     of-other k ADemux s out at other = refl
     of-other k ARemap s out at other = refl
     of-other k AnUp s out at other = refl
+    of-other k ASplit s out at other = refl
+    of-other k ALite s out at other = refl
 
     other-node : (k : ℕ) → ¬ (k ≡ way_target net forms origin) → (known_at node_kind net (schedules net forms sound) m k).filled origin.number ≡ []
     other-node k other = go (slice_get (nodes_after node_kind net m) k) refl
@@ -198,14 +219,16 @@ module _ (net : Network NodeState) (forms : ℕ → LinkForm) (sound : IsSound n
     -- at a memory it is what may be read of it, so far as it was read
     pub filled-memory : (c : MemoryState) (is : IsMemoryAt net (way_target net forms origin) c) →
         (known_at node_kind net (schedules net forms sound) m (way_target net forms origin)).filled origin.number
-        ≡ answered_bytes (flat_map (allowed_bytes c.area) (beats_of_parts ((schedules net forms sound c.inner.upper).reads origin.number).parts))
+        ≡ answered_bytes (flat_map (wanted_allowed c.area (wanted_by is.lite c.area)) (beats_of_parts ((schedules net forms sound c.inner.upper).reads origin.number).parts))
         (map (λ (a : Access). a.byte.value) (accesses_of false origin.number (noted_by node_kind net (way_target net forms origin) m)))
     filled-memory c is =
         let k = way_target net forms origin in
-        let there = stands-at net k AMemory c is.out is.at m in
+        let there = memory-stands net forms sound k c is m in
         let values = map (λ (a : Access). a.byte.value) (accesses_of false origin.number (noted_by node_kind net k m)) in
         let share = (schedules net forms sound c.inner.upper).reads origin.number in
+        let before : MemoryArea → Share → List ℕ = λ area share. answered_bytes (wanted_before area (wanted_by is.lite area) share (length (beats_of_parts share.parts))) values in
         ap (λ (o : Option (Acted NodeState)). (option_map_or (λ (a : Acted NodeState). node_kind.knows (schedules net forms sound) a.state (passed_by node_kind net k m)) o nothing_known).filled origin.number) there.at
-        ∙ ap (λ (l : ℕ). answered_bytes (allowed_before (memory_run net c m).area ((schedules net forms sound l).reads origin.number) (length (beats_of_parts ((schedules net forms sound l).reads origin.number).parts))) values) (upper-is net forms sound k c is m)
-        ∙ ap (λ (area : MemoryArea). answered_bytes (allowed_before area share (length (beats_of_parts share.parts))) values) (area-is net forms sound k c is m)
-        ∙ ap (λ bs. answered_bytes (flat_map (allowed_bytes c.area) bs) values) (take_all (length (beats_of_parts share.parts)) (beats_of_parts share.parts) (omega arith))
+        ∙ ap (λ (p : Progress). p.filled origin.number) (knows-by is.lite (schedules net forms sound) (memory_run net c m) (passed_by node_kind net k m))
+        ∙ ap (λ (l : ℕ). before (memory_run net c m).area ((schedules net forms sound l).reads origin.number)) (upper-is net forms sound k c is m)
+        ∙ ap (λ (area : MemoryArea). before area share) (area-is net forms sound k c is m)
+        ∙ ap (λ bs. answered_bytes (flat_map (wanted_allowed c.area (wanted_by is.lite c.area)) bs) values) (take_all (length (beats_of_parts share.parts)) (beats_of_parts share.parts) (omega arith))

@@ -12,7 +12,7 @@ use Rattle.manager_node.specs.ManagerTrail.{item_origin}
 use Rattle.manager_node.specs.Script.{ScriptItem}
 use Rattle.memory_node.specs.Status.{may_read, may_write}
 use Rattle.net_history.specs.History.{manager_of}
-use Rattle.net_kinds.specs.NodeKind.{ADemux, AManager, AMemory, AMux, ARemap, ASlice, AnError, AnUp, KindName, NodeState, StateOf, node_kind}
+use Rattle.net_kinds.specs.NodeKind.{ADemux, ALite, ALiteMemory, AManager, AMemory, AMux, ARemap, ASlice, ASplit, AnError, AnUp, KindName, NodeState, StateOf, node_kind}
 use Rattle.net_model.specs.Network.{Network, lower_node}
 use Rattle.net_ways.specs.Ways.{Hop, responses_from, way_of}
 use Rattle.node_core.specs.Acted.{Acted}
@@ -25,6 +25,7 @@ use Rattle.subordinate.specs.Parts.{BeatOf, beats_of_parts, beats_with_data}
 -- the byte of an address may be written, or read: none but a memory has any
 abbrev pub may_access : (name : KindName) → StateOf name → Bool → ℕ → Bool
 may_access AMemory s write address = if write then may_write s.area address else may_read s.area address
+may_access ALiteMemory s write address = if write then may_write s.area address else may_read s.area address
 may_access ASlice s write address = false
 may_access AManager s write address = false
 may_access AMux s write address = false
@@ -32,10 +33,13 @@ may_access AnError s write address = false
 may_access ADemux s write address = false
 may_access ARemap s write address = false
 may_access AnUp s write address = false
+may_access ASplit s write address = false
+may_access ALite s write address = false
 
 -- the byte that an address of a node holds where nothing was written
 abbrev pub fill_of : (name : KindName) → StateOf name → ℕ
 fill_of AMemory s = s.area.fill
+fill_of ALiteMemory s = s.area.fill
 fill_of ASlice s = 0
 fill_of AManager s = 0
 fill_of AMux s = 0
@@ -43,6 +47,8 @@ fill_of AnError s = 0
 fill_of ADemux s = 0
 fill_of ARemap s = 0
 fill_of AnUp s = 0
+fill_of ASplit s = 0
+fill_of ALite s = 0
 
 -- the byte of an address, with the value that is to be written there
 abbrev pub byte_named : (ℕ → Bool) → Option ℕ → ℕ → NamedByte

@@ -8,7 +8,7 @@ use Rattle.manager_node.specs.Answer.{AnswerView}
 use Rattle.manager_node.specs.ManagerState.{ManagerState, is_answered}
 use Rattle.manager_node.specs.Script.{ScriptItem}
 use Rattle.memory_node.specs.Events.{Access}
-use Rattle.net_kinds.specs.NodeKind.{ADemux, AManager, AMemory, AMux, ARemap, ASlice, AnError, AnUp, KindName, NodeState, StateOf, node_kind}
+use Rattle.net_kinds.specs.NodeKind.{ADemux, ALite, ALiteMemory, AManager, AMemory, AMux, ARemap, ASlice, ASplit, AnError, AnUp, KindName, NodeState, StateOf, node_kind}
 use Rattle.net_model.specs.Network.{Network, after_rounds}
 use Rattle.node_core.specs.Acted.{Acted}
 
@@ -50,11 +50,14 @@ abbrev pub manager_by : (name : KindName) → StateOf name → Option ManagerSta
 manager_by AManager s = Some s
 manager_by ASlice s = None
 manager_by AMemory s = None
+manager_by ALiteMemory s = None
 manager_by AMux s = None
 manager_by AnError s = None
 manager_by ADemux s = None
 manager_by ARemap s = None
 manager_by AnUp s = None
+manager_by ASplit s = None
+manager_by ALite s = None
 
 abbrev pub manager_of : NodeState → Option ManagerState
 manager_of node = manager_by node.kind node.state

@@ -1,7 +1,7 @@
 -- A node does as its kind says.
 use Rattle.std.proofs.Common.{refl}
 use Rattle.net_kinds.specs.NodeTable.{NodesDoAsTheirKind}
-use Rattle.net_kinds.specs.declared.node.Node.TheVariants.{Demux, Error, Manager, Memory, Mux, Remap, Slice, Up}
+use Rattle.net_kinds.specs.declared.node.Node.TheVariants.{Demux, Error, Lite, LiteMemory, Manager, Memory, Mux, Remap, Slice, Split, Up}
 
 pub nodes-do : NodesDoAsTheirKind
 nodes-do round links (Slice n) = record { can = λ can. can; table = refl; out = refl; done = refl; fact = λ fact. fact }
@@ -12,3 +12,6 @@ nodes-do round links (Error n) = record { can = λ can. can; table = refl; out =
 nodes-do round links (Demux n) = record { can = λ can. can; table = refl; out = refl; done = refl; fact = λ fact. fact }
 nodes-do round links (Remap n) = record { can = λ can. can; table = refl; out = refl; done = refl; fact = λ fact. fact }
 nodes-do round links (Up n) = record { can = λ can. can; table = refl; out = refl; done = refl; fact = λ fact. fact }
+nodes-do round links (Split n) = record { can = λ can. can; table = refl; out = refl; done = refl; fact = λ fact. fact }
+nodes-do round links (Lite n) = record { can = λ can. can; table = refl; out = refl; done = refl; fact = λ fact. fact }
+nodes-do round links (LiteMemory n) = record { can = λ can. can; table = refl; out = refl; done = refl; fact = λ fact. fact }

@@ -1,1 +1,4 @@
+pub mod CutLemmas
 pub mod DoLemmas
+pub mod GroupStatuses
+pub mod StatusLemmas

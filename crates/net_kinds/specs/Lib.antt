@@ -1,3 +1,4 @@
+pub mod NodeCuts
 pub mod NodeHolds
 pub mod NodeKind
 pub mod NodeTable

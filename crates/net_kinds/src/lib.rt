@@ -9,4 +9,4 @@ mod node;
 mod node_laws;
 
 pub use node::{Node, crosses_threads};
-pub use node_laws::laws;
+pub use node_laws::{laws, laws_of_responses};

@@ -6,12 +6,15 @@ ghost use Rattle.net_kinds.specs.NodeTable.{node_done};
 use axi_link::{Link, Out};
 use demux_node::DemuxNode;
 use error_node::ErrorNode;
+use lite_memory_node::LiteMemoryNode;
+use lite_node::LiteNode;
 use manager_node::ManagerNode;
 use memory_node::MemoryNode;
 use mux_node::MuxNode;
 use node_core::Step;
 use remap_node::RemapNode;
 use slice_node::SliceNode;
+use split_node::SplitNode;
 use std::marker::{Send, Sync};
 use up_node::UpNode;
 
@@ -30,10 +33,16 @@ pub enum Node {
     Remap(Box<RemapNode>),
     /// Between two links, of which the lower one has a wider bus.
     Up(Box<UpNode>),
+    /// Between two links, of which the lower one carries single beats.
+    Split(Box<SplitNode>),
+    /// Between an AXI4 link and an AXI4-Lite link below it.
+    Lite(Box<LiteNode>),
     /// Above one link: it issues the transactions of its script.
     Manager(Box<ManagerNode>),
     /// Below one link: it answers from bytes that it keeps.
     Memory(Box<MemoryNode>),
+    /// Below one AXI4-Lite link: it answers whole words from bytes that it keeps.
+    LiteMemory(Box<LiteMemoryNode>),
 }
 
 impl Step for Node {
@@ -55,8 +64,11 @@ impl Step for Node {
             Node::Mux(mux) => mux.decide(round, links),
             Node::Remap(remap) => remap.decide(round, links),
             Node::Up(up) => up.decide(round, links),
+            Node::Split(splitter) => splitter.decide(round, links),
+            Node::Lite(bridge) => bridge.decide(round, links),
             Node::Manager(manager) => manager.decide(round, links),
             Node::Memory(memory) => memory.decide(round, links),
+            Node::LiteMemory(memory) => memory.decide(round, links),
         }
     }
 
@@ -68,8 +80,11 @@ impl Step for Node {
             Node::Mux(mux) => mux.out(),
             Node::Remap(remap) => remap.out(),
             Node::Up(up) => up.out(),
+            Node::Split(splitter) => splitter.out(),
+            Node::Lite(bridge) => bridge.out(),
             Node::Manager(manager) => manager.out(),
             Node::Memory(memory) => memory.out(),
+            Node::LiteMemory(memory) => memory.out(),
         }
     }
 }
@@ -87,7 +102,10 @@ impl Node {
             Node::Mux(_) => true,
             Node::Remap(_) => true,
             Node::Up(_) => true,
+            Node::Split(_) => true,
+            Node::Lite(_) => true,
             Node::Memory(_) => true,
+            Node::LiteMemory(_) => true,
         }
     }
 }

@@ -4,6 +4,7 @@ use Rattle.demux_node.specs.DemuxState.{DemuxState, new_demux}
 use Rattle.elaborate.specs.Path.{ported_regions}
 use Rattle.elaborate.specs.Plan.{plan_link_at, plan_node_at}
 use Rattle.error_node.specs.ErrorState.{ErrorState, new_error}
+use Rattle.lite_node.specs.LiteState.{LiteState, new_lite}
 use Rattle.manager_node.specs.ManagerState.{ManagerState, new_manager}
 use Rattle.memory_node.specs.MemoryArea.{MemoryArea}
 use Rattle.memory_node.specs.MemoryState.{MemoryState, new_memory}
@@ -16,6 +17,7 @@ use Rattle.plan_traffic.specs.Scripts.{script_of}
 use Rattle.plan_traffic.specs.Traffic.{TrafficItem}
 use Rattle.remap_node.specs.RemapState.{RemapState, new_remap}
 use Rattle.slice_node.specs.SliceState.{SliceState, new_slice}
+use Rattle.split_node.specs.SplitState.{SplitState, new_split}
 use Rattle.topology.specs.Document.{DocumentNode, node_at, widest}
 use Rattle.topology_text.specs.declared.kind.Span.{Span}
 use Rattle.up_node.specs.UpState.{UpState, new_up}
@@ -23,16 +25,20 @@ use Rattle.up_node.specs.UpState.{UpState, new_up}
 abbrev pub memory_range : Span → Range
 memory_range span = record { base = span.base; size = span.size }
 
--- the bytes that a memory has, by the keys of its document node
-abbrev pub area_of_node : DocumentNode → MemoryArea
-area_of_node node = record {
+-- the bytes that a memory on a bus has, by the keys of its document node
+abbrev pub area_on : ℕ → DocumentNode → MemoryArea
+area_on bus node = record {
   base = node.base;
   size = node.size;
-  bus = node.bus;
+  bus = bus;
   fill = node.fill;
   read_only = map memory_range node.read_only;
   hole = map memory_range node.hole;
 }
+
+-- a memory of AXI4 names its bus
+abbrev pub area_of_node : DocumentNode → MemoryArea
+area_of_node node = area_on node.bus node
 
 module _ (nodes : List DocumentNode) (number : ℕ) where
   -- the document node from which a plan node comes
@@ -46,6 +52,12 @@ module _ (nodes : List DocumentNode) (number : ℕ) where
   abbrev pub memory_at : List TrafficItem → MemoryState
   memory_at items =
       new_memory (area_of_node document_node_of) document_node_of.accept document_node_of.give (link_into nodes number) (lines_touched nodes items number)
+
+  -- so does a Lite memory, which has the bus of the link above it
+  abbrev pub lite_memory_at : List TrafficItem → MemoryState
+  lite_memory_at items =
+      new_memory (area_on (plan_link_at nodes (link_into nodes number)).link.bus document_node_of) document_node_of.accept document_node_of.give
+      (link_into nodes number) (lines_touched nodes items number)
 
   -- a manager has the transactions of its document node; it takes as `accept` says, and puts as `give` says
   abbrev pub manager_at : List TrafficItem → ManagerState
@@ -79,4 +91,15 @@ module _ (nodes : List DocumentNode) (number : ℕ) where
     lower = link_out_of nodes number;
     narrow = (plan_link_at nodes (link_into nodes number)).link.bus;
     wide = document_node_of.bus;
+  })
+
+  abbrev pub split_at : SplitState
+  split_at = new_split (link_into nodes number) (link_out_of nodes number)
+
+  -- a Lite bridge has the bus of the links around it
+  abbrev pub lite_at : LiteState
+  lite_at = new_lite (record {
+    upper = link_into nodes number;
+    lower = link_out_of nodes number;
+    bus = (plan_link_at nodes (link_into nodes number)).link.bus;
   })

@@ -6,11 +6,12 @@ pub mod OpeningWired
 pub mod LinkKinds
 pub mod WidthLemmas
 pub mod SoundParts
+pub mod LinkProtocols
 pub mod NodeSound
 pub mod NodeBegins
 pub mod OnceLemmas
+pub mod BurstParts
 pub mod WayEnds
 pub mod PathStarts
-pub mod PlainLinks
 pub mod LineLemmas
 pub mod OpeningSound

@@ -3,7 +3,7 @@ use Rattle.std.proofs.Common.{◌≡◌, ◌<◌, ◌≤◌, ◌+◌, ◌*◌, �
 use Rattle.std.specs.Prelude.{nat_lt, slice_get, slice_index_or, if◌then◌else◌}
 use Rattle.std.specs.List.{list_any}
 use Rattle.std.proofs.lemmas.Bool.{and_cases, false≢true, ltb-false, or_parts, true≢false}
-use Rattle.elaborate.proofs.Forms.{Form, Part_at, input_count, own_part, part-at}
+use Rattle.elaborate.proofs.Forms.{Form, input_count, own_part, split_kind}
 use Rattle.elaborate.proofs.Forms.Form.{Behind, Demux, DemuxError, Input, InputError, Own, Split, Target}
 use Rattle.elaborate.proofs.LinkForms.{Entered, Leads, exit_by, exit_of, is_behind, is_mux_kind, place-within, step_of, target-upper}
 use Rattle.elaborate.proofs.LinkForms.Leads.{Enters, Joins, Steps}
@@ -12,7 +12,6 @@ use Rattle.elaborate.proofs.PlanFacts.{Known, entered-target, known-link, target
 use Rattle.elaborate.proofs.Uppers.{nth-place}
 use Rattle.elaborate.specs.Laws.{is_mux}
 use Rattle.elaborate.specs.Plan.{PlanNode, entrance, first_part, is_crossbar, plan_link_at, plan_links, plan_node_at, plan_nodes, target_mux, targets}
-use Rattle.elaborate.specs.Unbuilt.{is_unbuilt}
 use Rattle.elaborate.specs.declared.link.PlanLink.{PlanLink}
 use Rattle.elaborate.specs.declared.part.Part.{Part}
 use Rattle.elaborate.specs.declared.part.Part.TheVariants as part
@@ -20,8 +19,6 @@ use Rattle.net_opening.specs.PlanLinks.{cuts_bursts, form_of_link, links_into, l
 use Rattle.net_plan.proofs.LinkLists.{at-some}
 use Rattle.net_plan.proofs.LinkPlaces.{LinkFacts, link-facts}
 use Rattle.net_plan.proofs.NodeLinks.{into-is, leads-down, out-is}
-use Rattle.net_plan.proofs.PartLemmas.{is-built, no-split}
-use Rattle.net_plan.specs.PlanLaws.{CanRun}
 use Rattle.node_graph.proofs.Members.{in-cases}
 use Rattle.node_graph.specs.Graph.{is_in}
 use Rattle.node_graph.specs.Order.{place_in}
@@ -37,11 +34,18 @@ abbrev is_demux_kind : Kind → Bool
 is_demux_kind kind.Demux = true
 is_demux_kind other = false
 
+abbrev is_lite_kind : Kind → Bool
+is_lite_kind kind.Lite = true
+is_lite_kind other = false
+
 -- ---- forms
 
--- the form of a link that isn't below a splitter
+-- the form of a link, by whether it is below a splitter; and of one that isn't
+abbrev pub form_under : Bool → LinkKind → LinkForm
+form_under cuts link = record { lite = link.lite; bus = link.bus; id_width = link.id_width; single = link.lite || cuts }
+
 abbrev pub plain_form : LinkKind → LinkForm
-plain_form link = record { lite = link.lite; bus = link.bus; id_width = link.id_width; single = link.lite || false }
+plain_form link = form_under false link
 
 own-whole : (k : Kind) (p : Part) → own_part k ≡ Some p → cuts_bursts p ≡ false
 own-whole kind.Manager p e = ap cuts_bursts (sym (Some-same part.Manager p e))
@@ -53,36 +57,52 @@ own-whole kind.Remap p e = ap cuts_bursts (sym (Some-same part.Remap p e))
 own-whole kind.Up p e = ap cuts_bursts (sym (Some-same part.Up p e))
 own-whole other p e = absurd (None-Some p e)
 
--- no part of a document that can run cuts bursts
-whole-by : (nodes : List DocumentNode) (place inner : ℕ) (node : PlanNode) (k : Kind) → is_unbuilt k ≡ false → Form nodes place inner node k → cuts_bursts node.part ≡ false
-whole-by nodes place inner node k built (Own p own first is) = ap (λ (n : PlanNode). cuts_bursts n.part) is ∙ own-whole k p own
-whole-by nodes place inner node k built (Split p split first is) = absurd (no-split k p split built)
-whole-by nodes place inner node k built (Behind p split first is) = absurd (no-split k p split built)
-whole-by nodes place inner node k built (Demux own first is) = ap (λ (n : PlanNode). cuts_bursts n.part) is
-whole-by nodes place inner node k built (DemuxError own first is) = ap (λ (n : PlanNode). cuts_bursts n.part) is
-whole-by nodes place inner node k built (Input i own within first is) = ap (λ (n : PlanNode). cuts_bursts n.part) is
-whole-by nodes place inner node k built (InputError i own within first is) = ap (λ (n : PlanNode). cuts_bursts n.part) is
-whole-by nodes place inner node k built (Target j own within first is) = ap (λ (n : PlanNode). cuts_bursts n.part) is
+behind-whole : (k : Kind) (p : Part) → split_kind k ≡ Some p → cuts_bursts p ≡ false
+behind-whole kind.Down p e = ap cuts_bursts (sym (Some-same part.Down p e))
+behind-whole kind.Lite p e = ap cuts_bursts (sym (Some-same part.Lite p e))
+behind-whole other p e = absurd (None-Some p e)
+
+-- only a splitter cuts bursts
+whole-by : (nodes : List DocumentNode) (place inner : ℕ) (node : PlanNode) (k : Kind) → ((p : Part) → split_kind k ≡ Some p → inner ≡ 0 → ⊥) → Form nodes place inner node k → cuts_bursts node.part ≡ false
+whole-by nodes place inner node k outer (Own p own first is) = ap (λ (n : PlanNode). cuts_bursts n.part) is ∙ own-whole k p own
+whole-by nodes place inner node k outer (Split p split first is) = absurd (outer p split first)
+whole-by nodes place inner node k outer (Behind p split first is) = ap (λ (n : PlanNode). cuts_bursts n.part) is ∙ behind-whole k p split
+whole-by nodes place inner node k outer (Demux own first is) = ap (λ (n : PlanNode). cuts_bursts n.part) is
+whole-by nodes place inner node k outer (DemuxError own first is) = ap (λ (n : PlanNode). cuts_bursts n.part) is
+whole-by nodes place inner node k outer (Input i own within first is) = ap (λ (n : PlanNode). cuts_bursts n.part) is
+whole-by nodes place inner node k outer (InputError i own within first is) = ap (λ (n : PlanNode). cuts_bursts n.part) is
+whole-by nodes place inner node k outer (Target j own within first is) = ap (λ (n : PlanNode). cuts_bursts n.part) is
 
 -- ---- the links below a document node
 
-exit-kind : (nodes : List DocumentNode) (place inner port : ℕ) (node : PlanNode) (k : Kind) → is_unbuilt k ≡ false → inner ≡ exit_by k (input_count nodes place) port → Form nodes place inner node k →
-    node.link ≡ link_kind_of nodes place
-exit-kind nodes place inner port node k built exit (Own p own first is) = ap (λ (n : PlanNode). n.link) is
-exit-kind nodes place inner port node k built exit (Split p split first is) = absurd (no-split k p split built)
-exit-kind nodes place inner port node k built exit (Behind p split first is) = absurd (no-split k p split built)
-exit-kind nodes place inner port node k built exit (Demux own first is) = ap (λ (n : PlanNode). n.link) is
-exit-kind nodes place inner port node k built exit (DemuxError own first is) = absurd (omega (arith, first, exit, ap (λ k. exit_by k (input_count nodes place) port) own))
-exit-kind nodes place inner port node k built exit (Input i own within first is) = absurd (omega (arith, first, within, exit, ap (λ k. exit_by k (input_count nodes place) port) own))
-exit-kind nodes place inner port node k built exit (InputError i own within first is) = absurd (omega (arith, first, within, exit, ap (λ k. exit_by k (input_count nodes place) port) own))
-exit-kind nodes place inner port node k built exit (Target j own within first is) = ap (λ (n : PlanNode). n.link) is
+split-exit : (k : Kind) (p : Part) (inputs port : ℕ) → split_kind k ≡ Some p → exit_by k inputs port ≡ 1
+split-exit kind.Down p inputs port e = refl
+split-exit kind.Lite p inputs port e = refl
+split-exit other p inputs port e = absurd (None-Some p e)
 
--- a link into a document node's first plan node comes from one of its uppers, and is what that one has below it
+exit-kind : (nodes : List DocumentNode) (place inner port : ℕ) (node : PlanNode) (k : Kind) → inner ≡ exit_by k (input_count nodes place) port → Form nodes place inner node k →
+    node.link ≡ link_kind_of nodes place
+exit-kind nodes place inner port node k exit (Own p own first is) = ap (λ (n : PlanNode). n.link) is
+exit-kind nodes place inner port node k exit (Split p split first is) = absurd (omega (arith, first, exit, split-exit k p (input_count nodes place) port split))
+exit-kind nodes place inner port node k exit (Behind p split first is) = ap (λ (n : PlanNode). n.link) is
+exit-kind nodes place inner port node k exit (Demux own first is) = ap (λ (n : PlanNode). n.link) is
+exit-kind nodes place inner port node k exit (DemuxError own first is) = absurd (omega (arith, first, exit, ap (λ k. exit_by k (input_count nodes place) port) own))
+exit-kind nodes place inner port node k exit (Input i own within first is) = absurd (omega (arith, first, within, exit, ap (λ k. exit_by k (input_count nodes place) port) own))
+exit-kind nodes place inner port node k exit (InputError i own within first is) = absurd (omega (arith, first, within, exit, ap (λ k. exit_by k (input_count nodes place) port) own))
+exit-kind nodes place inner port node k exit (Target j own within first is) = ap (λ (n : PlanNode). n.link) is
+
+-- whether the links below a plan node carry single beats
+abbrev pub cuts_at : List DocumentNode → ℕ → Bool
+cuts_at nodes number = cuts_bursts (plan_node_at nodes number).part
+
+-- a link into a document node's first plan node comes from one of its uppers, and is what that one has below it; no splitter
+-- stands above it
 pub record Comes (nodes : List DocumentNode) (place number upper : ℕ) (link : LinkKind) : Type 0 where
   pub from : ℕ
   pub among : is_in (uppers_of nodes place) from ≡ true
   pub enters : number ≡ entrance nodes from place
   pub exits : upper ≡ first_part nodes from + exit_of nodes from place
+  pub whole : cuts_at nodes upper ≡ false
   pub is : link ≡ link_kind_of nodes from
 
 -- a link into a crossbar's mux comes from one of its inputs
@@ -90,32 +110,47 @@ pub record JoinsAt (nodes : List DocumentNode) (place upper : ℕ) (link : LinkK
   pub input : ℕ
   pub within : input < input_count nodes place
   pub from : upper ≡ first_part nodes place + 2 * input
+  pub whole : cuts_at nodes upper ≡ false
   pub is : link ≡ slice_index_or (inputs_of nodes place) input no_link
 
-input-link : (nodes : List DocumentNode) (place inner i : ℕ) (node : PlanNode) (k : Kind) → k ≡ kind.Crossbar → is_unbuilt k ≡ false → i < input_count nodes place → inner ≡ 2 * i → Form nodes place inner node k → step_of node.part ≡ 0 →
+-- a link into the part behind a splitter comes from the splitter, and is the first link above their document node
+pub record Stays (nodes : List DocumentNode) (place upper : ℕ) (link : LinkKind) : Type 0 where
+  pub cut : cuts_at nodes upper ≡ true
+  pub is : link ≡ first_link (inputs_of nodes place)
+
+input-link : (nodes : List DocumentNode) (place inner i : ℕ) (node : PlanNode) (k : Kind) → k ≡ kind.Crossbar → i < input_count nodes place → inner ≡ 2 * i → Form nodes place inner node k → step_of node.part ≡ 0 →
     node.link ≡ slice_index_or (inputs_of nodes place) i no_link
-input-link nodes place inner i node k is_crossbar built less at (Own p own first is) flat = absurd (None-Some p (ap own_part (sym is_crossbar) ∙ own))
-input-link nodes place inner i node k is_crossbar built less at (Split p split first is) flat = absurd (no-split k p split built)
-input-link nodes place inner i node k is_crossbar built less at (Behind p split first is) flat = absurd (no-split k p split built)
-input-link nodes place inner i node k is_crossbar built less at (Demux own first is) flat = absurd (true≢false (ap is_demux_kind (sym own ∙ is_crossbar)))
-input-link nodes place inner i node k is_crossbar built less at (DemuxError own first is) flat = absurd (true≢false (ap is_demux_kind (sym own ∙ is_crossbar)))
-input-link nodes place inner i node k is_crossbar built less at (Input j own within first is) flat =
+input-link nodes place inner i node k is_crossbar less at (Own p own first is) flat = absurd (None-Some p (ap own_part (sym is_crossbar) ∙ own))
+input-link nodes place inner i node k is_crossbar less at (Split p split first is) flat = absurd (None-Some p (ap split_kind (sym is_crossbar) ∙ split))
+input-link nodes place inner i node k is_crossbar less at (Behind p split first is) flat = absurd (None-Some p (ap split_kind (sym is_crossbar) ∙ split))
+input-link nodes place inner i node k is_crossbar less at (Demux own first is) flat = absurd (true≢false (ap is_demux_kind (sym own ∙ is_crossbar)))
+input-link nodes place inner i node k is_crossbar less at (DemuxError own first is) flat = absurd (true≢false (ap is_demux_kind (sym own ∙ is_crossbar)))
+input-link nodes place inner i node k is_crossbar less at (Input j own within first is) flat =
     let same : j ≡ i = omega (arith, at, first) in
     ap (λ (n : PlanNode). n.link) is ∙ ap (λ (n : ℕ). slice_index_or (inputs_of nodes place) n no_link) same
-input-link nodes place inner i node k is_crossbar built less at (InputError j own within first is) flat = absurd (omega (arith, flat, ap (λ (n : PlanNode). step_of n.part) is))
-input-link nodes place inner i node k is_crossbar built less at (Target j own within first is) flat = absurd (omega (arith, less, at, first))
+input-link nodes place inner i node k is_crossbar less at (InputError j own within first is) flat = absurd (omega (arith, flat, ap (λ (n : PlanNode). step_of n.part) is))
+input-link nodes place inner i node k is_crossbar less at (Target j own within first is) flat = absurd (omega (arith, less, at, first))
 
-module _ (nodes : List DocumentNode) (run : CanRun nodes) where
-  -- the form of each link is plain
-  pub form-plain : (link : ℕ) → link < length (plan_links nodes) → form_of_link nodes link ≡ plain_form (plan_link_at nodes link).link
-  form-plain link less =
-      let facts : LinkFacts nodes link = link-facts nodes link less in
-      let spot : Part_at nodes (plan_link_at nodes link).upper facts.node = part-at nodes (plan_link_at nodes link).upper facts.node facts.at in
-      let node_is : plan_node_at nodes (plan_link_at nodes link).upper ≡ facts.node =
-      at-some (plan_nodes nodes) (plan_link_at nodes link).upper facts.node (record { part = part.Slice; document = 0; name = []; lower = []; link = no_link }) facts.at in
-      let whole : cuts_bursts (plan_node_at nodes (plan_link_at nodes link).upper).part ≡ false =
-      ap (λ (n : PlanNode). cuts_bursts n.part) node_is ∙ whole-by nodes spot.place spot.inner facts.node (node_at nodes spot.place).kind (is-built nodes run spot.place spot.within) spot.form in
-      ap (λ (b : Bool). record { lite = (plan_link_at nodes link).link.lite; bus = (plan_link_at nodes link).link.bus; id_width = (plan_link_at nodes link).link.id_width; single = (plan_link_at nodes link).link.lite || b }) whole
+-- the part before a Lite bridge
+splitter : (nodes : List DocumentNode) (place inner : ℕ) (node : PlanNode) (k : Kind) → k ≡ kind.Lite → step_of node.part ≡ 0 → Form nodes place inner node k →
+    (cuts_bursts node.part ≡ true) × (node.link ≡ first_link (inputs_of nodes place))
+splitter nodes place inner node k lite flat (Own p own first is) = absurd (None-Some p (ap own_part (sym lite) ∙ own))
+splitter nodes place inner node k lite flat (Split p split first is) = (ap (λ (n : PlanNode). cuts_bursts n.part) is, ap (λ (n : PlanNode). n.link) is)
+splitter nodes place inner node k lite flat (Behind p split first is) =
+    absurd (omega (arith, flat, ap (λ (n : PlanNode). step_of n.part) is, ap step_of (Some-same part.Lite p (ap split_kind (sym lite) ∙ split))))
+splitter nodes place inner node k lite flat (Demux own first is) = absurd (true≢false (sym (ap is_lite_kind lite) ∙ ap is_lite_kind own))
+splitter nodes place inner node k lite flat (DemuxError own first is) = absurd (true≢false (sym (ap is_lite_kind lite) ∙ ap is_lite_kind own))
+splitter nodes place inner node k lite flat (Input i own within first is) = absurd (true≢false (sym (ap is_lite_kind lite) ∙ ap is_lite_kind own))
+splitter nodes place inner node k lite flat (InputError i own within first is) = absurd (true≢false (sym (ap is_lite_kind lite) ∙ ap is_lite_kind own))
+splitter nodes place inner node k lite flat (Target j own within first is) = absurd (true≢false (sym (ap is_lite_kind lite) ∙ ap is_lite_kind own))
+
+module _ (nodes : List DocumentNode) where
+  -- the form of a link that isn't below a splitter
+  pub form-plain : (link : ℕ) → cuts_at nodes (plan_link_at nodes link).upper ≡ false → form_of_link nodes link ≡ plain_form (plan_link_at nodes link).link
+  form-plain link whole = ap (λ (b : Bool). form_under b (plan_link_at nodes link).link) whole
+
+  plan-node : (number : ℕ) (node : PlanNode) → slice_get (plan_nodes nodes) number ≡ Some node → plan_node_at nodes number ≡ node
+  plan-node number node at = at-some (plan_nodes nodes) number node (record { part = part.Slice; document = 0; name = []; lower = []; link = no_link }) at
 
   -- a link below a plan node is what the plan node says
   pub link-below : (number link : ℕ) (node : PlanNode) → slice_get (plan_nodes nodes) number ≡ Some node → is_in (links_out_of nodes number) link ≡ true → (plan_link_at nodes link).link ≡ node.link
@@ -123,6 +158,14 @@ module _ (nodes : List DocumentNode) (run : CanRun nodes) where
       let is = out-is nodes number link there in
       let facts : LinkFacts nodes link = link-facts nodes link is.0 in
       ap (λ (l : PlanLink). l.link) facts.is ∙ ap (λ (n : PlanNode). n.link) (Some-same facts.node node (sym facts.at ∙ ap (slice_get (plan_nodes nodes)) is.1 ∙ at))
+
+  -- and so is its form
+  pub form-below : (number link : ℕ) (node : PlanNode) → slice_get (plan_nodes nodes) number ≡ Some node → is_in (links_out_of nodes number) link ≡ true →
+      form_of_link nodes link ≡ form_under (cuts_bursts node.part) node.link
+  form-below number link node at there =
+      ap (λ (n : ℕ). form_under (cuts_at nodes n) (plan_link_at nodes link).link) (out-is nodes number link there).1
+      ∙ ap (λ (n : PlanNode). form_under (cuts_bursts n.part) (plan_link_at nodes link).link) (plan-node number node at)
+      ∙ ap (form_under (cuts_bursts node.part)) (link-below number link node at there)
 
   upper-known : (link : ℕ) (less : link < length (plan_links nodes)) (known : Known nodes (plan_link_at nodes link).upper (plan_link_at nodes link).lower) → (plan_link_at nodes link).link ≡ known.node.link
   upper-known link less known =
@@ -139,8 +182,11 @@ module _ (nodes : List DocumentNode) (run : CanRun nodes) where
         among = ap (λ (k : ℕ). is_in (uppers_of nodes k) known.place) (sym same_to) ∙ target-upper nodes known.place to known.within there;
         enters = is ∙ ap (entrance nodes known.place) same_to;
         exits = known.sum ∙ ap (λ (n : ℕ). first_part nodes known.place + n) exit ∙ ap (λ (k : ℕ). first_part nodes known.place + exit_of nodes known.place k) same_to;
-        is = same
-            ∙ exit-kind nodes known.place known.inner (place_in (targets nodes known.place) to) known.node (node_at nodes known.place).kind (is-built nodes run known.place known.within) exit known.form;
+        whole = ap (λ (n : PlanNode). cuts_bursts n.part) (plan-node upper known.node known.at)
+            ∙ whole-by nodes known.place known.inner known.node (node_at nodes known.place).kind
+            (λ p split first. omega (arith, first, exit, split-exit (node_at nodes known.place).kind p (input_count nodes known.place) (place_in (targets nodes known.place) to) split))
+            known.form;
+        is = same ∙ exit-kind nodes known.place known.inner (place_in (targets nodes known.place) to) known.node (node_at nodes known.place).kind exit known.form;
       }
   comes-by number link node at place document outer single upper known same (Steps flat is behind) =
       absurd (true≢false (sym behind.behind ∙ ap (λ (n : PlanNode). is_behind n.part) (Some-same behind.node node (sym behind.at ∙ at)) ∙ outer))
@@ -177,11 +223,13 @@ module _ (nodes : List DocumentNode) (run : CanRun nodes) where
       let there : target_mux nodes known.place j ≡ node = Some-same (target_mux nodes known.place j) node (sym (target-at nodes known.place j number known.within is_crossbar less sum) ∙ at) in
       let same_place : known.place ≡ place = ap (λ (n : PlanNode). n.document) there ∙ document in
       let link_is : known.node.link ≡ slice_index_or (inputs_of nodes known.place) i no_link =
-      input-link nodes known.place known.inner i known.node (node_at nodes known.place).kind is_crossbar (is-built nodes run known.place known.within) within first known.form flat in
+      input-link nodes known.place known.inner i known.node (node_at nodes known.place).kind is_crossbar within first known.form flat in
       record {
         input = i;
         within = subst (λ (k : ℕ). i < input_count nodes k) same_place within;
         from = known.sum ∙ ap (λ (k : ℕ). first_part nodes k + known.inner) same_place ∙ ap (λ (n : ℕ). first_part nodes place + n) first;
+        whole = ap (λ (n : PlanNode). cuts_bursts n.part) (plan-node upper known.node known.at)
+            ∙ whole-by nodes known.place known.inner known.node (node_at nodes known.place).kind (λ p split first. None-Some p (ap split_kind (sym is_crossbar) ∙ split)) known.form;
         is = same ∙ link_is ∙ ap (λ (k : ℕ). slice_index_or (inputs_of nodes k) i no_link) same_place;
       }
 
@@ -194,6 +242,34 @@ module _ (nodes : List DocumentNode) (run : CanRun nodes) where
       let same = upper-known link is.0 known in
       subst (λ (lower : ℕ). (known : Known nodes (plan_link_at nodes link).upper lower) → (plan_link_at nodes link).link ≡ known.node.link → JoinsAt nodes place (plan_link_at nodes link).upper (plan_link_at nodes link).link) (sym is.1)
       (λ known same. joins-by number link node at place document mux crossbar (plan_link_at nodes link).upper known same known.leads)
+      known same
+
+  stays-by : (number link place : ℕ) (node : PlanNode) → slice_get (plan_nodes nodes) number ≡ Some node → node.document ≡ place → is_behind node.part ≡ true → (node_at nodes place).kind ≡ kind.Lite →
+      (upper : ℕ) (known : Known nodes upper number) → (plan_link_at nodes link).link ≡ known.node.link → Leads nodes known.place known.inner known.node number → Stays nodes place upper (plan_link_at nodes link).link
+  stays-by number link place node at document behind lite upper known same (Enters to there is exit) =
+      let entry : Entered nodes to number = entered-target nodes known.place to number known.within there is in
+      absurd (true≢false (sym behind ∙ ap (λ (n : PlanNode). is_behind n.part) (Some-same node entry.node (sym at ∙ entry.at)) ∙ entry.outer))
+  stays-by number link place node at document behind lite upper known same (Steps flat is there) =
+      let same_place : known.place ≡ place = sym there.document ∙ ap (λ (n : PlanNode). n.document) (Some-same there.node node (sym there.at ∙ at)) ∙ document in
+      let cut : (cuts_bursts known.node.part ≡ true) × (known.node.link ≡ first_link (inputs_of nodes known.place)) =
+      splitter nodes known.place known.inner known.node (node_at nodes known.place).kind (ap (λ (k : ℕ). (node_at nodes k).kind) same_place ∙ lite) flat known.form in
+      record {
+        cut = ap (λ (n : PlanNode). cuts_bursts n.part) (plan-node upper known.node known.at) ∙ cut.0;
+        is = same ∙ cut.1 ∙ ap (λ (k : ℕ). first_link (inputs_of nodes k)) same_place;
+      }
+  stays-by number link place node at document behind lite upper known same (Joins i j flat is_crossbar within first less sum) =
+      let there : target_mux nodes known.place j ≡ node = Some-same (target_mux nodes known.place j) node (sym (target-at nodes known.place j number known.within is_crossbar less sum) ∙ at) in
+      absurd (true≢false (sym behind ∙ ap (λ (n : PlanNode). is_behind n.part) (sym there)))
+
+  -- a link into a Lite bridge
+  pub stays : (number link place : ℕ) (node : PlanNode) → slice_get (plan_nodes nodes) number ≡ Some node → node.document ≡ place → is_behind node.part ≡ true → (node_at nodes place).kind ≡ kind.Lite →
+      is_in (links_into nodes number) link ≡ true → Stays nodes place (plan_link_at nodes link).upper (plan_link_at nodes link).link
+  stays number link place node at document behind lite there =
+      let is = into-is nodes number link there in
+      let known : Known nodes (plan_link_at nodes link).upper (plan_link_at nodes link).lower = known-link nodes (plan_link_at nodes link).upper (plan_link_at nodes link).lower (leads-down nodes link is.0) in
+      let same = upper-known link is.0 known in
+      subst (λ (lower : ℕ). (known : Known nodes (plan_link_at nodes link).upper lower) → (plan_link_at nodes link).link ≡ known.node.link → Stays nodes place (plan_link_at nodes link).upper (plan_link_at nodes link).link) (sym is.1)
+      (λ known same. stays-by number link place node at document behind lite (plan_link_at nodes link).upper known same known.leads)
       known same
 
 -- ---- inputs

@@ -30,14 +30,14 @@ use Rattle.net_kinds.specs.NodeKind.{node_kind}
 use Rattle.net_opening.specs.Opening.{state_by_part}
 use Rattle.net_opening.specs.PlanLinks.{link_into, links_into, links_out_of}
 use Rattle.plan_traffic.specs.Scripts.{script_item, script_of}
-use Rattle.net_opening.specs.States.{area_of_node, memory_range}
+use Rattle.net_opening.specs.States.{area_of_node, area_on, memory_range}
 use Rattle.net_opening.specs.Touched.{among, is_write_to, lines_of_burst, lines_touched, upwards}
 use Rattle.net_plan.proofs.LinkKinds.{nth-input}
 use Rattle.net_plan.proofs.LinkLists.{at-some, made-from}
-use Rattle.net_plan.proofs.NodeLinks.{out-long, some-into}
-use Rattle.net_plan.proofs.NodeSound.{above-first, crossbar-few, crossbar-input, manager-is, mux-few, mux-input, of-manager}
-use Rattle.net_plan.proofs.PartLemmas.{formed-at, is-built, no-split}
-use Rattle.net_plan.proofs.PlainLinks.{names_bus, own-bus, plain-input, width-of}
+use Rattle.net_plan.proofs.LinkProtocols.{input-fits, lite-forms, names_bus, own-bus, width-of}
+use Rattle.net_plan.proofs.NodeLinks.{into-is, out-long, some-into}
+use Rattle.net_plan.proofs.NodeSound.{above-first, crossbar-few, crossbar-input, into-there, manager-is, mux-few, mux-input, of-manager}
+use Rattle.net_plan.proofs.PartLemmas.{formed-at, is-built, split-lite}
 use Rattle.net_plan.proofs.SoundParts.{IsInput, handed, some-in}
 use Rattle.net_plan.proofs.WidthLemmas.{widest-most, widest-of}
 use Rattle.net_plan.specs.PlanLaws.{CanRun}
@@ -216,8 +216,8 @@ good-span base size e =
       ltb-false (2 ^ 63) (base + size) one.1,
     )
 
-good-range : (node : DocumentNode) (range : Span) → is_bad_range node.base node.size range ≡ false → IsRangeOf (area_of_node node) (memory_range range)
-good-range node range e =
+good-range : (bus : ℕ) (node : DocumentNode) (range : Span) → is_bad_range node.base node.size range ≡ false → IsRangeOf (area_on bus node) (memory_range range)
+good-range bus node range e =
     let one = or_parts (range.size == 0 || not (range.base % 128 == 0) || not (range.size % 128 == 0) || nat_lt range.base node.base) (nat_lt (node.base + node.size) (range.base + range.size)) e in
     let two = or_parts (range.size == 0 || not (range.base % 128 == 0) || not (range.size % 128 == 0)) (nat_lt range.base node.base) one.0 in
     let three = or_parts (range.size == 0 || not (range.base % 128 == 0)) (not (range.size % 128 == 0)) two.0 in
@@ -241,9 +241,8 @@ module _ (nodes : List DocumentNode) (items : List TrafficItem) (run : CanRun no
   document_is : (plan_node_at nodes number).document ≡ place
   document_is = ap (λ (n : PlanNode). n.document) node_is ∙ document
 
-  area : (node_at nodes place).kind ≡ kind.Memory → IsMemoryArea (area_of_node (node_at nodes place))
-  area own =
-      let formed : IsFormed (node_at nodes place) = formed-at nodes run place within in
+  area : (bus : ℕ) → IsBusWidth bus → is_memory (node_at nodes place).kind ≡ true → IsMemoryArea (area_on bus (node_at nodes place))
+  area bus width own =
       let bad = (accepted-is_clean nodes run.accepted place within).regions_are_good in
       let node : DocumentNode = node_at nodes place in
       let bad_regions = list_any (λ (region : NamedRegion). is_bad_span region.base region.size) (node_at nodes place).region in
@@ -254,27 +253,56 @@ module _ (nodes : List DocumentNode) (items : List TrafficItem) (run : CanRun no
       let kept = or_parts (bad_regions || bad_area) bad_read_only holes.0 in
       let two = or_parts bad_regions bad_area kept.0 in
       let span = good-span (node_at nodes place).base (node_at nodes place).size
-      (and-right (is_memory (node_at nodes place).kind) (is_bad_span (node_at nodes place).base (node_at nodes place).size) (ap is_memory own) two.1) in
+      (and-right (is_memory (node_at nodes place).kind) (is_bad_span (node_at nodes place).base (node_at nodes place).size) own two.1) in
       record {
-        bus = width-of (node_at nodes place).bus (memory-bus (node_at nodes place).bus (subst (λ (k : Kind). IsNumberAt (table_form k).bus bus_limits (node_at nodes place).bus) own formed.bus)) formed.bus_is_width;
+        bus = width;
         base = span.0;
         size = span.1;
         end = span.2;
-        read_only = All-map (IsRangeOf (area_of_node (node_at nodes place))) memory_range (node_at nodes place).read_only
-            (none-bad (is_bad_range (node_at nodes place).base (node_at nodes place).size) (λ (r : Span). IsRangeOf (area_of_node (node_at nodes place)) (memory_range r)) (node_at nodes place).read_only (good-range (node_at nodes place)) kept.1);
-        hole = All-map (IsRangeOf (area_of_node (node_at nodes place))) memory_range (node_at nodes place).hole
-            (none-bad (is_bad_range (node_at nodes place).base (node_at nodes place).size) (λ (r : Span). IsRangeOf (area_of_node (node_at nodes place)) (memory_range r)) (node_at nodes place).hole (good-range (node_at nodes place)) holes.1);
+        read_only = All-map (IsRangeOf (area_on bus (node_at nodes place))) memory_range (node_at nodes place).read_only
+            (none-bad (is_bad_range (node_at nodes place).base (node_at nodes place).size) (λ (r : Span). IsRangeOf (area_on bus (node_at nodes place)) (memory_range r)) (node_at nodes place).read_only
+            (good-range bus (node_at nodes place)) kept.1);
+        hole = All-map (IsRangeOf (area_on bus (node_at nodes place))) memory_range (node_at nodes place).hole
+            (none-bad (is_bad_range (node_at nodes place).base (node_at nodes place).size) (λ (r : Span). IsRangeOf (area_on bus (node_at nodes place)) (memory_range r)) (node_at nodes place).hole
+            (good-range bus (node_at nodes place)) holes.1);
       }
+
+  -- the bus of a memory of AXI4
+  memory-width : (node_at nodes place).kind ≡ kind.Memory → IsBusWidth (node_at nodes place).bus
+  memory-width own =
+      let formed : IsFormed (node_at nodes place) = formed-at nodes run place within in
+      width-of (node_at nodes place).bus (memory-bus (node_at nodes place).bus (subst (λ (k : Kind). IsNumberAt (table_form k).bus bus_limits (node_at nodes place).bus) own formed.bus)) formed.bus_is_width
 
   as-memory : (node_at nodes place).kind ≡ kind.Memory → BeginsAs part.Memory
   as-memory own = record {
-    area = subst (λ (k : ℕ). IsMemoryArea (area_of_node (node_at nodes k))) (sym document_is) (area own);
+    area = subst (λ (k : ℕ). IsMemoryArea (area_of_node (node_at nodes k))) (sym document_is) (area (node_at nodes place).bus (memory-width own) (ap is_memory own));
     accept = (node_at nodes (plan_node_at nodes number).document).accept;
     give = (node_at nodes (plan_node_at nodes number).document).give;
     touched = lines_touched nodes items number;
     ascending = upwards-rises (flat_map (λ (item : TrafficItem). lines_of_burst item.txn.request) (filter (is_write_to nodes items number) items));
     is_new = refl;
   }
+
+  -- the bus of the link above a part that has one
+  bus-above : is_first node.part ≡ false → is_mux node.part ≡ false → IsBusWidth (plan_link_at nodes (link_into nodes number)).link.bus
+  bus-above first mux =
+      (lite-forms nodes run (link_into nodes number) (into-is nodes number (link_into nodes number)
+      (into-there nodes items run traffic (λ link. empty_schedule) number place inner node at document node_is within first mux)).0).width
+
+  as-lite_memory : node.part ≡ part.LiteMemory → (node_at nodes place).kind ≡ kind.LiteMemory → BeginsAs part.LiteMemory
+  as-lite_memory is own =
+      record {
+        area = subst (λ (k : ℕ). IsMemoryArea (area_on (plan_link_at nodes (link_into nodes number)).link.bus (node_at nodes k))) (sym document_is)
+            (area (plan_link_at nodes (link_into nodes number)).link.bus (bus-above (ap is_first is) (ap is_mux is)) (ap is_memory own));
+        accept = (node_at nodes (plan_node_at nodes number).document).accept;
+        give = (node_at nodes (plan_node_at nodes number).document).give;
+        touched = lines_touched nodes items number;
+        ascending = upwards-rises (flat_map (λ (item : TrafficItem). lines_of_burst item.txn.request) (filter (is_write_to nodes items number) items));
+        is_new = refl;
+      }
+
+  as-lite : node.part ≡ part.Lite → BeginsAs part.Lite
+  as-lite is = record { bus = bus-above (ap is_first is) (ap is_mux is); new = refl }
 
   as-manager : (node_at nodes place).kind ≡ kind.Manager → BeginsAs part.Manager
   as-manager own =
@@ -339,7 +367,7 @@ module _ (nodes : List DocumentNode) (items : List TrafficItem) (run : CanRun no
       (ap (bus_differs_at (node_at nodes place) (inputs_of nodes place)) (sym own) ∙ (accepted-is_clean nodes run.accepted place within).widths_fit) in
       record {
         shape = record {
-          narrow = subst (λ (link : LinkKind). IsBusWidth link.bus) (sym above) (plain-input nodes run place within (ap is_manager own)).width;
+          narrow = subst (λ (link : LinkKind). IsBusWidth link.bus) (sym above) (input-fits nodes run place within (ap is_manager own)).width;
           wide = subst (λ (k : ℕ). IsBusWidth (node_at nodes k).bus) (sym document_is) (own-bus nodes run place within (ap names_bus own));
           wider = omega (arith, wider, ap (λ (link : LinkKind). link.bus) above, ap (λ (k : ℕ). (node_at nodes k).bus) document_is);
         };
@@ -358,8 +386,8 @@ module _ (nodes : List DocumentNode) (items : List TrafficItem) (run : CanRun no
       (mux-few nodes items run traffic (λ link. empty_schedule) number place inner node at document node_is within is_part own)
       (λ link there.
       let from = mux-input nodes items run traffic (λ link. empty_schedule) number place inner node at document node_is within is_part own link there in
-      record { upper = from.from; among = from.among; is = from.is }))
-  as-own kind.LiteMemory own built p own_is is = absurd (true≢false built)
+      record { upper = from.from; whole = from.whole; among = from.among; is = from.is }))
+  as-own kind.LiteMemory own built p own_is is = let same = Some-same part.LiteMemory p own_is in subst BeginsAs same (as-lite_memory (is ∙ sym same) own)
   as-own kind.Remap own built p own_is is = let same = Some-same part.Remap p own_is in subst BeginsAs same (as-remap own)
   as-own kind.Up own built p own_is is = let same = Some-same part.Up p own_is in subst BeginsAs same (as-up (is ∙ sym same) own)
   as-own other own built p own_is is = absurd (None-Some p own_is)
@@ -368,8 +396,10 @@ module _ (nodes : List DocumentNode) (items : List TrafficItem) (run : CanRun no
   unfolding numbers
   begins-by (Own p own first is) =
       subst BeginsAs (sym (ap (λ (n : PlanNode). n.part) is)) (as-own (node_at nodes place).kind refl (is-built nodes run place within) p own (ap (λ (n : PlanNode). n.part) is))
-  begins-by (Split p split first is) = absurd (no-split (node_at nodes place).kind p split (is-built nodes run place within))
-  begins-by (Behind p split first is) = absurd (no-split (node_at nodes place).kind p split (is-built nodes run place within))
+  begins-by (Split p split first is) = subst BeginsAs (sym (ap (λ (n : PlanNode). n.part) is)) refl
+  begins-by (Behind p split first is) =
+      let is_part : node.part ≡ part.Lite = ap (λ (n : PlanNode). n.part) is ∙ (split-lite (node_at nodes place).kind p split (is-built nodes run place within)).1 in
+      subst BeginsAs (sym is_part) (as-lite is_part)
   begins-by (Demux own first is) =
       subst BeginsAs (sym (ap (λ (n : PlanNode). n.part) is))
       (as-demux
@@ -394,6 +424,7 @@ module _ (nodes : List DocumentNode) (items : List TrafficItem) (run : CanRun no
       let from = crossbar-input nodes items run traffic (λ link. empty_schedule) number place inner node at document node_is within is_part own link there in
       record {
         upper = slice_index_or (uppers_of nodes place) from.input 0;
+        whole = from.whole;
         among = nth-in (uppers_of nodes place) from.input from.within;
         is = from.is ∙ nth-input nodes place from.input from.within;
       }))

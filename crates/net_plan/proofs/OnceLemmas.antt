@@ -19,7 +19,7 @@ use Rattle.plan_traffic.specs.Scripts.{script_item, script_of}
 use Rattle.net_plan.proofs.LinkLists.{at-some, made-from, some-at}
 use Rattle.net_plan.proofs.NodeBegins.{number-at}
 use Rattle.net_plan.proofs.OpeningWired.{node-at}
-use Rattle.net_plan.proofs.PartLemmas.{is-built, no-split}
+use Rattle.net_plan.proofs.PartLemmas.{is-built, split-lite}
 use Rattle.net_plan.specs.PlanLaws.{CanRun}
 use Rattle.net_ways.specs.Ways.{origins_in}
 use Rattle.node_core.specs.Acted.{Acted, opened}
@@ -116,7 +116,8 @@ module _ (nodes : List DocumentNode) (items : List TrafficItem) where
       number ≡ first_part nodes place
   first-by run place inner number node less sum (Own p own first is) e = omega (arith, sum, first)
   first-by run place inner number node less sum (Split p split first is) e = omega (arith, sum, first)
-  first-by run place inner number node less sum (Behind p split first is) e = absurd (no-split (node_at nodes place).kind p split (is-built nodes run place less))
+  first-by run place inner number node less sum (Behind p split first is) e =
+      absurd (true≢false (sym e ∙ ap (λ (n : PlanNode). is_first n.part) is ∙ ap is_first (split-lite (node_at nodes place).kind p split (is-built nodes run place less)).1))
   first-by run place inner number node less sum (Demux own first is) e = omega (arith, sum, first)
   first-by run place inner number node less sum (DemuxError own first is) e = absurd (true≢false (sym e ∙ ap (λ (n : PlanNode). is_first n.part) is))
   first-by run place inner number node less sum (Input i own within first is) e = absurd (true≢false (sym e ∙ ap (λ (n : PlanNode). is_first n.part) is))

@@ -114,12 +114,12 @@ module _ (nodes : List DocumentNode) (items : List TrafficItem) where
   lowers-by_part number part.Demux lower suits one none = refl
   lowers-by_part number part.Memory lower suits one none = sym (none suits)
   lowers-by_part number part.Error lower suits one none = sym (none suits)
-  lowers-by_part number part.LiteMemory lower suits one none = absurd suits
+  lowers-by_part number part.LiteMemory lower suits one none = sym (none suits)
   lowers-by_part number part.Remap lower suits one none = one suits
-  lowers-by_part number part.Split lower suits one none = absurd suits
+  lowers-by_part number part.Split lower suits one none = one suits
   lowers-by_part number part.Up lower suits one none = one suits
   lowers-by_part number part.Down lower suits one none = absurd suits
-  lowers-by_part number part.Lite lower suits one none = absurd suits
+  lowers-by_part number part.Lite lower suits one none = one suits
 
   module _ (run : CanRun nodes) where
     lower-known : (link : ℕ) → link < length (plan_links nodes) → (plan_link_at nodes link).lower < length (plan_nodes nodes)

@@ -83,8 +83,11 @@ LowersSuit part.Mux lower = length lower ≡ 1
 LowersSuit part.Slice lower = length lower ≡ 1
 LowersSuit part.Remap lower = length lower ≡ 1
 LowersSuit part.Up lower = length lower ≡ 1
+LowersSuit part.Split lower = length lower ≡ 1
+LowersSuit part.Lite lower = length lower ≡ 1
 LowersSuit part.Demux lower = Unit {0}
 LowersSuit part.Memory lower = length lower ≡ 0
+LowersSuit part.LiteMemory lower = length lower ≡ 0
 LowersSuit part.Error lower = length lower ≡ 0
 LowersSuit other lower = ⊥
 
@@ -94,22 +97,26 @@ own-suits kind.Manager p lower own built one none = subst (λ (q : Part). Lowers
 own-suits kind.Memory p lower own built one none = subst (λ (q : Part). LowersSuit q lower) (Some-same part.Memory p own) (none refl refl)
 own-suits kind.Slice p lower own built one none = subst (λ (q : Part). LowersSuit q lower) (Some-same part.Slice p own) (one refl refl)
 own-suits kind.Mux p lower own built one none = subst (λ (q : Part). LowersSuit q lower) (Some-same part.Mux p own) (one refl refl)
-own-suits kind.LiteMemory p lower own built one none = absurd (true≢false built)
+own-suits kind.LiteMemory p lower own built one none = subst (λ (q : Part). LowersSuit q lower) (Some-same part.LiteMemory p own) (none refl refl)
 own-suits kind.Remap p lower own built one none = subst (λ (q : Part). LowersSuit q lower) (Some-same part.Remap p own) (one refl refl)
 own-suits kind.Up p lower own built one none = subst (λ (q : Part). LowersSuit q lower) (Some-same part.Up p own) (one refl refl)
 own-suits other p lower own built one none = absurd (None-Some p own)
 
-pub no-split : (k : Kind) (p : Part) → split_kind k ≡ Some p → is_unbuilt k ≡ false → ⊥
-no-split kind.Down p split built = true≢false built
-no-split kind.Lite p split built = true≢false built
-no-split other p split built = None-Some p split
+-- the one kind that can run and has a splitter above it
+pub split-lite : (k : Kind) (p : Part) → split_kind k ≡ Some p → is_unbuilt k ≡ false → (k ≡ kind.Lite) × (p ≡ part.Lite)
+split-lite kind.Down p split built = absurd (true≢false built)
+split-lite kind.Lite p split built = (refl, sym (Some-same part.Lite p split))
+split-lite other p split built = absurd (None-Some p split)
 
 pub suits-by : (nodes : List DocumentNode) → CanRun nodes → (place inner : ℕ) (node : PlanNode) → place < length nodes → Form nodes place inner node (node_at nodes place).kind → LowersSuit node.part node.lower
 suits-by nodes run place inner node less (Own p own first is) =
     subst (λ (n : PlanNode). LowersSuit n.part n.lower) (sym is)
     (own-suits (node_at nodes place).kind p (entrances nodes place) own (is-built nodes run place less) (one-target nodes run place less) (no-target nodes run place less))
-suits-by nodes run place inner node less (Split p split first is) = absurd (no-split (node_at nodes place).kind p split (is-built nodes run place less))
-suits-by nodes run place inner node less (Behind p split first is) = absurd (no-split (node_at nodes place).kind p split (is-built nodes run place less))
+suits-by nodes run place inner node less (Split p split first is) = subst (λ (n : PlanNode). LowersSuit n.part n.lower) (sym is) refl
+suits-by nodes run place inner node less (Behind p split first is) =
+    let lite = split-lite (node_at nodes place).kind p split (is-built nodes run place less) in
+    subst (λ (n : PlanNode). LowersSuit n.part n.lower) (sym is)
+    (subst (λ (q : Part). LowersSuit q (entrances nodes place)) (sym lite.1) (one-target nodes run place less (ap has_regions lite.0) (ap is_memory lite.0)))
 suits-by nodes run place inner node less (Demux k first is) = subst (λ (n : PlanNode). LowersSuit n.part n.lower) (sym is) tt
 suits-by nodes run place inner node less (DemuxError k first is) = subst (λ (n : PlanNode). LowersSuit n.part n.lower) (sym is) refl
 suits-by nodes run place inner node less (Input i k within first is) = subst (λ (n : PlanNode). LowersSuit n.part n.lower) (sym is) tt
@@ -123,15 +130,15 @@ lowers-suit nodes run number node at = let spot : Part_at nodes number node = pa
 
 own-not_memory : (k : Kind) (p : Part) → own_part k ≡ Some p → is_unbuilt k ≡ false → ((has_regions k ≡ false) → is_memory k ≡ true → ⊥) → is_memory k ≡ false
 own-not_memory kind.Memory p own built none = absurd (none refl refl)
-own-not_memory kind.LiteMemory p own built none = absurd (true≢false built)
+own-not_memory kind.LiteMemory p own built none = absurd (none refl refl)
 own-not_memory other p own built none = refl
 
 not-memory : (nodes : List DocumentNode) → CanRun nodes → (place inner : ℕ) (node : PlanNode) → place < length nodes → Form nodes place inner node (node_at nodes place).kind → 0 < length node.lower → is_memory (node_at nodes place).kind ≡ false
 not-memory nodes run place inner node less (Own p own first is) some =
     own-not_memory (node_at nodes place).kind p own (is-built nodes run place less)
     (λ no_regions memory. omega (arith, some, ap (λ (n : PlanNode). length n.lower) is, no-target nodes run place less no_regions memory))
-not-memory nodes run place inner node less (Split p split first is) some = absurd (no-split (node_at nodes place).kind p split (is-built nodes run place less))
-not-memory nodes run place inner node less (Behind p split first is) some = absurd (no-split (node_at nodes place).kind p split (is-built nodes run place less))
+not-memory nodes run place inner node less (Split p split first is) some = ap is_memory (split-lite (node_at nodes place).kind p split (is-built nodes run place less)).0
+not-memory nodes run place inner node less (Behind p split first is) some = ap is_memory (split-lite (node_at nodes place).kind p split (is-built nodes run place less)).0
 not-memory nodes run place inner node less (Demux k first is) some = ap is_memory k
 not-memory nodes run place inner node less (DemuxError k first is) some = ap is_memory k
 not-memory nodes run place inner node less (Input i k within first is) some = ap is_memory k

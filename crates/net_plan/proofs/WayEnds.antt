@@ -1,13 +1,16 @@
--- The way of a transaction follows the path of its address, so that it ends at its target.
+-- The way of a transaction follows the path of its address, whole or in parts, so that it ends at its target.
 use Rattle.std.proofs.Common.{◌≡◌, ◌<◌, ◌≤◌, ◌+◌, ◌-◌, ◌*◌, ◌==◌, ℕ, zero, suc, Bool, true, false, cond, List, [], ◌∷◌, length, map, Option, Some, None, refl, sym, ◌∙◌, ap, subst, inl, inr, arith}
 use Rattle.std.specs.Prelude.{slice_get, slice_index_or, unwrap_or, ◌⊎◌}
 use Rattle.std.specs.Option.{option_and_then, option_map_or}
-use Rattle.std.specs.List.{range_with_len}
+use Rattle.std.specs.List.{list_any, range_with_len}
 use Rattle.std.proofs.lemmas.Bool.{eqb-true, true≢false}
 use Rattle.std.proofs.lemmas.List.{length-append, length-map}
 use Rattle.std.proofs.lemmas.List.FromFn.{length-map-range_with_len, length-range_with_len}
+use Rattle.std.proofs.lemmas.List.Elements.{All-head}
 use Rattle.std.proofs.lemmas.Option.{slice_get_within}
-use Rattle.address_map.specs.Regions.{serving_port}
+use Rattle.address_map.proofs.PortLemmas.{page-port}
+use Rattle.address_map.specs.Regions.{is_bad_region, serving_port}
+use Rattle.axi_beats.specs.Bus.{IsBusWidth}
 use Rattle.axi_beats.specs.declared.beat.Addr.{Addr}
 use Rattle.axi_trail.specs.Schedule.{Share}
 use Rattle.elaborate.proofs.Forms.{Form, Part_at, own_part, part-at}
@@ -15,7 +18,8 @@ use Rattle.elaborate.proofs.Forms.Form.{Behind, Demux, DemuxError, Input, InputE
 use Rattle.elaborate.proofs.Lists.{None-Some, Some-same}
 use Rattle.elaborate.proofs.PathFacts.{last-later, onward, onward-below, path-goes_on, path-stops}
 use Rattle.elaborate.proofs.PlanFacts.{form-document, lowers-are_nodes, plan-is_acyclic}
-use Rattle.elaborate.specs.Path.{next_by_part, path_from, ported_regions}
+use Rattle.elaborate.specs.Laws.{is_first, is_mux}
+use Rattle.elaborate.specs.Path.{next_by_part, path_from, port_at_demux, ported_regions}
 use Rattle.elaborate.specs.Plan.{PlanNode, entrance, entrances, first_part, plan_graph, plan_link_at, plan_links, plan_node_at, plan_nodes}
 use Rattle.elaborate.specs.declared.link.PlanLink.{PlanLink}
 use Rattle.elaborate.specs.declared.part.Part.{Part}
@@ -24,16 +28,20 @@ use Rattle.net_kinds.specs.NodeKind.{NodeState, node_kind}
 use Rattle.net_model.specs.declared.net_link.NetLink.{NetLink}
 use Rattle.net_opening.specs.Opening.{opening, state_at, state_by_part}
 use Rattle.demux_node.specs.DemuxTrail.{port_of_parts}
-use Rattle.net_opening.specs.PlanLinks.{link_out_of, links_out_of}
-use Rattle.net_opening.specs.States.{demux_at}
+use Rattle.net_opening.specs.PlanLinks.{link_into, link_out_of, links_into, links_out_of}
+use Rattle.net_opening.specs.States.{demux_at, lite_at}
+use Rattle.net_plan.proofs.BurstParts.{AreOfBurst, IsOfBurst, of-cut, of-words}
 use Rattle.net_plan.proofs.LinkLists.{range-at, some-at}
 use Rattle.net_plan.proofs.LinkPlaces.{link-by_port, link-there, link_down, links-out, links_before}
-use Rattle.net_plan.proofs.NodeLinks.{leads-down}
+use Rattle.net_plan.proofs.LinkProtocols.{lite-forms}
+use Rattle.net_plan.proofs.NodeLinks.{into-is, leads-down, one-into}
 use Rattle.net_plan.proofs.OpeningWired.{link-is, node-at, node-is}
-use Rattle.net_plan.proofs.PartLemmas.{LowersSuit, is-built, lowers-suit, no-split}
+use Rattle.net_plan.proofs.PartLemmas.{LowersSuit, is-built, lowers-suit, split-lite}
+use Rattle.net_plan.proofs.SoundParts.{ports-are_good}
 use Rattle.net_plan.specs.PlanLaws.{CanRun}
 use Rattle.net_ways.specs.Ways.{Hop, hop_at_end, hop_before, share_on, way_at, way_below, way_from}
 use Rattle.node_core.specs.Acted.{Acted}
+use Rattle.node_graph.proofs.Members.{in-first}
 use Rattle.node_graph.proofs.Ways.{depths-are_small, links-lead_deeper}
 use Rattle.node_graph.specs.Graph.{depth_of, is_in, nodes_below, numbers}
 use Rattle.node_shape.specs.Way.{Way, onto, start_here}
@@ -99,7 +107,23 @@ module _ (nodes : List DocumentNode) (items : List TrafficItem) (run : CanRun no
   demux-port : (a b : ℕ) (o : Option ℕ) → a ≡ b → unwrap_or o a ≡ unwrap_or o b
   demux-port a b o same = ap (unwrap_or o) same
 
-  goes-by : (number next : ℕ) (node : PlanNode) (p : Part) (share : Share) (request : Addr) → slice_get (plan_nodes nodes) number ≡ Some node → plan_node_at nodes number ≡ node → node.part ≡ p → share.parts ≡ request ∷ [] →
+  -- the port of what is carried of a burst at a demux is that of the burst's address
+  pub burst-port : (number : ℕ) (node : PlanNode) (parts : List Addr) (request : Addr) → slice_get (plan_nodes nodes) number ≡ Some node → plan_node_at nodes number ≡ node →
+      length node.lower ≡ suc (length (targets_of nodes (node_at nodes node.document))) → AreOfBurst request parts →
+      port_of_parts (demux_at nodes number).shape parts ≡ port_at_demux nodes (node_at nodes node.document) request.addr
+  burst-port number node [] request at is long are = absurd (omega (arith, are.some))
+  burst-port number node (part ∷ parts) request at is long are =
+      let out : length (links_out_of nodes number) ≡ length node.lower = ap length (links-out nodes number node at) ∙ length-range_with_len (links_before (plan_nodes nodes) number) (length node.lower) in
+      let last : length (links_out_of nodes number) - 1 ≡ length (targets_of nodes (node_at nodes node.document)) = omega (arith, out, long) in
+      let spot : Part_at nodes number node = part-at nodes number node at in
+      let document : node.document ≡ spot.place = form-document nodes spot.place spot.inner node (node_at nodes spot.place).kind spot.form in
+      let good : list_any is_bad_region (ported_regions nodes (node_at nodes node.document)) ≡ false = ports-are_good nodes run.accepted node.document (omega (arith, document, spot.within)) in
+      ap (λ (k : ℕ). unwrap_or (serving_port (ported_regions nodes (node_at nodes k)) part.addr) (length (links_out_of nodes number) - 1)) (ap (λ (n : PlanNode). n.document) is)
+      ∙ ap (unwrap_or (serving_port (ported_regions nodes (node_at nodes node.document)) part.addr)) last
+      ∙ ap (λ (port : Option ℕ). unwrap_or port (length (targets_of nodes (node_at nodes node.document))))
+      (page-port (ported_regions nodes (node_at nodes node.document)) part.addr request.addr good (All-head (IsOfBurst request) part parts are.each).same_page)
+
+  goes-by : (number next : ℕ) (node : PlanNode) (p : Part) (share : Share) (request : Addr) → slice_get (plan_nodes nodes) number ≡ Some node → plan_node_at nodes number ≡ node → node.part ≡ p → AreOfBurst request share.parts →
       LowersSuit p node.lower → (p ≡ part.Demux → length node.lower ≡ suc (length (targets_of nodes (node_at nodes node.document)))) →
       (node_kind.way (state_by_part nodes items number p)).goes_on share ≡ Some next →
       (next_by_part nodes request.addr node p ≡ Some (plan_link_at nodes next).lower) × (next < length (plan_links nodes))
@@ -109,37 +133,37 @@ module _ (nodes : List DocumentNode) (items : List TrafficItem) (run : CanRun no
   goes-by number next node part.Mux share request at is is_part parts suits long e = first-leads number next node at suits e
   goes-by number next node part.Slice share request at is is_part parts suits long e = first-leads number next node at suits e
   goes-by number next node part.Demux share request at is is_part parts suits long e =
-      let out : length (links_out_of nodes number) ≡ length node.lower = ap length (links-out nodes number node at) ∙ length-range_with_len (links_before (plan_nodes nodes) number) (length node.lower) in
-      let last : length (links_out_of nodes number) - 1 ≡ length (targets_of nodes (node_at nodes node.document)) = omega (arith, out, long refl) in
-      let regions = ported_regions nodes (node_at nodes node.document) in
-      let e_parts = ap (λ (ps : List Addr). slice_get (links_out_of nodes number) (port_of_parts (demux_at nodes number).shape ps)) (sym parts) ∙ e in
-      let e_port =
-      ap (λ (k : ℕ). slice_get (links_out_of nodes number) (unwrap_or (serving_port (ported_regions nodes (node_at nodes k)) request.addr) (length (links_out_of nodes number) - 1)))
-      (sym (ap (λ (n : PlanNode). n.document) is)) ∙ e_parts in
-      let e_last =
-      ap (λ (k : ℕ). slice_get (links_out_of nodes number) (unwrap_or (serving_port (ported_regions nodes (node_at nodes node.document)) request.addr) k)) (sym last) ∙ e_port in
-      port-leads number (unwrap_or (serving_port (ported_regions nodes (node_at nodes node.document)) request.addr) (length (targets_of nodes (node_at nodes node.document)))) next node at e_last
-  goes-by number next node part.LiteMemory share request at is is_part parts suits long e = absurd suits
+      port-leads number (port_at_demux nodes (node_at nodes node.document) request.addr) next node at
+      (ap (slice_get (links_out_of nodes number)) (sym (burst-port number node share.parts request at is (long refl) parts)) ∙ e)
+  goes-by number next node part.LiteMemory share request at is is_part parts suits long e = absurd (None-Some next e)
   goes-by number next node part.Remap share request at is is_part parts suits long e = first-leads number next node at suits e
-  goes-by number next node part.Split share request at is is_part parts suits long e = absurd suits
+  goes-by number next node part.Split share request at is is_part parts suits long e = first-leads number next node at suits e
   goes-by number next node part.Up share request at is is_part parts suits long e = first-leads number next node at suits e
   goes-by number next node part.Down share request at is is_part parts suits long e = absurd suits
-  goes-by number next node part.Lite share request at is is_part parts suits long e = absurd suits
+  goes-by number next node part.Lite share request at is is_part parts suits long e = first-leads number next node at suits e
 
-  -- no kind cuts bursts, and where one goes on it goes by a link of the plan
-  cut-by : (number : ℕ) (p : Part) (share : Share) → ((node_kind.way (state_by_part nodes items number p)).cut share).parts ≡ share.parts
-  cut-by number part.Manager share = refl
-  cut-by number part.Memory share = refl
-  cut-by number part.Error share = refl
-  cut-by number part.Mux share = refl
-  cut-by number part.Demux share = refl
-  cut-by number part.Slice share = refl
-  cut-by number part.LiteMemory share = refl
-  cut-by number part.Remap share = refl
-  cut-by number part.Split share = refl
-  cut-by number part.Up share = refl
-  cut-by number part.Down share = refl
-  cut-by number part.Lite share = refl
+  -- the bus around a Lite bridge is one that there is
+  bridge-bus : (number : ℕ) → slice_get (plan_nodes nodes) number ≡ Some (plan_node_at nodes number) → (plan_node_at nodes number).part ≡ part.Lite → IsBusWidth (lite_at nodes number).shape.bus
+  bridge-bus number at is =
+      let alone = one-into nodes run.accepted number (plan_node_at nodes number) at (ap is_first is) (ap is_mux is) in
+      let into : is_in (links_into nodes number) (link_into nodes number) ≡ true = ap (λ xs. is_in xs (link_into nodes number)) (sym alone) ∙ in-first (link_into nodes number) [] (link_into nodes number) refl in
+      (lite-forms nodes run (link_into nodes number) (into-is nodes number (link_into nodes number) into).0).width
+
+  -- what a node sends on of a burst are parts of it
+  cut-by : (number : ℕ) (p : Part) (share : Share) (request : Addr) → (p ≡ part.Lite → IsBusWidth (lite_at nodes number).shape.bus) → AreOfBurst request share.parts →
+      AreOfBurst request ((node_kind.way (state_by_part nodes items number p)).cut share).parts
+  cut-by number part.Manager share request bus are = are
+  cut-by number part.Memory share request bus are = are
+  cut-by number part.Error share request bus are = are
+  cut-by number part.Mux share request bus are = are
+  cut-by number part.Demux share request bus are = are
+  cut-by number part.Slice share request bus are = are
+  cut-by number part.LiteMemory share request bus are = are
+  cut-by number part.Remap share request bus are = are
+  cut-by number part.Split share request bus are = of-cut request share.parts are
+  cut-by number part.Up share request bus are = are
+  cut-by number part.Down share request bus are = are
+  cut-by number part.Lite share request bus are = of-words (lite_at nodes number).shape.bus request share.parts (bus refl) are
 
   abbrev pub below : ℕ → Way
   below link = way_below node_kind (opening nodes items) link
@@ -163,8 +187,9 @@ module _ (nodes : List DocumentNode) (items : List TrafficItem) (run : CanRun no
   ports-by : (place inner : ℕ) (node : PlanNode) → place < length nodes → Form nodes place inner node (node_at nodes place).kind → node.part ≡ part.Demux → length node.lower ≡ suc (length (targets_of nodes (node_at nodes place)))
   unfolding numbers
   ports-by place inner node less (Own p own first is) demux = absurd (own-demux (node_at nodes place).kind p own (sym (ap (λ (n : PlanNode). n.part) is) ∙ demux))
-  ports-by place inner node less (Split p split first is) demux = absurd (no-split (node_at nodes place).kind p split (is-built nodes run place less))
-  ports-by place inner node less (Behind p split first is) demux = absurd (no-split (node_at nodes place).kind p split (is-built nodes run place less))
+  ports-by place inner node less (Split p split first is) demux = absurd (true≢false (ap is_demux (sym demux ∙ ap (λ (n : PlanNode). n.part) is)))
+  ports-by place inner node less (Behind p split first is) demux =
+      absurd (true≢false (ap is_demux (sym demux ∙ ap (λ (n : PlanNode). n.part) is ∙ (split-lite (node_at nodes place).kind p split (is-built nodes run place less)).1)))
   ports-by place inner node less (Demux own first is) demux =
       omega (arith, ap (λ (n : PlanNode). length n.lower) is, length-append (entrances nodes place) ((first_part nodes place + 1) ∷ []), length-map (targets_of nodes (node_at nodes place)) (entrance nodes place))
   ports-by place inner node less (DemuxError own first is) demux = absurd (true≢false (ap is_demux (sym demux ∙ ap (λ (n : PlanNode). n.part) is)))
@@ -187,8 +212,8 @@ module _ (nodes : List DocumentNode) (items : List TrafficItem) (run : CanRun no
   pub lower-known : (link : ℕ) → link < length (plan_links nodes) → (plan_link_at nodes link).lower < length (plan_nodes nodes)
   lower-known link less = lowers-are_nodes nodes (plan_link_at nodes link).upper (plan_link_at nodes link).lower (leads-down nodes link less)
 
-  -- a transaction goes on where the path of its address does
-  pub step : (link next : ℕ) (share : Share) (request : Addr) → link < length (plan_links nodes) → share.parts ≡ request ∷ [] → (below link).goes_on share ≡ Some next →
+  -- a transaction, or what is carried of it, goes on where the path of its address does
+  pub step : (link next : ℕ) (share : Share) (request : Addr) → link < length (plan_links nodes) → AreOfBurst request share.parts → (below link).goes_on share ≡ Some next →
       (onward nodes request.addr (plan_link_at nodes link).lower ≡ Some (plan_link_at nodes next).lower) × (next < length (plan_links nodes))
   step link next share request less parts goes =
       let number : ℕ = (plan_link_at nodes link).lower in
@@ -201,9 +226,12 @@ module _ (nodes : List DocumentNode) (items : List TrafficItem) (run : CanRun no
       (ap (λ (w : Way). w.goes_on share) (sym (below-is link known)) ∙ goes) in
       (onward-is request.addr (plan_link_at nodes link).lower (plan_node_at nodes (plan_link_at nodes link).lower) at ∙ on.0, on.1)
 
-  pub whole : (link : ℕ) (share : Share) → link < length (plan_links nodes) → ((below link).cut share).parts ≡ share.parts
-  whole link share less =
-      ap (λ (w : Way). (w.cut share).parts) (below-is link (lower-known link less)) ∙ cut-by (plan_link_at nodes link).lower (plan_node_at nodes (plan_link_at nodes link).lower).part share
+  -- and what goes on are parts of it
+  pub cut-of_burst : (link : ℕ) (share : Share) (request : Addr) → link < length (plan_links nodes) → AreOfBurst request share.parts → AreOfBurst request ((below link).cut share).parts
+  cut-of_burst link share request less are =
+      let at = node-at nodes items (plan_link_at nodes link).lower (lower-known link less) in
+      subst (λ (w : Way). AreOfBurst request (w.cut share).parts) (sym (below-is link (lower-known link less)))
+      (cut-by (plan_link_at nodes link).lower (plan_node_at nodes (plan_link_at nodes link).lower).part share request (bridge-bus (plan_link_at nodes link).lower at) are)
 
   abbrev pub depth_at : ℕ → ℕ
   depth_at number = depth_of (plan_graph nodes) number
@@ -220,12 +248,12 @@ module _ (nodes : List DocumentNode) (items : List TrafficItem) (run : CanRun no
         depths-are_small (plan_graph nodes) (plan-is_acyclic nodes run.accepted) number (omega (arith, known, length-map (plan_nodes nodes) (λ (node : PlanNode). node.lower))),
       )
 
-  -- what a link at the end of a way carries is the request, and the path ends below it
+  -- what a link at the end of a way carries are parts of the request, and the path ends below it
   abbrev pub EndsFrom : Bool → ℕ → ℕ → Addr → Type 0
   EndsFrom write left to request =
-      (link most : ℕ) (share found : Share) → link < length (plan_links nodes) → share.parts ≡ request ∷ [] → share_on to (way_from node_kind (opening nodes items) write left link share) ≡ Some found →
+      (link most : ℕ) (share found : Share) → link < length (plan_links nodes) → AreOfBurst request share.parts → share_on to (way_from node_kind (opening nodes items) write left link share) ≡ Some found →
       onward nodes request.addr (plan_link_at nodes to).lower ≡ None → length (plan_nodes nodes) ≤ depth_at (plan_link_at nodes link).lower + most →
-      (last_of (path_from nodes (plan_nodes nodes) request.addr most (plan_link_at nodes link).lower) ≡ (plan_link_at nodes to).lower) × (found.parts ≡ request ∷ [])
+      (last_of (path_from nodes (plan_nodes nodes) request.addr most (plan_link_at nodes link).lower) ≡ (plan_link_at nodes to).lower) × AreOfBurst request found.parts
 
   pub from-ends : (write : Bool) (left link : ℕ) (share : Share) → (below link).goes_on share ≡ None → way_from node_kind (opening nodes items) write (suc left) link share ≡ hop_at_end (below link) write link share ∷ []
   unfolding way_from
@@ -256,12 +284,12 @@ module _ (nodes : List DocumentNode) (items : List TrafficItem) (run : CanRun no
   ends-step write left to request again link (suc most) share found less parts there none enough = go ((below link).goes_on share) refl
     where
       go : (o : Option ℕ) → (below link).goes_on share ≡ o →
-          (last_of (path_from nodes (plan_nodes nodes) request.addr (suc most) (plan_link_at nodes link).lower) ≡ (plan_link_at nodes to).lower) × (found.parts ≡ request ∷ [])
+          (last_of (path_from nodes (plan_nodes nodes) request.addr (suc most) (plan_link_at nodes link).lower) ≡ (plan_link_at nodes to).lower) × AreOfBurst request found.parts
       go None ends =
           elim (share-cases to (hop_at_end (below link) write link share) [] found (ap (share_on to) (sym (from-ends write left link share ends)) ∙ there)) [
             | inl here ↦ (
               path-stopped request.addr (suc most) (plan_link_at nodes link).lower (plan_link_at nodes to).lower (ap (λ (k : ℕ). (plan_link_at nodes k).lower) here.0) none (omega arith),
-              ap (λ (s : Share). s.parts) here.1 ∙ parts,
+              subst (λ (s : Share). AreOfBurst request s.parts) (sym here.1) parts,
             )
             | inr further ↦ absurd (None-Some found further)
           ]
@@ -273,7 +301,7 @@ module _ (nodes : List DocumentNode) (items : List TrafficItem) (run : CanRun no
             | inl here ↦ absurd (None-Some (plan_link_at nodes next).lower (sym none ∙ ap (λ (k : ℕ). onward nodes request.addr (plan_link_at nodes k).lower) (sym here.0) ∙ on.0))
             | inr further ↦
                 let down = deeper (plan_link_at nodes link).lower (plan_link_at nodes next).lower (lower-known next on.1) (onward-below nodes request.addr (plan_link_at nodes link).lower (plan_link_at nodes next).lower on.0) in
-                let end = again next most (onto next ((below link).cut share)) found on.1 (whole link share less ∙ parts) further none (omega (arith, enough, down)) in
+                let end = again next most (onto next ((below link).cut share)) found on.1 (cut-of_burst link share request less parts) further none (omega (arith, enough, down)) in
                 let some : 0 < most = omega (arith, enough, down, shallow (plan_link_at nodes next).lower (lower-known next on.1)) in (
                   ap last_of (path-goes_on nodes request.addr most (plan_link_at nodes link).lower (plan_link_at nodes next).lower on.0)
                       ∙ last-later (plan_link_at nodes link).lower (path_from nodes (plan_nodes nodes) request.addr most (plan_link_at nodes next).lower)

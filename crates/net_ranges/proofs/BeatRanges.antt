@@ -46,7 +46,7 @@ burst-code Fixed = omega arith
 burst-code Incr = omega arith
 burst-code Wrap = omega arith
 
-response-code : (r : Resp) → response_code r ≤ 3
+pub response-code : (r : Resp) → response_code r ≤ 3
 response-code Okay = omega arith
 response-code SlvErr = omega arith
 response-code DecErr = omega arith

@@ -1,5 +1,6 @@
 pub mod AnswerRanges
 pub mod BeatRanges
+pub mod CutRanges
 pub mod FormLemmas
 pub mod LaneRanges
 pub mod LinkRanges

@@ -1,31 +1,24 @@
--- The numbers of a plan's network fit trace lines: its links are few and plain, its traffic is small.
-use Rattle.std.proofs.Common.{◌≡◌, ◌<◌, [], ℕ, false, List, Option, Some, length, sym, ap, ◌∙◌, subst, inl, inr, arith}
-use Rattle.std.specs.Prelude.{All, IfSome, slice_get, slice_index_or}
+-- The numbers of a plan's network fit trace lines: its links are few and narrow, its traffic is small.
+use Rattle.std.proofs.Common.{◌≡◌, ◌<◌, [], ℕ, List, Option, length, sym, subst, inl, inr, arith}
+use Rattle.std.specs.Prelude.{All, IfSome, slice_get}
 use Rattle.std.proofs.lemmas.Bool.{cases_lt}
 use Rattle.std.proofs.lemmas.List.{length-map}
 use Rattle.std.proofs.lemmas.List.Elements.{All-map}
-use Rattle.std.proofs.lemmas.Option.{none-some}
-use Rattle.elaborate.proofs.Forms.{Form, Part_at, part-at}
-use Rattle.elaborate.proofs.Forms.Form.{Behind, Demux, DemuxError, Input, InputError, Own, Split, Target}
-use Rattle.elaborate.proofs.Lists.{nth-in}
+use Rattle.elaborate.proofs.Forms.{Part_at, part-at}
 use Rattle.elaborate.proofs.PlanFacts.{form-document}
-use Rattle.elaborate.proofs.Sizes.{links-few, upper-inside}
-use Rattle.elaborate.specs.Plan.{PlanNode, plan_link_at, plan_links, plan_node_at, plan_nodes}
-use Rattle.elaborate.specs.Unbuilt.{is_unbuilt}
-use Rattle.elaborate.specs.declared.link.PlanLink.{PlanLink}
+use Rattle.elaborate.proofs.Sizes.{links-few}
+use Rattle.elaborate.specs.Plan.{plan_links, plan_node_at, plan_nodes}
 use Rattle.elaborate.specs.declared.part.Part.{Part}
 use Rattle.elaborate.specs.declared.part.Part.TheVariants as part
 use Rattle.net_kinds.specs.NodeKind.{NodeState}
 use Rattle.net_opening.specs.Opening.{opening, state_by_part}
 use Rattle.net_opening.specs.PlanLinks.{form_of_link, net_link_of}
-use Rattle.net_plan.proofs.LinkKinds.{form-plain, nth-input, plain_form}
-use Rattle.net_plan.proofs.LinkPlaces.{LinkFacts, link-facts}
 use Rattle.net_plan.proofs.NodeBegins.{number-at}
 use Rattle.net_plan.proofs.NodeSound.{of-manager}
 use Rattle.net_plan.proofs.OpeningSound.{openings-are_sound}
 use Rattle.net_plan.proofs.OpeningWired.{node-at, node-is, node-past}
-use Rattle.net_plan.proofs.PartLemmas.{formed-at, is-built, no-split}
-use Rattle.net_plan.proofs.PlainLinks.{plain-kind}
+use Rattle.net_plan.proofs.PartLemmas.{formed-at}
+use Rattle.net_plan.proofs.LinkProtocols.{lite-forms}
 use Rattle.net_plan.specs.PlanLaws.{CanRun}
 use Rattle.net_ranges.proofs.PortLemmas.{runs-show_lines}
 use Rattle.net_ranges.specs.TraceLines.{FitsItsBeats, FitsLanes, FitsTraces, IsTraceLink, PlansShowTraceLines}
@@ -33,9 +26,7 @@ use Rattle.node_core.specs.Acted.{Acted}
 use Rattle.plan_traffic.specs.Accepted.{IsTraffic, items_of_manager}
 use Rattle.plan_traffic.specs.Scripts.{script_item, script_of}
 use Rattle.plan_traffic.specs.Traffic.{TrafficItem}
-use Rattle.topology.proofs.LinkWidths.{accepted-are_narrow}
-use Rattle.topology.specs.Document.{DocumentNode, link_kind_of, node_at, uppers_of}
-use Rattle.topology.specs.declared.link.LinkKind.{LinkKind}
+use Rattle.topology.specs.Document.{DocumentNode, node_at}
 use Rattle.topology_text.specs.Form.{table_form}
 use Rattle.topology_text.specs.Formed.{IsFormed, IsNumberAt}
 use Rattle.topology_text.specs.Shape.{fill_limits}
@@ -45,37 +36,11 @@ use Rattle.topology_text.specs.declared.kind.Kind.TheVariants as kind
 -- ---- links
 
 module _ (nodes : List DocumentNode) (run : CanRun nodes) where
-  -- a link of the plan is what is below some node of the document
-  record IsBelow (link : LinkKind) : Type 0 where
-    place : ℕ
-    within : place < length nodes
-    is : link ≡ link_kind_of nodes place
-
-  below-by : (place inner port : ℕ) (node : PlanNode) (lower : ℕ) (k : Kind) → place < length nodes → is_unbuilt k ≡ false → Form nodes place inner node k → slice_get node.lower port ≡ Some lower → IsBelow node.link
-  below-by place inner port node lower k less built (Own p own first is) at = record { place = place; within = less; is = ap (λ (n : PlanNode). n.link) is }
-  below-by place inner port node lower k less built (Split p split first is) at = absurd (no-split k p split built)
-  below-by place inner port node lower k less built (Behind p split first is) at = absurd (no-split k p split built)
-  below-by place inner port node lower k less built (Demux own first is) at = record { place = place; within = less; is = ap (λ (n : PlanNode). n.link) is }
-  below-by place inner port node lower k less built (DemuxError own first is) at = absurd (none-some lower (sym (ap (λ (n : PlanNode). slice_get n.lower port) is) ∙ at))
-  below-by place inner port node lower k less built (Input i own within first is) at = record {
-    place = slice_index_or (uppers_of nodes place) i 0;
-    within = upper-inside nodes place (slice_index_or (uppers_of nodes place) i 0) (nth-in (uppers_of nodes place) i within);
-    is = ap (λ (n : PlanNode). n.link) is ∙ nth-input nodes place i within;
-  }
-  below-by place inner port node lower k less built (InputError i own within first is) at = absurd (none-some lower (sym (ap (λ (n : PlanNode). slice_get n.lower port) is) ∙ at))
-  below-by place inner port node lower k less built (Target j own within first is) at = record { place = place; within = less; is = ap (λ (n : PlanNode). n.link) is }
-
-  -- so it has a trace
+  -- a link of the plan has a trace
   trace-link : (link : ℕ) → link < length (plan_links nodes) → IsTraceLink (form_of_link nodes link)
   trace-link link less =
-      let facts : LinkFacts nodes link = link-facts nodes link less in
-      let spot : Part_at nodes (plan_link_at nodes link).upper facts.node = part-at nodes (plan_link_at nodes link).upper facts.node facts.at in
-      let below : IsBelow facts.node.link =
-      below-by spot.place spot.inner facts.port facts.node (plan_link_at nodes link).lower (node_at nodes spot.place).kind spot.within (is-built nodes run spot.place spot.within) spot.form facts.at_port in
-      let is : (plan_link_at nodes link).link ≡ link_kind_of nodes below.place = ap (λ (l : PlanLink). l.link) facts.is ∙ below.is in
-      let plain = plain-kind nodes run below.place below.within in
-      let narrow = accepted-are_narrow nodes run.accepted run.formed below.place below.within in
-      subst IsTraceLink (sym (form-plain nodes run link less ∙ ap plain_form is)) (record { axi = plain.axi; width = plain.width; narrow = omega (arith, narrow) })
+      let form = lite-forms nodes run link less in
+      record { width = form.width; short = form.narrow; narrow = omega (arith, form.ids) }
 
 -- ---- nodes
 
@@ -110,11 +75,13 @@ module _ (nodes : List DocumentNode) (items : List TrafficItem) (run : CanRun no
   part-fits number part.Memory within =
       let formed : IsFormed (node_at nodes (plan_node_at nodes number).document) = formed-at nodes run (plan_node_at nodes number).document within in
       fill-small (node_at nodes (plan_node_at nodes number).document).kind (node_at nodes (plan_node_at nodes number).document).fill formed.fill
+  part-fits number part.LiteMemory within =
+      let formed : IsFormed (node_at nodes (plan_node_at nodes number).document) = formed-at nodes run (plan_node_at nodes number).document within in
+      fill-small (node_at nodes (plan_node_at nodes number).document).kind (node_at nodes (plan_node_at nodes number).document).fill formed.fill
   part-fits number part.Mux within = tt
   part-fits number part.Error within = tt
   part-fits number part.Demux within = tt
   part-fits number part.Slice within = tt
-  part-fits number part.LiteMemory within = tt
   part-fits number part.Remap within = tt
   part-fits number part.Split within = tt
   part-fits number part.Up within = tt

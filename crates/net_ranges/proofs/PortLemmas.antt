@@ -1,6 +1,7 @@
 -- What each port of a network that can be run shows has a trace line.
-use Rattle.std.proofs.Common.{◌≡◌, ◌<◌, ◌^◌, ◌&&◌, ◌++◌, ◌∷◌, [], ℕ, zero, suc, Bool, true, false, List, length, refl, sym, ap, ◌∙◌, subst, arith}
-use Rattle.std.specs.Prelude.{◌||◌, All, IfSome, IsTrue, nat_le, not}
+use Rattle.std.proofs.Common.{◌≡◌, ◌<◌, ◌≤◌, ◌^◌, ◌&&◌, ◌++◌, ◌∷◌, [], ℕ, zero, suc, Bool, true, false, List, length, refl, sym, ap, ◌∙◌, subst, arith}
+use Rattle.std.specs.Prelude.{◌||◌, All, IfSome, nat_le, not}
+use Rattle.std.proofs.lemmas.Bool.{le-leb}
 use Rattle.std.proofs.lemmas.List.Elements.{All-nil, All-push}
 use Rattle.axi_beats.specs.Bus.{is_bus_width}
 use Rattle.axi_history.specs.declared.port.PortRound.{PortRound}
@@ -29,10 +30,11 @@ shown-has : {X Y : Type 0} (P : Y → Type 0) (seen_as : X → Y) (takes : Bool)
 shown-has P seen_as takes all front [] are has = tt
 shown-has P seen_as takes all front (x ∷ queue) are has = All-middle (λ y. P (seen_as y)) front x queue (subst (All (λ y. P (seen_as y))) are has)
 
--- a port of AXI4 with a bus that there is
-axi-kind : (wide : Bool) (small : Bool) → wide ≡ true → (wide && (not false || small)) ≡ true
-axi-kind true small is = refl
-axi-kind false small is = is
+-- a port with a bus that there is, on AXI4-Lite a small one
+kind-fits : (wide lite small : Bool) → wide ≡ true → (lite ≡ true → small ≡ true) → (wide && (not lite || small)) ≡ true
+kind-fits true true small is short = short refl
+kind-fits true false small is short = refl
+kind-fits false lite small is short = is
 
 module _ (net : Network NodeState) (forms : ℕ → LinkForm) (sound : IsSound node_kind net forms) (fits : FitsTraces net forms) (link : ℕ) (known : link < length net.links) where
   -- the port of a round
@@ -57,14 +59,14 @@ module _ (net : Network NodeState) (forms : ℕ → LinkForm) (sound : IsSound n
       let form = fits.links link known in
       let record_is = sound.formed link known in
       let bus : (forms link).bus ≡ (net_link net.links link).bus = record_is.bus in
-      let axi : (net_link net.links link).lite ≡ false = sym record_is.lite ∙ form.axi in
+      let short : (net_link net.links link).lite ≡ true → nat_le (net_link net.links link).bus 8 ≡ true =
+      λ lite. le-leb (net_link net.links link).bus 8 (subst (λ (b : ℕ). b ≤ 8) bus (form.short (record_is.lite ∙ lite))) in
       let wide : is_bus_width (net_link net.links link).bus ≡ true = subst (λ (b : ℕ). is_bus_width b ≡ true) bus form.width in
       record {
         first_round = omega arith;
         last_round = counted;
         link = omega (arith, known, fits.few_links);
-        kind = subst (λ (lite : Bool). IsTrue (is_bus_width (net_link net.links link).bus && (not lite || nat_le (net_link net.links link).bus 8))) (sym axi)
-            (axi-kind (is_bus_width (net_link net.links link).bus) (nat_le (net_link net.links link).bus 8) wide);
+        kind = kind-fits (is_bus_width (net_link net.links link).bus) (net_link net.links link).lite (nat_le (net_link net.links link).bus 8) wide short;
         aw = shown-has IsTraceAddress seen_address (takes_from link below.aw_take) above_end.aw below_end.aw queue.aw all.aw (writes-asked net forms sound fits link known n);
         w = shown-has (IsTraceWriteData bus_here) seen_itself (takes_from link below.w_take) above_end.w below_end.w queue.w all.w
             (subst (λ (b : ℕ). All (IsTraceWriteData b) above_end.w) bus (data-sent net forms sound fits link known n));

@@ -1,8 +1,9 @@
 -- The requests and the write data on each link are within the ranges of a trace line: they are those of a script.
-use Rattle.std.proofs.Common.{◌≡◌, ◌<◌, ◌≤◌, ◌+◌, ◌^◌, ◌∷◌, [], ℕ, Bool, true, false, cond, List, Option, Some, None, get_or, length, refl, sym, ap, ◌∙◌, subst, arith}
+use Rattle.std.proofs.Common.{◌≡◌, ◌<◌, ◌≤◌, ◌+◌, ◌^◌, ◌∷◌, [], ℕ, Bool, true, false, cond, List, Option, Some, None, get_or, length, refl, sym, ap, ◌∙◌, subst, inl, inr, arith}
 use Rattle.std.specs.Prelude.{All, Contains, find, flat_map, map, slice_get, unwrap_or}
 use Rattle.std.specs.Option.{option_and_then}
 use Rattle.std.proofs.Math.Nat.{pow-le-pow_right}
+use Rattle.std.proofs.lemmas.Bool.{cases_Bool, false≢true}
 use Rattle.std.proofs.lemmas.List.{append-nil}
 use Rattle.std.proofs.lemmas.List.Elements.{All-cons, All-nil}
 use Rattle.std.proofs.lemmas.List.FromFn.{get_or-map-range_with_len, length-map-range_with_len}
@@ -19,16 +20,15 @@ use Rattle.manager_node.specs.Beats.{data_beat, data_beats, item_request}
 use Rattle.manager_node.specs.ManagerState.{ManagerState}
 use Rattle.manager_node.specs.ManagerTrail.{item_origin}
 use Rattle.manager_node.specs.Script.{ScriptItem}
-use Rattle.net_history.proofs.EndLemmas.{carried-same}
 use Rattle.net_history.proofs.ItemLemmas.{now, schedules}
 use Rattle.net_history.proofs.ManagerRuns.{IsManagerAt, begins, has-link, run-keeps}
 use Rattle.net_history.proofs.RunStates.{acted_as}
 use Rattle.net_kinds.specs.NodeHolds.{node_holds}
 use Rattle.net_kinds.specs.NodeKind.{KindName, NodeState, StateOf, node_kind}
-use Rattle.net_kinds.specs.NodeKind.KindName.{ADemux, AManager, AMemory, AMux, ARemap, ASlice, AnError, AnUp}
+use Rattle.net_kinds.specs.NodeKind.KindName.{ADemux, ALite, ALiteMemory, AManager, AMemory, AMux, ARemap, ASlice, ASplit, AnError, AnUp}
 use Rattle.net_model.specs.Network.{Network}
 use Rattle.net_ranges.proofs.BeatRanges.{IsAddressInRange, IsPartInRange, data-in_range, request-in_range}
-use Rattle.net_ranges.proofs.FormLemmas.{DataFits, data-along}
+use Rattle.net_ranges.proofs.FormLemmas.{ShareFits, shares-along}
 use Rattle.net_ranges.specs.TraceLines.{FitsItsBeats, FitsLanes, FitsTraces}
 use Rattle.net_runs.proofs.ContractFacts.{at-some}
 use Rattle.net_runs.specs.Run.{upper_end}
@@ -44,7 +44,7 @@ use Rattle.plain_lists.proofs.PlaceLemmas.{at-all, at-contains, contains-at, fin
 use Rattle.plain_lists.proofs.PrefixLemmas.{All_front}
 use Rattle.plain_lists.proofs.SelectedLemmas.{all-by_way}
 use Rattle.plain_lists.specs.Keys.{of_key}
-use Rattle.trace_text.specs.Ranges.{IsTraceWriteData}
+use Rattle.trace_text.specs.Ranges.{IsTraceTag, IsTraceWriteData}
 
 module _ (net : Network NodeState) (forms : ℕ → LinkForm) (sound : IsSound node_kind net forms) (fits : FitsTraces net forms) where
   -- ---- each transaction is of a script
@@ -71,6 +71,9 @@ module _ (net : Network NodeState) (forms : ℕ → LinkForm) (sound : IsSound n
   of-kind node ADemux s out origin at among = absurd (omega (arith, among.1))
   of-kind node ARemap s out origin at among = absurd (omega (arith, among.1))
   of-kind node AnUp s out origin at among = absurd (omega (arith, among.1))
+  of-kind node ASplit s out origin at among = absurd (omega (arith, among.1))
+  of-kind node ALite s out origin at among = absurd (omega (arith, among.1))
+  of-kind node ALiteMemory s out origin at among = absurd (omega (arith, among.1))
 
   of-script : (origin : Origin) → Contains (origins_in node_kind net.nodes) origin → IsOfScript origin
   of-script origin among =
@@ -87,13 +90,12 @@ module _ (net : Network NodeState) (forms : ℕ → LinkForm) (sound : IsSound n
   abbrev bus_of : ℕ → ℕ
   bus_of link = (forms link).bus
 
-  -- a link carries the request of a transaction of a script
+  -- a link carries a transaction of a script
   pub record IsItsOwn (write : Bool) (link : ℕ) (share : Share) : Type 0 where
     pub origin : Origin
     pub among : Contains (origins_in node_kind net.nodes) origin
     pub script : IsOfScript origin
     pub direction : origin.write ≡ write
-    pub parts : share.parts ≡ origin.share.parts
     pub there : carried node_kind net origin.write link origin.number ≡ Some share
 
   own-share : (write : Bool) (link number : ℕ) (share : Share) → carried node_kind net write link number ≡ Some share → IsItsOwn write link share
@@ -107,36 +109,12 @@ module _ (net : Network NodeState) (forms : ℕ → LinkForm) (sound : IsSound n
           let its = its-way node_kind node_holds net forms sound write number origin found in
           let own : carried node_kind net origin.write link origin.number ≡ Some share =
           ap (λ (b : Bool). carried node_kind net b link origin.number) its.same_direction ∙ ap (carried node_kind net write link) its.same_number ∙ there in
-          let same = carried-same net forms sound origin among link share own in
-          record {
-            origin = origin;
-            among = among;
-            script = of-script origin among;
-            direction = its.same_direction;
-            parts = same.parts;
-            there = own;
-          }
-
-  parts-in_range : (write : Bool) (link number : ℕ) → All (IsPartInRange (bus_of link)) (unwrap_or (carried node_kind net write link number) no_share).parts
-  parts-in_range write link number = go (carried node_kind net write link number) refl
-    where
-      go : (o : Option Share) → carried node_kind net write link number ≡ o → All (IsPartInRange (bus_of link)) (unwrap_or o no_share).parts
-      go None none = All-nil (IsPartInRange (bus_of link))
-      go (Some share) there =
-          let own = own-share write link number share there in
-          let fit = (is-carried node_kind node_holds net forms sound write number link share there).fits in
-          let one : share.parts ≡ without_id (item_request own.script.item) ∷ [] = own.parts ∙ ap (λ (o : Origin). o.share.parts) (sym own.script.same) in
-          let item = fits-item own.script.node own.script.s own.script.is own.script.place own.script.item own.script.at in
-          let part = without_id (item_request own.script.item) in
-          let legal : All (λ (a : Addr). IsLegal a (bus_of link)) (part ∷ []) = subst (All (λ (a : Addr). IsLegal a (bus_of link))) one fit.legal in
-          let small : All (λ (a : Addr). a.addr < 2 ^ 63) (part ∷ []) = subst (All (λ (a : Addr). a.addr < 2 ^ 63)) one fit.small in
-          subst (All (IsPartInRange (bus_of link))) (sym one)
-          (All-cons (IsPartInRange (bus_of link)) part []
-          (record { legal = legal 0 part (omega arith); start = small 0 part (omega arith); tag = record { txn = item.number; low = omega arith; high = omega arith } }) (All-nil (IsPartInRange (bus_of link))))
+          record { origin = origin; among = among; script = of-script origin among; direction = its.same_direction; there = own }
 
   -- the data of a script fits a trace line of its manager's link
-  first-fits : (origin : Origin) → IsOfScript origin → origin.write ≡ true → Contains (origins_in node_kind net.nodes) origin → DataFits net forms sound origin.link origin.share
-  first-fits origin script direction among =
+  data-fits : (origin : Origin) → IsOfScript origin → origin.write ≡ true → Contains (origins_in node_kind net.nodes) origin →
+      All (IsTraceWriteData (bus_of origin.link)) (flat_map (λ (beats : List WBeat). beats) origin.share.write_data)
+  data-fits origin script direction among =
       let its = its-way node_kind node_holds net forms sound origin.write origin.number origin (is-found node_kind node_holds net forms sound origin among) in
       let new = begins net forms sound script.node script.s script.is in
       let item = fits-item script.node script.s script.is script.place script.item script.at in
@@ -157,14 +135,53 @@ module _ (net : Network NodeState) (forms : ℕ → LinkForm) (sound : IsSound n
       subst (λ (w : WBeat). IsTraceWriteData (bus_of origin.link) w) (sym is)
       (subst (λ (b : ℕ). IsTraceWriteData b (data_beat script.item script.s.bus n)) same (data-in_range script.item script.s.bus n new.bus_width legal item strobe)))
 
+  -- a read has none
+  no-data : (write : Bool) (beats_sent : List WBeat) → write ≡ false → flat_map (λ (beats : List WBeat). beats) (cond write (beats_sent ∷ []) []) ≡ []
+  no-data true beats_sent is = absurd (false≢true (sym is))
+  no-data false beats_sent is = refl
+
+  -- what a script begins with fits trace lines
+  first-fits : (origin : Origin) → IsOfScript origin → Contains (origins_in node_kind net.nodes) origin → ShareFits net forms sound origin.link origin.share
+  first-fits origin script among =
+      let item = fits-item script.node script.s script.is script.place script.item script.at in
+      let part = without_id (item_request script.item) in
+      let Tagged : Addr → Type 0 = λ a. IsTraceTag a.tag in
+      record {
+        tags =
+            subst (λ (o : Origin). All Tagged o.share.parts) script.same
+            (All-cons Tagged part [] (record { txn = item.number; low = omega arith; high = omega arith }) (All-nil Tagged));
+        sent = elim (cases_Bool origin.write) [
+          | inl writes ↦ data-fits origin script writes among
+          | inr reads ↦
+              subst (All (IsTraceWriteData (bus_of origin.link)))
+              (sym (ap (λ (o : Origin). flat_map (λ (beats : List WBeat). beats) o.share.write_data) (sym script.same)
+              ∙ no-data script.item.txn.write (data_beats script.item script.s.bus) (ap (λ (o : Origin). o.write) script.same ∙ reads)))
+              (All-nil (IsTraceWriteData (bus_of origin.link)))
+        ];
+      }
+
+  -- what a link carries fits trace lines
+  fits-carried : (write : Bool) (link number : ℕ) (share : Share) → carried node_kind net write link number ≡ Some share → ShareFits net forms sound link share
+  fits-carried write link number share there =
+      let own = own-share write link number share there in
+      shares-along net forms sound own.origin own.among (first-fits own.origin own.script own.among) link share own.there
+
+  parts-in_range : (write : Bool) (link number : ℕ) → All (IsPartInRange (bus_of link)) (unwrap_or (carried node_kind net write link number) no_share).parts
+  parts-in_range write link number = go (carried node_kind net write link number) refl
+    where
+      go : (o : Option Share) → carried node_kind net write link number ≡ o → All (IsPartInRange (bus_of link)) (unwrap_or o no_share).parts
+      go None none = All-nil (IsPartInRange (bus_of link))
+      go (Some share) there =
+          let fit = (is-carried node_kind node_holds net forms sound write number link share there).fits in
+          let sent = fits-carried write link number share there in
+          λ k d within. record { legal = fit.legal k d within; start = fit.small k d within; tag = sent.tags k d within }
+
   pub data-carried : (link number : ℕ) → All (IsTraceWriteData (bus_of link)) (flat_map (λ (beats : List WBeat). beats) (unwrap_or (carried node_kind net true link number) no_share).write_data)
   data-carried link number = go (carried node_kind net true link number) refl
     where
       go : (o : Option Share) → carried node_kind net true link number ≡ o → All (IsTraceWriteData (bus_of link)) (flat_map (λ (beats : List WBeat). beats) (unwrap_or o no_share).write_data)
       go None none = All-nil (IsTraceWriteData (bus_of link))
-      go (Some share) there =
-          let own = own-share true link number share there in
-          data-along net forms sound own.origin own.among (first-fits own.origin own.script own.direction own.among) link share own.there
+      go (Some share) there = (fits-carried true link number share there).sent
 
   -- ---- what is asked on a link
 

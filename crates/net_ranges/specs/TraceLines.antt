@@ -1,9 +1,9 @@
 -- What the ports of a network show fits a trace line: each field is within its range (Arm IHI 0022, channel signals).
-use Rattle.std.specs.Prelude.{◌≡◌, ◌<◌, ◌≤◌, ◌^◌, ℕ, List, All, IfSome, false, length, slice_get}
+use Rattle.std.specs.Prelude.{◌≡◌, ◌<◌, ◌≤◌, ◌^◌, ℕ, List, All, IfSome, length, slice_get, true}
 use Rattle.axi_beats.specs.Bus.{IsBusWidth}
 use Rattle.manager_node.specs.Script.{ScriptItem}
 use Rattle.manager_node.specs.declared.script.WriteByte.{WriteByte}
-use Rattle.net_kinds.specs.NodeKind.{ADemux, AManager, AMemory, AMux, ARemap, ASlice, AnError, AnUp, KindName, NodeState, StateOf, node_kind}
+use Rattle.net_kinds.specs.NodeKind.{ADemux, ALite, ALiteMemory, AManager, AMemory, AMux, ARemap, ASlice, ASplit, AnError, AnUp, KindName, NodeState, StateOf, node_kind}
 use Rattle.net_model.specs.Network.{Network}
 use Rattle.net_opening.specs.Opening.{opening}
 use Rattle.net_plan.specs.PlanLaws.{CanRun}
@@ -29,17 +29,20 @@ pub record FitsItsBeats (item : ScriptItem) : Type 0 where
 abbrev pub FitsLanes : (name : KindName) → StateOf name → Type 0
 FitsLanes AManager s = All FitsItsBeats s.script
 FitsLanes AMemory s = s.area.fill < 256
+FitsLanes ALiteMemory s = s.area.fill < 256
 FitsLanes ASlice s = Unit {0}
 FitsLanes AMux s = Unit {0}
 FitsLanes AnError s = Unit {0}
 FitsLanes ADemux s = Unit {0}
 FitsLanes ARemap s = Unit {0}
 FitsLanes AnUp s = Unit {0}
+FitsLanes ASplit s = Unit {0}
+FitsLanes ALite s = Unit {0}
 
--- a link of AXI4 with a bus that there is and IDs of at most 32 bits
+-- a link with a bus that there is, on AXI4-Lite of 8 bytes at most, and IDs of at most 32 bits
 pub record IsTraceLink (form : LinkForm) : Type 0 where
-  pub axi : form.lite ≡ false
   pub width : IsBusWidth form.bus
+  pub short : form.lite ≡ true → form.bus ≤ 8
   pub narrow : form.id_width ≤ 32
 
 -- few such links, and nodes whose numbers fit

@@ -20,7 +20,7 @@ use Rattle.net_kinds.proofs.DoLemmas.{nodes-do}
 use Rattle.net_kinds.specs.NodeKind.{NodeState, node_kind, node_view}
 use Rattle.net_kinds.specs.NodeTable.{node_done, node_out, node_table}
 use Rattle.net_kinds.specs.declared.node.Node.{Node}
-use Rattle.net_kinds.specs.declared.node.Node.TheVariants.{Demux, Error, Manager, Memory, Mux, Remap, Slice, Up}
+use Rattle.net_kinds.specs.declared.node.Node.TheVariants.{Demux, Error, Lite, LiteMemory, Manager, Memory, Mux, Remap, Slice, Split, Up}
 use Rattle.net_model.specs.Network.{lower_node, moves_at, net_link, queue_moved, upper_node}
 use Rattle.net_model.specs.declared.net_link.NetLink.{NetLink}
 use Rattle.net_steps.proofs.PhaseLemmas.{next-is}
@@ -190,6 +190,9 @@ passing-rests round links (Manager n) passes quiet still = absurd (cc)
 passing-rests round links (Error n) passes quiet still = absurd (cc)
 passing-rests round links (Remap n) passes quiet still = absurd (cc)
 passing-rests round links (Up n) passes quiet still = absurd (cc)
+passing-rests round links (Split n) passes quiet still = absurd (cc)
+passing-rests round links (Lite n) passes quiet still = absurd (cc)
+passing-rests round links (LiteMemory n) passes quiet still = absurd (cc)
 
 uncalled : (a b c : Bool) → (a || b || not c) ≡ false → (a ≡ false) × (b ≡ false) × (c ≡ true)
 uncalled false false true is = (refl, refl, refl)
@@ -210,6 +213,9 @@ passing-done (Error n) is = refl
 passing-done (Manager n) is = absurd (cc)
 passing-done (Remap n) is = absurd (cc)
 passing-done (Up n) is = absurd (cc)
+passing-done (Split n) is = refl
+passing-done (Lite n) is = refl
+passing-done (LiteMemory n) is = refl
 
 unless : (b : Bool) → (b ≡ true → ⊥) → b ≡ false
 unless true not_so = absurd (not_so refl)

@@ -111,8 +111,11 @@ pub(crate) fn only_passes(node: &Node) -> bool
         Node::Error(_) => false,
         Node::Manager(_) => false,
         Node::Memory(_) => false,
+        Node::LiteMemory(_) => false,
         Node::Remap(_) => false,
         Node::Up(_) => false,
+        Node::Split(_) => false,
+        Node::Lite(_) => false,
     }
 }
 

@@ -75,9 +75,9 @@ fn an_unbuilt_node() -> Row {
         ..planned(
             b"version = 1
 node = [
- {name=\"m\", kind=\"manager\", bus=4, id_width=4, to=\"l\"},
- {name=\"l\", kind=\"lite\", to=\"ram\"},
- {name=\"ram\", kind=\"lite_memory\", base=0, size=4096},
+ {name=\"m\", kind=\"manager\", bus=8, id_width=4, to=\"d\"},
+ {name=\"d\", kind=\"down\", bus=4, to=\"ram\"},
+ {name=\"ram\", kind=\"memory\", bus=4, base=0, size=4096},
 ]
 ",
             b"%%\nx\n",

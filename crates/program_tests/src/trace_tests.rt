@@ -51,6 +51,43 @@ rounds 7
     }
 }
 
+// A Lite bridge makes two words of a burst of two bytes, and the tags tell which byte of each is wanted.
+const BRIDGED: &[u8] = b"version = 1
+node = [
+ {name=\"m\", kind=\"manager\", bus=4, id_width=4, to=\"lb\"},
+ {name=\"lb\", kind=\"lite\", to=\"lm\"},
+ {name=\"lm\", kind=\"lite_memory\", base=0, size=4096, fill=171},
+]
+";
+
+fn a_lite_memory() -> Row {
+    Row {
+        words: &["axinet", "run", "--trace=all"],
+        topology: BRIDGED,
+        input: b"%%\nread m 3 0x2 1 incr 2\n",
+        status: Status::Done,
+        written: b"2 0 axi 4 - - - +3,2,1,0,1,0,1:0:0 -
+3 1 axi 4 - - - +3,2,0,0,1,0,1:0:0 -
+4 1 axi 4 - - - +3,3,0,0,1,0,1:0:0 -
+4 2 lite 4 - - - +0,0,0,2,1,0,1:2:2 -
+5 2 lite 4 - - - +0,0,0,2,1,0,1:3:3 -
+6 2 lite 4 - - - - +0,abababab,0,1,1:2:2
+7 1 axi 4 - - - - +3,abababab,0,1,1:0:0
+7 2 lite 4 - - - - +0,abababab,0,1,1:3:3
+8 0 axi 4 - - - - +3,abababab,0,0,1:0:0
+8 1 axi 4 - - - - +3,abababab,0,1,1:0:0
+9 0 axi 4 - - - - +3,abababab,0,1,1:0:0
+%%
+1 read m 1 9 okay:ab okay:ab
+rounds 9
+",
+    }
+}
+
+fn its_trace() -> Row {
+    judged(a_lite_memory().written, Status::Done, b"legal 11\n")
+}
+
 fn a_run_without_traffic() -> Row {
     Row {
         words: &["axinet", "run", "--trace=all"],
@@ -166,6 +203,7 @@ fn one_round_more() -> Row {
 fn runs_are_traced(rt: HostRuntime) -> Result<(), Fail> {
     compare(&rt, &a_traced_run())?;
     compare(&rt, &a_wider_bus())?;
+    compare(&rt, &a_lite_memory())?;
     compare(&rt, &a_run_without_traffic())?;
     compare(&rt, &a_run_without_a_trace())?;
     compare(&rt, &an_unknown_option())
@@ -174,6 +212,7 @@ fn runs_are_traced(rt: HostRuntime) -> Result<(), Fail> {
 #[test]
 fn traces_are_judged(rt: HostRuntime) -> Result<(), Fail> {
     compare(&rt, &a_legal_trace())?;
+    compare(&rt, &its_trace())?;
     compare(&rt, &a_payload_that_changes())?;
     compare(&rt, &an_offer_that_is_withdrawn())?;
     compare(&rt, &no_trace_line())?;

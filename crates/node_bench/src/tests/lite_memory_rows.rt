@@ -4,7 +4,7 @@ use crate::{Bench, Benched, Row};
 use axi_beats::{Addr, BBeat, Burst, Lanes, RBeat, Resp, Tag, WBeat};
 use axi_link::{Link, Out};
 use lite_memory_node::{LiteMemoryNode, crosses_threads};
-use memory_node::MemoryConfig;
+use memory_node::{MemoryConfig, MemoryNode};
 use std::test::Fail;
 
 const CONFIG: MemoryConfig = MemoryConfig {
@@ -127,7 +127,8 @@ fn rows() -> [Row; 4] {
 
 #[test]
 fn all_lanes_of_a_word_are_answered(rt: HostRuntime) -> Result<(), Fail> {
-    let memory = LiteMemoryNode::new(rt.alloc(), CONFIG, &[], &[], &[0], &[0], 0, &[0x20])?;
+    let bytes = MemoryNode::new(rt.alloc(), CONFIG, &[], &[], &[0], &[0], 0, &[0x20])?;
+    let memory = LiteMemoryNode::new(bytes);
     crosses_threads(&memory);
     let mut bench = Bench::new(rt.alloc(), memory, 1, 2)?;
     bench.run(&rows())?;

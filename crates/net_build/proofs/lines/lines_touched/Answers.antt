@@ -1,4 +1,4 @@
-use Rattle.std.proofs.Common.{◌<◌, ◌≤◌, ◌∙◌, ap, arith, length}
+use Rattle.std.proofs.Common.{◌≤◌, ◌∙◌, ap, arith, length}
 use Rattle.std.proofs.lemmas.List.{take_all}
 use Rattle.net_build.specs.Source.{lines_written}
 use Rattle.net_build.proofs.lines.lines_touched.Goals as goal

@@ -1,4 +1,4 @@
-use Rattle.std.proofs.Common.{◌≡◌, ◌<◌, ◌+◌, ◌-◌, ◌++◌, [], ◌∷◌, ℕ, List, ap, ap₂, arith, get_or, length, set, subst, sym, ◌∙◌}
+use Rattle.std.proofs.Common.{◌≡◌, ◌<◌, ◌+◌, ◌-◌, ◌++◌, [], ◌∷◌, ℕ, List, ap₂, arith, get_or, length, set, subst, sym, ◌∙◌}
 use Rattle.elaborate.specs.Plan.{first_part}
 use Rattle.net_build.proofs.ItemLemmas.{item-suits, item_at, manager-known, told}
 use Rattle.net_build.proofs.NoteLemmas.{AreNotes, count-few, note, notes-more, read-count}

@@ -1,4 +1,4 @@
-use Rattle.std.proofs.Common.{◌≡◌, ◌<◌, ◌∙◌, ℕ, List, ap, length, subst, sym}
+use Rattle.std.proofs.Common.{◌<◌, ◌∙◌, ℕ, List, ap, length, subst, sym}
 use Rattle.std.specs.Prelude.{All}
 use Rattle.axi_beats.specs.Bus.{IsBusWidth}
 use Rattle.burst_address.specs.Legal.{IsLegal}

@@ -1,75 +1,30 @@
-use Rattle.std.proofs.Common.{◌≡◌, ◌<◌, ◌∙◌, ℕ, List, ap, length, map, subst, sym}
-use Rattle.std.specs.Prelude.{AllPairs}
-use Rattle.memory_node.specs.MemoryArea.{IsMemoryArea, area_of}
-use Rattle.net_build.proofs.MadeLemmas.{area-made, as_node, memory-made}
-use Rattle.net_build.proofs.SourceLemmas.{accepts, gives, lines-rise, memory-begins, memory-has_delays, own-node}
+use Rattle.std.proofs.Common.{◌<◌, ◌∙◌, ℕ, List, ap, length, subst, sym}
+use Rattle.memory_node.specs.MemoryTrail.{BeginsMemory}
+use Rattle.net_build.proofs.MadeLemmas.{as_node, bus-named}
+use Rattle.net_build.proofs.SourceLemmas.{memory-begins, memory-has_delays, own-node}
 use Rattle.net_build.proofs.parts.memory_node.Goals as goal
+use Rattle.net_build.specs.Source.{memory_on}
 use Rattle.net_kinds.specs.NodeKind.{AMemory}
-use Rattle.net_opening.specs.States.{document_node_of, memory_range}
-use Rattle.topology.specs.Document.{DocumentNode, node_at}
+use Rattle.topology.specs.Document.{DocumentNode}
 
-pub read_only-requires : goal.read_only-requires
-read_only-requires c = subst (λ (nodes : List DocumentNode). c.document-document.result < length nodes) (sym c.wiring-wiring.ensures) c.document-document.ensures.known
+pub bus-bus-requires : goal.bus-bus-requires
+bus-bus-requires c = subst (λ (nodes : List DocumentNode). c.document-document.result < length nodes) (sym c.wiring.ensures) c.document-document.ensures.known
 
-pub hole-requires : goal.hole-requires
-hole-requires c = subst (λ (nodes : List DocumentNode). c.document-document.result < length nodes) (sym c.wiring-wiring.ensures) c.document-document.ensures.known
+pub memory_on-requires-clause-begins : goal.memory_on-requires-clause-begins
+memory_on-requires-clause-begins c =
+    subst (λ (bus : ℕ). BeginsMemory (memory_on c.args.source.now.plan.now c.args.source.now.traffic.now c.args.number bus))
+    (sym (c.bus-bus.ensures ∙ ap (λ (node : DocumentNode). node.bus) (own-node c.args.number c.wiring.ensures c.document-document.ensures.document)))
+    (memory-begins c.args.number c.requires.source c.requires.known c.requires.memory)
 
-pub memory_config-requires : goal.memory_config-requires
-memory_config-requires c = subst (λ (nodes : List DocumentNode). c.document-document.result < length nodes) (sym c.wiring-wiring.ensures) c.document-document.ensures.known
+pub memory_on-requires-clause-accept : goal.memory_on-requires-clause-accept
+memory_on-requires-clause-accept c = (memory-has_delays c.args.number c.requires.source c.requires.known c.requires.memory).accept
 
-pub accept-requires : goal.accept-requires
-accept-requires c = subst (λ (nodes : List DocumentNode). c.document-document.result < length nodes) (sym c.wiring-wiring.ensures) c.document-document.ensures.known
-
-pub give-requires : goal.give-requires
-give-requires c = subst (λ (nodes : List DocumentNode). c.document-document.result < length nodes) (sym c.wiring-wiring.ensures) c.document-document.ensures.known
-
-pub new-requires-clause-area : goal.new-requires-clause-area
-new-requires-clause-area c =
-    subst IsMemoryArea
-    (sym (area-made (node_at c.wiring-wiring.result.now c.document-document.result) (document_node_of c.args.source.now.plan.now c.args.number) c.memory_config.result
-    c.deref.result.now c.deref-2.result.now (own-node c.args.number c.wiring-wiring.ensures c.document-document.ensures.document) c.memory_config.ensures
-    (c.deref.ensures.value ∙ c.in_ok-read_only.ensures ∙ ap (map memory_range) c.read_only.ensures)
-    (c.deref-2.ensures.value ∙ c.in_ok-hole.ensures ∙ ap (map memory_range) c.hole.ensures)))
-    (memory-begins c.args.number c.requires.source c.requires.known c.requires.memory).area
-
-pub new-requires-clause-some_accept : goal.new-requires-clause-some_accept
-new-requires-clause-some_accept c =
-    (accepts c.args.number c.wiring-wiring.ensures c.document-document.ensures.document c.accept.result.now c.accept.ensures (memory-has_delays c.args.number c.requires.source c.requires.known c.requires.memory)).some
-
-pub new-requires-clause-most_accept : goal.new-requires-clause-most_accept
-new-requires-clause-most_accept c =
-    (accepts c.args.number c.wiring-wiring.ensures c.document-document.ensures.document c.accept.result.now c.accept.ensures (memory-has_delays c.args.number c.requires.source c.requires.known c.requires.memory)).most
-
-pub new-requires-clause-short_accept : goal.new-requires-clause-short_accept
-new-requires-clause-short_accept c =
-    (accepts c.args.number c.wiring-wiring.ensures c.document-document.ensures.document c.accept.result.now c.accept.ensures (memory-has_delays c.args.number c.requires.source c.requires.known c.requires.memory)).short
-
-pub new-requires-clause-some_give : goal.new-requires-clause-some_give
-new-requires-clause-some_give c =
-    (gives c.args.number c.wiring-wiring.ensures c.document-document.ensures.document c.give.result.now c.give.ensures (memory-has_delays c.args.number c.requires.source c.requires.known c.requires.memory)).some
-
-pub new-requires-clause-most_give : goal.new-requires-clause-most_give
-new-requires-clause-most_give c =
-    (gives c.args.number c.wiring-wiring.ensures c.document-document.ensures.document c.give.result.now c.give.ensures (memory-has_delays c.args.number c.requires.source c.requires.known c.requires.memory)).most
-
-pub new-requires-clause-short_give : goal.new-requires-clause-short_give
-new-requires-clause-short_give c =
-    (gives c.args.number c.wiring-wiring.ensures c.document-document.ensures.document c.give.result.now c.give.ensures (memory-has_delays c.args.number c.requires.source c.requires.known c.requires.memory)).short
-
-pub new-requires-clause-touched : goal.new-requires-clause-touched
-new-requires-clause-touched c =
-    subst (AllPairs (λ a b. a < b)) (sym (c.deref-3.ensures.value ∙ c.in_ok-touched.ensures)) (lines-rise c.args.number c.requires.source c.requires.known c.requires.memory)
+pub memory_on-requires-clause-give : goal.memory_on-requires-clause-give
+memory_on-requires-clause-give c = (memory-has_delays c.args.number c.requires.source c.requires.known c.requires.memory).give
 
 pub returns : goal.returns
 returns c =
     ap (as_node AMemory)
     (c.in_ok-boxed.ensures
-    ∙ memory-made c.args.source.now.plan.now c.args.source.now.traffic.now c.args.number
-    (area_of c.memory_config.result c.deref.result.now c.deref-2.result.now) c.accept.result.now c.give.result.now c.link_into-upper.result c.deref-3.result.now c.in_ok-node.node
-    (area-made (node_at c.wiring-wiring.result.now c.document-document.result) (document_node_of c.args.source.now.plan.now c.args.number) c.memory_config.result
-    c.deref.result.now c.deref-2.result.now (own-node c.args.number c.wiring-wiring.ensures c.document-document.ensures.document) c.memory_config.ensures
-    (c.deref.ensures.value ∙ c.in_ok-read_only.ensures ∙ ap (map memory_range) c.read_only.ensures)
-    (c.deref-2.ensures.value ∙ c.in_ok-hole.ensures ∙ ap (map memory_range) c.hole.ensures))
-    (c.accept.ensures ∙ ap (λ (node : DocumentNode). node.accept) (own-node c.args.number c.wiring-wiring.ensures c.document-document.ensures.document))
-    (c.give.ensures ∙ ap (λ (node : DocumentNode). node.give) (own-node c.args.number c.wiring-wiring.ensures c.document-document.ensures.document))
-    c.link_into-upper.ensures (c.deref-3.ensures.value ∙ c.in_ok-touched.ensures) c.in_ok-node.ensures)
+    ∙ bus-named c.args.source.now.plan.now c.args.source.now.traffic.now c.args.number c.bus-bus.result c.in_ok-memory.memory
+    (c.bus-bus.ensures ∙ ap (λ (node : DocumentNode). node.bus) (own-node c.args.number c.wiring.ensures c.document-document.ensures.document)) c.in_ok-memory.ensures)

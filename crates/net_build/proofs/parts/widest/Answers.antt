@@ -1,4 +1,4 @@
-use Rattle.std.proofs.Common.{◌≡◌, ◌∙◌, ℕ, ap, ap₂, arith, get_or, rules, sym}
+use Rattle.std.proofs.Common.{◌≡◌, ◌∙◌, ℕ, ap₂, arith, rules, sym}
 use Rattle.std.specs.Prelude.{max}
 use Rattle.elaborate.specs.Plan.{plan_link_at}
 use Rattle.net_build.proofs.WidestLemmas.{widest-more}

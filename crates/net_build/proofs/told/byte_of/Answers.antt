@@ -10,3 +10,8 @@ pub returns-in-Memory : goal.returns-in-Memory
 returns-in-Memory c =
     c.byte.ensures ∙ ap (λ (m : Acted MemoryState). memory_byte m.state c.args.address) c.deref.ensures
     ∙ ap (λ (n : Node). byte_by (node_view n).state.kind (node_view n).state.state c.args.address) (sym c.in-Memory.is)
+
+pub returns-in-LiteMemory : goal.returns-in-LiteMemory
+returns-in-LiteMemory c =
+    c.byte-in-LiteMemory.ensures ∙ ap (λ (m : Acted MemoryState). memory_byte m.state c.args.address) c.deref-in-LiteMemory.ensures
+    ∙ ap (λ (n : Node). byte_by (node_view n).state.kind (node_view n).state.state c.args.address) (sym c.in-LiteMemory.is)

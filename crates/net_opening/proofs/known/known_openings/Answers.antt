@@ -12,4 +12,5 @@ returns c = record {
   touched = refl;
   touched_nowhere = refl;
   nodes = refl;
+  lite_bus = refl;
 }

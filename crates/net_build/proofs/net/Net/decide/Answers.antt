@@ -1,4 +1,4 @@
-use Rattle.std.proofs.Common.{◌≡◌, ◌<◌, ◌-◌, ◌^◌, ◌∙◌, ℕ, ap, arith, false, subst, sym}
+use Rattle.std.proofs.Common.{◌≡◌, ◌<◌, ◌∙◌, ap, arith, false, subst, sym}
 use Rattle.net_build.proofs.NetLemmas.{can-decide, stands-decided}
 use Rattle.net_build.proofs.net.Net.decide.Goals as goal
 use Rattle.net_build.specs.NetRun.{NetRun}
