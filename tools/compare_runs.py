@@ -5,7 +5,7 @@
 
 OTHER is a program with the same words and texts; PROGRAM is the one that is built in this tree,
 where none is named. A third of the COUNT documents are good and bad traffic on the smallest network,
-the others random networks of managers, slices, muxes, demuxes, crossbars, remappers, up converters and memories, with
+the others random networks of all kinds that `random_networks` makes, with
 legal traffic, some of them with something wrong in the topology. The status and the text of `run` and
 of `plan` are compared, and for a third those of `run --trace=all`. It prints how many inputs OTHER accepts, how
 many it refuses for which cause, and how many calls agreed, and ends with 1 where any differs. Without

@@ -1,7 +1,8 @@
 """Random documents for the scripts that compare axinet with another simulator.
 
 `one_memory` is the text of the smallest network; `network` makes a random one of managers, slices, muxes, demuxes,
-crossbars, remappers, up converters and memories; `traffic` makes legal traffic on it; `spoilt` makes a topology that is mostly refused.
+crossbars, remappers, up converters, Lite bridges, memories and Lite memories; `traffic` makes legal traffic on it; `spoilt`
+makes a topology that is mostly refused.
 """
 import collections
 
@@ -121,6 +122,23 @@ def buses_of(r, names):
     return dict(zip(names, sorted(r.choice(BUSES) for _ in names)))
 
 
+def bridged(r, nodes):
+    """The nodes with some memories as Lite memories, each below a bridge, and at times a slice between them."""
+    for name, node in list(nodes.items()):
+        if node.kind != 'memory' or node.keys['bus'] > 8 or r.random() < 0.6:
+            continue
+        bridge = 'l%d' % len(nodes)
+        for upper, above in list(nodes.items()):
+            nodes[upper] = redirected(above, name, bridge)
+        below = name
+        if r.random() < 0.2:
+            below = 's' + bridge
+            nodes[below] = Node('slice', [name], deep(r, {}))
+        nodes[bridge] = Node('lite', [below], deep(r, {}))
+        nodes[name] = Node('lite_memory', [], {key: value for key, value in node.keys.items() if key != 'bus'})
+    return nodes
+
+
 def network(r):
     """A network of all these kinds, in which links lead from managers to memories, and from no bus to a narrower one."""
     bases = [2 * PAGE * place for place in range(r.randint(1, 4))]
@@ -135,7 +153,7 @@ def network(r):
         nodes[name] = between(r, names[place + 1:] + memories, bases)
     for name, base in zip(memories, bases):
         nodes[name] = memory(r, buses[name], base)
-    return Network(joined(widened(r, nodes, buses)), bases)
+    return Network(bridged(r, joined(widened(r, nodes, buses))), bases)
 
 
 # The text of a topology.
